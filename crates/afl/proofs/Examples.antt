@@ -6,21 +6,21 @@ use mathlib.Core.List.{[], _∷_, map}
 use Rattle.basics.specs.Choice.{if, both, every}
 use Rattle.afl.specs.declared.RecordFound.the-variants.{At}
 use Rattle.afl.specs.Entry.{validEntry}
-use Rattle.afl.specs.Records.{aflEntries, wholeEntries, consecutiveRecords, entriesRecords, sumOverEntries, aflRecords, acceptsAfl, nthRecord, kthRecord, aflRecordAt}
+use Rattle.afl.specs.Records.{aflEntries, aflLengthIsMultipleOf4, consecutiveRecords, recordsOfEntries, sumOverEntries, aflRecords, acceptsAfl, recordAtIndex, kthRecordFromOne, kthRecordOfAcceptedAfl}
 
 -- entry by entry, from first to last
 two-entries : aflRecords (0x08 ∷ 1 ∷ 2 ∷ 1 ∷ 0x10 ∷ 3 ∷ 3 ∷ 0 ∷ [])
     ≡ record { sfi = 1; number = 1 } ∷ record { sfi = 1; number = 2 } ∷ record { sfi = 2; number = 3 } ∷ []
-unfolding aflEntries entriesRecords consecutiveRecords
+unfolding aflEntries recordsOfEntries consecutiveRecords
 two-entries = refl
 
-third : aflRecordAt (0x08 ∷ 1 ∷ 2 ∷ 1 ∷ 0x10 ∷ 3 ∷ 3 ∷ 0 ∷ []) 3 ≡ At (record { sfi = 2; number = 3 })
-unfolding aflRecordAt kthRecord nthRecord acceptsAfl wholeEntries aflEntries every validEntry both if entriesRecords sumOverEntries consecutiveRecords
+third : kthRecordOfAcceptedAfl (0x08 ∷ 1 ∷ 2 ∷ 1 ∷ 0x10 ∷ 3 ∷ 3 ∷ 0 ∷ []) 3 ≡ At (record { sfi = 2; number = 3 })
+unfolding kthRecordOfAcceptedAfl kthRecordFromOne recordAtIndex acceptsAfl aflLengthIsMultipleOf4 aflEntries every validEntry both if recordsOfEntries sumOverEntries consecutiveRecords
 third = refl
 
 -- 128 records, all of them for offline authentication; file 30; two entries of 64 records
 inside : map acceptsAfl ((0x08 ∷ 1 ∷ 128 ∷ 128 ∷ []) ∷ (0xF0 ∷ 255 ∷ 255 ∷ 1 ∷ []) ∷ (0x08 ∷ 1 ∷ 64 ∷ 0 ∷ 0x10 ∷ 1 ∷ 64 ∷ 0 ∷ []) ∷ []) ≡ true ∷ true ∷ true ∷ []
-unfolding acceptsAfl wholeEntries aflEntries every validEntry both sumOverEntries
+unfolding acceptsAfl aflLengthIsMultipleOf4 aflEntries every validEntry both sumOverEntries
 inside = refl
 
 -- 129 records; file 0; file 31; a low bit of byte 1; first record 0; last below first; byte 4 one too many; no
@@ -37,5 +37,5 @@ outside : map acceptsAfl
     ∷ (0x08 ∷ 1 ∷ 1 ∷ 0 ∷ 0 ∷ [])
     ∷ [])
     ≡ false ∷ false ∷ false ∷ false ∷ false ∷ false ∷ false ∷ false ∷ false ∷ []
-unfolding acceptsAfl wholeEntries aflEntries every validEntry both sumOverEntries
+unfolding acceptsAfl aflLengthIsMultipleOf4 aflEntries every validEntry both sumOverEntries
 outside = refl

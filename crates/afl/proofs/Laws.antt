@@ -11,7 +11,7 @@ use lib.Dec.{leb}
 use lib.ListN.{length, getD, take, drop, length-drop}
 use borrow.Author.Tests.{leb-true, leb-false, eqb-true, le-leb, lt-leb, lt-ltb, le-ltb, eq-eqb}
 use Rattle.basics.specs.Choice.{every}
-use Rattle.basics.specs.Reason.{reasonAfl, unless}
+use Rattle.basics.specs.Reason.{reasonAflInvalid, reasonUnless}
 use Rattle.basics.proofs.Laws.{if-yes, if-no, bool-cases, both-yes, both-left, both-right, both-no-left, both-no-right}
 use Rattle.afl.specs.declared.AflCheck.{AflCheck}
 use Rattle.afl.specs.declared.AflCheck.the-variants.{Accepted, Rejected}
@@ -20,7 +20,7 @@ use Rattle.afl.specs.declared.AflEntry.{AflEntry}
 use Rattle.afl.specs.declared.RecordFound.the-variants.{At, Nothing}
 use Rattle.afl.specs.declared.CardRecord.{CardRecord}
 use Rattle.afl.specs.Entry.{entrySfi, entryRecordCount, validEntry}
-use Rattle.afl.specs.Records.{aflEntries, wholeEntries, sumOverEntries, aflRecords, aflRecordCount, acceptsAfl, aflChecked, aflReason, nthRecord, kthRecord, aflRecordAt}
+use Rattle.afl.specs.Records.{aflEntries, aflLengthIsMultipleOf4, sumOverEntries, aflRecords, aflRecordCount, acceptsAfl, aflChecked, aflReason, recordAtIndex, kthRecordFromOne, kthRecordOfAcceptedAfl}
 use Rattle.afl.proofs.Records.{entries-short, whole-length, records-length, records-all, last-bytes, nth-split, nth-take, nth-inside, nth-there, nth-none, not-at}
 
 -- ---- an entry
@@ -70,7 +70,7 @@ sum-kept (e ∷ x) t = let c = count-kept e (both-left _ _ t) .0 in rw (c, sum-k
 -- ---- an accepted AFL
 
 module _ (s : List ℕ) (a : acceptsAfl s ≡ true) where
-  pub accepted-whole : wholeEntries s ≡ true
+  pub accepted-whole : aflLengthIsMultipleOf4 s ≡ true
   unfolding acceptsAfl
   accepted-whole = both-left _ _ a
 
@@ -122,7 +122,7 @@ is-rejected s e =
     ]
 
 -- the reason is that of the AFL's rules, unless it is accepted
-pub checked-number : (s : List ℕ) → aflReason (aflChecked s) ≡ unless (acceptsAfl s) reasonAfl
+pub checked-number : (s : List ℕ) → aflReason (aflChecked s) ≡ reasonUnless (acceptsAfl s) reasonAflInvalid
 checked-number s =
     elim (bool-cases (acceptsAfl s)) [
       | inl y ↦ ap aflReason (checked-yes s y) ∙ sym (if-yes _ _ y)
@@ -130,46 +130,46 @@ checked-number s =
     ]
 
 -- what a check states of its answer
-pub checked-says : (s : List ℕ) (r : AflCheck) → aflChecked s ≡ r → (r ≡ aflChecked s) × (aflReason r ≡ unless (acceptsAfl s) reasonAfl)
+pub checked-says : (s : List ℕ) (r : AflCheck) → aflChecked s ≡ r → (r ≡ aflChecked s) × (aflReason r ≡ reasonUnless (acceptsAfl s) reasonAflInvalid)
 checked-says s r e = (sym e, ap aflReason (sym e) ∙ checked-number s)
 
 -- ---- the k-th record
 
 -- from 1 on, the k-th record is at place k - 1
-pub kth-nth : (k : ℕ) (l : List CardRecord) → 1 ≤ k → kthRecord k l ≡ nthRecord (k - 1) l
-unfolding kthRecord
+pub kth-nth : (k : ℕ) (l : List CardRecord) → 1 ≤ k → kthRecordFromOne k l ≡ recordAtIndex (k - 1) l
+unfolding kthRecordFromOne
 kth-nth zero l h = absurd (omega arith)
 kth-nth (suc i) l h = let e : suc i - 1 ≡ i = omega arith in rw e
 
-pub kth-zero : (k : ℕ) (l : List CardRecord) → k ≡ 0 → kthRecord k l ≡ Nothing
-unfolding kthRecord
+pub kth-zero : (k : ℕ) (l : List CardRecord) → k ≡ 0 → kthRecordFromOne k l ≡ Nothing
+unfolding kthRecordFromOne
 kth-zero k l e = rw e
 
 -- the k-th record of an accepted AFL is that of its records; no other AFL has one
-pub record-yes : (s : List ℕ) (k : ℕ) → acceptsAfl s ≡ true → aflRecordAt s k ≡ kthRecord k (aflRecords s)
-unfolding aflRecordAt
+pub record-yes : (s : List ℕ) (k : ℕ) → acceptsAfl s ≡ true → kthRecordOfAcceptedAfl s k ≡ kthRecordFromOne k (aflRecords s)
+unfolding kthRecordOfAcceptedAfl
 record-yes s k a = if-yes _ _ a
 
-pub record-no : (s : List ℕ) (k : ℕ) → acceptsAfl s ≡ false → aflRecordAt s k ≡ Nothing
-unfolding aflRecordAt
+pub record-no : (s : List ℕ) (k : ℕ) → acceptsAfl s ≡ false → kthRecordOfAcceptedAfl s k ≡ Nothing
+unfolding kthRecordOfAcceptedAfl
 record-no s k a = if-no _ _ a
 
 -- every k from 1 to R has its record, and no other k
-pub record-there : (s : List ℕ) (k : ℕ) (d : CardRecord) → acceptsAfl s ≡ true → 1 ≤ k → k ≤ aflRecordCount s → aflRecordAt s k ≡ At (getD (aflRecords s) (k - 1) d)
+pub record-there : (s : List ℕ) (k : ℕ) (d : CardRecord) → acceptsAfl s ≡ true → 1 ≤ k → k ≤ aflRecordCount s → kthRecordOfAcceptedAfl s k ≡ At (getD (aflRecords s) (k - 1) d)
 record-there s k d a lo hi = record-yes s k a ∙ kth-nth k (aflRecords s) lo ∙ nth-there (k - 1) (aflRecords s) d (omega (arith, records-length s))
 
-pub record-zero : (s : List ℕ) → aflRecordAt s 0 ≡ Nothing
+pub record-zero : (s : List ℕ) → kthRecordOfAcceptedAfl s 0 ≡ Nothing
 record-zero s =
     elim (bool-cases (acceptsAfl s)) [ inl y ↦ record-yes s 0 y ∙ kth-zero 0 (aflRecords s) refl | inr n ↦ record-no s 0 n ]
 
-pub record-past : (s : List ℕ) (k : ℕ) → aflRecordCount s < k → aflRecordAt s k ≡ Nothing
+pub record-past : (s : List ℕ) (k : ℕ) → aflRecordCount s < k → kthRecordOfAcceptedAfl s k ≡ Nothing
 record-past s k h =
     elim (bool-cases (acceptsAfl s)) [
       | inl y ↦ record-yes s k y ∙ kth-nth k (aflRecords s) (omega arith) ∙ nth-none (k - 1) (aflRecords s) (omega (arith, records-length s))
       | inr n ↦ record-no s k n
     ]
 
-module _ (s : List ℕ) (k : ℕ) (r : CardRecord) (e : aflRecordAt s k ≡ At r) where
+module _ (s : List ℕ) (k : ℕ) (r : CardRecord) (e : kthRecordOfAcceptedAfl s k ≡ At r) where
   pub record-accepted : acceptsAfl s ≡ true
   record-accepted =
       elim (bool-cases (acceptsAfl s)) [
@@ -184,7 +184,7 @@ module _ (s : List ℕ) (k : ℕ) (r : CardRecord) (e : aflRecordAt s k ≡ At r
         | inr n ↦ (let h = leb-false 1 k n in not-at e (record-yes s k record-accepted ∙ kth-zero k (aflRecords s) (omega arith)))
       ]
 
-  record-nth : nthRecord (k - 1) (aflRecords s) ≡ At r
+  record-nth : recordAtIndex (k - 1) (aflRecords s) ≡ At r
   record-nth = sym (record-yes s k record-accepted ∙ kth-nth k (aflRecords s) record-from) ∙ e
 
   pub record-inside : (1 ≤ k) × (k ≤ aflRecordCount s)

@@ -16,9 +16,9 @@ use Rattle.afl.specs.declared.AflCheck.{AflCheck}
 use Rattle.afl.specs.declared.AflCheck.the-variants.{Accepted, Rejected}
 use Rattle.afl.specs.declared.RecordFound.the-variants.{At, Nothing}
 use Rattle.afl.specs.declared.AflEntry.{AflEntry}
-use Rattle.afl.specs.Entry.{firstEntry, entrySfi, entryRecordCount, validEntry}
+use Rattle.afl.specs.Entry.{firstAflEntry, entrySfi, entryRecordCount, validEntry}
 use Rattle.basics.specs.Number.{between}
-use Rattle.afl.specs.Records.{aflEntries, wholeEntries, entryRecords, entriesRecords, sumOverEntries, aflRecords, aflRecordCount, acceptsAfl, aflChecked, nthRecord}
+use Rattle.afl.specs.Records.{aflEntries, aflLengthIsMultipleOf4, entryRecords, recordsOfEntries, sumOverEntries, aflRecords, aflRecordCount, acceptsAfl, aflChecked, recordAtIndex}
 use Rattle.afl.proofs.Records.{entries-front, entries-short, whole-front, whole-of, part-of, total-front, records-front, nth-named, nth-beyond}
 
 -- the bytes after the first entry, as `&s[4..]` makes them
@@ -39,13 +39,13 @@ verdict w k n = if (both w (both k (between 1 n 128))) (Accepted (record { recor
 
 -- what a check reports of the bytes s, where entries with n records stood before them
 unfoldable pub onwards : ℕ → List ℕ → AflCheck
-onwards n s = verdict (wholeEntries s) (every validEntry (aflEntries s)) (n + aflRecordCount s)
+onwards n s = verdict (aflLengthIsMultipleOf4 s) (every validEntry (aflEntries s)) (n + aflRecordCount s)
 
 pub check-start : (s : List ℕ) → aflChecked s ≡ onwards 0 s
 unfolding aflChecked acceptsAfl onwards
 check-start s = rw zero-add
 
-module _ (n : ℕ) (s : List ℕ) (h : 4 ≤ length s) (e : AflEntry) (p : e ≡ firstEntry s) where
+module _ (n : ℕ) (s : List ℕ) (h : 4 ≤ length s) (e : AflEntry) (p : e ≡ firstAflEntry s) where
   every-front : every validEntry (aflEntries s) ≡ both (validEntry e) (every validEntry (aflEntries (drop 4 s)))
   unfolding every
   every-front = rw p (ap (every validEntry) (entries-front s h))
@@ -82,16 +82,16 @@ check-all n s e lo hi =
 
 -- ---- a search for the record at a place
 
-module _ (i : ℕ) (s : List ℕ) (h : 4 ≤ length s) (e : AflEntry) (p : e ≡ firstEntry s) (n : ℕ) (c : n ≡ entryRecordCount e) where
+module _ (i : ℕ) (s : List ℕ) (h : 4 ≤ length s) (e : AflEntry) (p : e ≡ firstAflEntry s) (n : ℕ) (c : n ≡ entryRecordCount e) where
   records-at : aflRecords s ≡ entryRecords e ++ aflRecords (drop 4 s)
   records-at = records-front s h ∙ ap (λ (x : AflEntry). entryRecords x ++ aflRecords (drop 4 s)) (sym p)
 
-  pub seek-here : i < n → nthRecord i (aflRecords s) ≡ At (record { sfi = entrySfi e; number = e .first + i })
+  pub seek-here : i < n → recordAtIndex i (aflRecords s) ≡ At (record { sfi = entrySfi e; number = e .first + i })
   seek-here f = rw records-at (nth-named e (aflRecords (drop 4 s)) i (omega arith))
 
-  pub seek-past : n ≤ i → nthRecord i (aflRecords s) ≡ nthRecord (i - n) (aflRecords (tail s))
+  pub seek-past : n ≤ i → recordAtIndex i (aflRecords s) ≡ recordAtIndex (i - n) (aflRecords (tail s))
   seek-past f = rw (tail-is s, records-at, c) (nth-beyond e (aflRecords (drop 4 s)) i (omega arith))
 
-pub seek-end : (i : ℕ) (s : List ℕ) → length s < 4 → nthRecord i (aflRecords s) ≡ Nothing
-unfolding nthRecord entriesRecords
+pub seek-end : (i : ℕ) (s : List ℕ) → length s < 4 → recordAtIndex i (aflRecords s) ≡ Nothing
+unfolding recordAtIndex recordsOfEntries
 seek-end i s h = rw (entries-short s h)

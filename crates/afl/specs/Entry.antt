@@ -14,8 +14,8 @@ abbrev pub aflEntry : Byte → Byte → Byte → Byte → AflEntry
 aflEntry a b c d = record { lead = a; first = b; last = c; offline = d }
 
 -- the entry in the first four of some bytes
-abbrev pub firstEntry : AflBytes → AflEntry
-firstEntry s = aflEntry (getD s 0 0) (getD s 1 0) (getD s 2 0) (getD s 3 0)
+abbrev pub firstAflEntry : AflBytes → AflEntry
+firstAflEntry s = aflEntry (getD s 0 0) (getD s 1 0) (getD s 2 0) (getD s 3 0)
 
 -- the file number: the top five bits of byte 1
 abbrev pub entrySfi : AflEntry → SfiNumber

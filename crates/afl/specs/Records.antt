@@ -7,7 +7,7 @@ use Prim.Native.Nat.{ℕ, zero, suc, _+_, _%_}
 use lib.ListN.{length}
 use Rattle.basics.specs.Types.{AflBytes, Count, Reason, RecordNumber, SfiNumber}
 use Rattle.basics.specs.Choice.{if_then_else_, _and_, _=?_, every}
-use Rattle.basics.specs.Reason.{reasonNone, reasonAfl}
+use Rattle.basics.specs.Reason.{reasonNone, reasonAflInvalid}
 use Rattle.afl.specs.declared.AflEntry.{AflEntry}
 use Rattle.afl.specs.declared.CardRecord.{CardRecord}
 use Rattle.afl.specs.declared.AflCheck.{AflCheck}
@@ -26,8 +26,8 @@ aflEntries (a ∷ b ∷ c ∷ []) = []
 aflEntries (a ∷ b ∷ c ∷ d ∷ rest) = aflEntry a b c d ∷ aflEntries rest
 
 -- the bytes are whole entries
-unfoldable pub wholeEntries : AflBytes → Bool
-wholeEntries s = length s % 4 =? 0
+unfoldable pub aflLengthIsMultipleOf4 : AflBytes → Bool
+aflLengthIsMultipleOf4 s = length s % 4 =? 0
 
 -- n records of one file, numbered upwards from a first number
 unfoldable pub consecutiveRecords : SfiNumber → RecordNumber → Count → List CardRecord
@@ -39,9 +39,9 @@ abbrev pub entryRecords : AflEntry → List CardRecord
 entryRecords e = consecutiveRecords (entrySfi e) (e .first) (entryRecordCount e)
 
 -- the records of entries, entry by entry
-unfoldable pub entriesRecords : List AflEntry → List CardRecord
-entriesRecords [] = []
-entriesRecords (e ∷ es) = entryRecords e ++ entriesRecords es
+unfoldable pub recordsOfEntries : List AflEntry → List CardRecord
+recordsOfEntries [] = []
+recordsOfEntries (e ∷ es) = entryRecords e ++ recordsOfEntries es
 
 -- the sum of a number over entries
 unfoldable pub sumOverEntries : (AflEntry → ℕ) → List AflEntry → ℕ
@@ -50,7 +50,7 @@ sumOverEntries f (e ∷ es) = f e + sumOverEntries f es
 
 -- the records that an AFL names, in the published order
 abbrev pub aflRecords : AflBytes → List CardRecord
-aflRecords s = entriesRecords (aflEntries s)
+aflRecords s = recordsOfEntries (aflEntries s)
 
 -- R, how many records an AFL names: the sum of last - first + 1
 abbrev pub aflRecordCount : AflBytes → Count
@@ -58,7 +58,7 @@ aflRecordCount s = sumOverEntries entryRecordCount (aflEntries s)
 
 -- an AFL is accepted (document 01's accepted locator): whole entries, each satisfies the rules, 1 to 128 records in all
 unfoldable pub acceptsAfl : AflBytes → Bool
-acceptsAfl s = wholeEntries s and every validEntry (aflEntries s) and between 1 (aflRecordCount s) 128
+acceptsAfl s = aflLengthIsMultipleOf4 s and every validEntry (aflEntries s) and between 1 (aflRecordCount s) 128
 
 -- what a check of an AFL reports: R if it is accepted
 unfoldable pub aflChecked : AflBytes → AflCheck
@@ -68,19 +68,19 @@ aflChecked s = if acceptsAfl s then Accepted (record { records = aflRecordCount 
 -- that breaks its rules
 abbrev pub aflReason : AflCheck → Reason
 aflReason (Accepted e) = reasonNone
-aflReason Rejected = reasonAfl
+aflReason Rejected = reasonAflInvalid
 
 -- the record at a place of a list, places counted from 0
-unfoldable pub nthRecord : ℕ → List CardRecord → RecordFound
-nthRecord i [] = Nothing
-nthRecord zero (r ∷ l) = At r
-nthRecord (suc i) (r ∷ l) = nthRecord i l
+unfoldable pub recordAtIndex : ℕ → List CardRecord → RecordFound
+recordAtIndex i [] = Nothing
+recordAtIndex zero (r ∷ l) = At r
+recordAtIndex (suc i) (r ∷ l) = recordAtIndex i l
 
 -- the k-th record of a list, k from 1
-unfoldable pub kthRecord : RecordNumber → List CardRecord → RecordFound
-kthRecord zero l = Nothing
-kthRecord (suc i) l = nthRecord i l
+unfoldable pub kthRecordFromOne : RecordNumber → List CardRecord → RecordFound
+kthRecordFromOne zero l = Nothing
+kthRecordFromOne (suc i) l = recordAtIndex i l
 
 -- the k-th record of an accepted AFL, k from 1 to R
-unfoldable pub aflRecordAt : AflBytes → RecordNumber → RecordFound
-aflRecordAt s k = if acceptsAfl s then kthRecord k (aflRecords s) else Nothing
+unfoldable pub kthRecordOfAcceptedAfl : AflBytes → RecordNumber → RecordFound
+kthRecordOfAcceptedAfl s k = if acceptsAfl s then kthRecordFromOne k (aflRecords s) else Nothing

@@ -1,11 +1,11 @@
 // The AFL (94) that a card returns in its answer to GPO: whether it satisfies the rules and how many records it names
-// (`check_afl`), and the k-th of them (`record_at`, k from 1). An AFL comes in as plain bytes of any length and contents.
+// (`check_afl`), and the k-th of them (`kth_record_of_accepted_afl`, k from 1). An AFL comes in as plain bytes of any length and contents.
 ghost use mathlib.Core.Path.{_≡_};
 ghost use Prim.Native.Nat.{_≤_};
 ghost use lib.ListN.{length};
-ghost use Rattle.basics.specs.Reason.{reasonAfl, unless};
-ghost use Rattle.afl.specs.Entry.{firstEntry, entryRecordCount, validEntry as keepsRules};
-ghost use Rattle.afl.specs.Records.{aflRecords as recordsIn, acceptsAfl, aflChecked, aflReason, nthRecord, aflRecordAt};
+ghost use Rattle.basics.specs.Reason.{reasonAflInvalid, reasonUnless};
+ghost use Rattle.afl.specs.Entry.{firstAflEntry, entryRecordCount, validEntry as keepsRules};
+ghost use Rattle.afl.specs.Records.{aflRecords as recordsIn, acceptsAfl, aflChecked, aflReason, recordAtIndex, kthRecordOfAcceptedAfl};
 
 // A record of a card: the file that it is in and its number there.
 pub struct CardRecord {
@@ -40,7 +40,7 @@ pub enum RecordFound {
 // Whether an AFL satisfies the rules, and how many records it names.
 pub fn check_afl(afl: &[u8]) -> AflCheck
     ensures said { λ r. ⌜ r ≡ aflChecked (now (afl .entry)) ⌝ }
-    ensures reason { λ r. ⌜ aflReason r ≡ unless (acceptsAfl (now (afl .entry))) reasonAfl ⌝ }
+    ensures reason { λ r. ⌜ aflReason r ≡ reasonUnless (acceptsAfl (now (afl .entry))) reasonAflInvalid ⌝ }
 {
     let mut rest = afl;
     let mut total: usize = 0;
@@ -65,8 +65,8 @@ pub fn check_afl(afl: &[u8]) -> AflCheck
 }
 
 // The k-th record of an accepted AFL, k from 1; nothing for any other k or AFL.
-pub fn record_at(afl: &[u8], k: usize) -> RecordFound
-    ensures { λ r. ⌜ r ≡ aflRecordAt (now (afl .entry)) k ⌝ }
+pub fn kth_record_of_accepted_afl(afl: &[u8], k: usize) -> RecordFound
+    ensures { λ r. ⌜ r ≡ kthRecordOfAcceptedAfl (now (afl .entry)) k ⌝ }
 {
     let c = check_afl(afl);
     let AflCheck::Accepted(_) = c else {
@@ -81,7 +81,7 @@ pub fn record_at(afl: &[u8], k: usize) -> RecordFound
 // The entry at the front of the bytes.
 fn front(s: &[u8]) -> AflEntry
     requires { ⌜ 4 ≤ length (now s) ⌝ }
-    ensures { λ r. ⌜ r ≡ firstEntry (now (s .entry)) ⌝ }
+    ensures { λ r. ⌜ r ≡ firstAflEntry (now (s .entry)) ⌝ }
 {
     AflEntry {
         lead: s[0],
@@ -131,7 +131,7 @@ fn is_valid_entry(e: AflEntry) -> bool
 
 // The record at a place among those that the bytes name, places counted from 0.
 fn seek(afl: &[u8], place: usize) -> RecordFound
-    ensures { λ r. ⌜ r ≡ nthRecord place (recordsIn (now (afl .entry))) ⌝ }
+    ensures { λ r. ⌜ r ≡ recordAtIndex place (recordsIn (now (afl .entry))) ⌝ }
 {
     let mut rest = afl;
     let mut left = place;

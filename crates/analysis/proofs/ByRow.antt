@@ -7,28 +7,28 @@ use Prim.Native.Nat.{ℕ}
 use lib.ListN.{getD}
 use Rattle.dictionary.specs.Rows.{dictionaryRows, findRow}
 use Rattle.dictionary.specs.declared.RowFound.the-variants.{At}
-use Rattle.store.specs.Place.{StoredValue, absent, present, bytesOfValue, isPresent, rowValue, objectValue}
+use Rattle.store.specs.Place.{StoredValue, absent, present, bytesOrEmptyIfAbsent, isPresent, rowValue, objectValue}
 use Rattle.store.proofs.Laws.{by-row}
 use Rattle.store.specs.Held.{hasObject, storedBytes, storedByte}
-use Rattle.analysis.specs.Value.{valueIf}
+use Rattle.analysis.specs.Value.{storedValueIf}
 
 -- a value is its flag and its bytes
-pub flag-bytes : {f : Bool} {s : List ℕ} (v : StoredValue) → f ≡ isPresent v → s ≡ bytesOfValue v → valueIf f s ≡ v
-flag-bytes v e g = ap₂ valueIf e g ∙ whole v
+pub flag-bytes : {f : Bool} {s : List ℕ} (v : StoredValue) → f ≡ isPresent v → s ≡ bytesOrEmptyIfAbsent v → storedValueIf f s ≡ v
+flag-bytes v e g = ap₂ storedValueIf e g ∙ whole v
   where
-    whole : (w : StoredValue) → valueIf (isPresent w) (bytesOfValue w) ≡ w
+    whole : (w : StoredValue) → storedValueIf (isPresent w) (bytesOrEmptyIfAbsent w) ≡ w
     whole absent = refl
     whole (present s) = refl
 
 module _ (b : List ℕ) (t : ℕ) {k : ℕ} (at : findRow dictionaryRows t ≡ At k) where
-  pub value-by-row : {f : Bool} {s : List ℕ} → f ≡ isPresent (rowValue dictionaryRows b k) → s ≡ bytesOfValue (rowValue dictionaryRows b k) → valueIf f s ≡ objectValue b t
+  pub value-by-row : {f : Bool} {s : List ℕ} → f ≡ isPresent (rowValue dictionaryRows b k) → s ≡ bytesOrEmptyIfAbsent (rowValue dictionaryRows b k) → storedValueIf f s ≡ objectValue b t
   value-by-row e g = flag-bytes (rowValue dictionaryRows b k) e g ∙ sym (by-row dictionaryRows b t k at)
 
-  pub bytes-by-row : {s : List ℕ} → s ≡ bytesOfValue (rowValue dictionaryRows b k) → s ≡ storedBytes b t
-  bytes-by-row e = e ∙ ap bytesOfValue (sym (by-row dictionaryRows b t k at))
+  pub bytes-by-row : {s : List ℕ} → s ≡ bytesOrEmptyIfAbsent (rowValue dictionaryRows b k) → s ≡ storedBytes b t
+  bytes-by-row e = e ∙ ap bytesOrEmptyIfAbsent (sym (by-row dictionaryRows b t k at))
 
   pub there-by-row : {f : Bool} → f ≡ isPresent (rowValue dictionaryRows b k) → f ≡ hasObject b t
   there-by-row e = e ∙ ap isPresent (sym (by-row dictionaryRows b t k at))
 
-  pub byte-by-row : {x : ℕ} → x ≡ getD (bytesOfValue (rowValue dictionaryRows b k)) 0 0 → x ≡ storedByte b t 1
-  byte-by-row e = e ∙ ap (λ (v : StoredValue). getD (bytesOfValue v) 0 0) (sym (by-row dictionaryRows b t k at))
+  pub byte-by-row : {x : ℕ} → x ≡ getD (bytesOrEmptyIfAbsent (rowValue dictionaryRows b k)) 0 0 → x ≡ storedByte b t 1
+  byte-by-row e = e ∙ ap (λ (v : StoredValue). getD (bytesOrEmptyIfAbsent v) 0 0) (sym (by-row dictionaryRows b t k at))

@@ -6,10 +6,10 @@ use mathlib.Core.List.{List, [], _∷_, _++_, map}
 use Prim.Native.Nat.{ℕ}
 use lib.ListN.{replicate}
 use Rattle.basics.specs.Choice.{if, both, either}
-use Rattle.basics.specs.Number.{bigEndianFrom}
+use Rattle.basics.specs.Number.{appendBigEndianBytes}
 use Rattle.store.specs.Place.{absent, present}
-use Rattle.analysis.specs.Value.{firstBytes}
-use Rattle.analysis.specs.Cvm.{cvmRulesFrom, cvmAmountX, cvmAmountY, cvmRecognised, cvmSupported, cvmConditionMet, cvmSuccessful, cvmUnsuccessful, byCvmRules, cvmNumber, cvmProcessing}
+use Rattle.analysis.specs.Value.{firstBytesZeroPadded}
+use Rattle.analysis.specs.Cvm.{cvmRulesFromPairs, cvmAmountX, cvmAmountY, cvmRecognised, cvmSupported, cvmConditionMet, cvmResultOfSupported, cvmResultOfUnsuccessful, cvmResultByRules, cvmNumber, cvmProcessing}
 use Rattle.analysis.specs.declared.cvm.CvmConditions.{CvmConditions}
 use Rattle.analysis.specs.declared.cvm.CvmResult.{CvmResult}
 
@@ -54,7 +54,7 @@ not-asked :
     ∷ (0x3F ∷ 0x00 ∷ 0x00 ∷ 0x20 ∷ 0x00 ∷ 0x00 ∷ [])
     ∷ (0x3F ∷ 0x00 ∷ 0x00 ∷ 0x20 ∷ 0x00 ∷ 0x00 ∷ [])
     ∷ []
-unfolding shown cvmProcessing byCvmRules cvmRulesFrom cvmConditionMet cvmSupported cvmRecognised cvmSuccessful cvmUnsuccessful if both either firstBytes bigEndianFrom
+unfolding shown cvmProcessing cvmResultByRules cvmRulesFromPairs cvmConditionMet cvmSupported cvmRecognised cvmResultOfSupported cvmResultOfUnsuccessful if both either firstBytesZeroPadded appendBigEndianBytes
 not-asked = refl
 
 -- online PIN, else signature, else no CVM, each where it is supported
@@ -69,7 +69,7 @@ by-support :
     ∷ (0x1F ∷ 0x03 ∷ 0x02 ∷ 0x00 ∷ 0x00 ∷ 0x00 ∷ [])
     ∷ (0x3F ∷ 0x00 ∷ 0x01 ∷ 0x00 ∷ 0x80 ∷ 0x00 ∷ [])
     ∷ []
-unfolding shown cvmProcessing byCvmRules cvmRulesFrom cvmConditionMet cvmSupported cvmRecognised cvmSuccessful cvmUnsuccessful if both either firstBytes bigEndianFrom
+unfolding shown cvmProcessing cvmResultByRules cvmRulesFromPairs cvmConditionMet cvmSupported cvmRecognised cvmResultOfSupported cvmResultOfUnsuccessful if both either firstBytesZeroPadded appendBigEndianBytes
 by-support = refl
 
 -- amounts equal to X and Y are neither under nor over; fail keeps its code and condition; one under and one over; X and
@@ -93,7 +93,7 @@ by-amount :
     ∷ (0x5E ∷ 0x06 ∷ 0x00 ∷ 0x00 ∷ 0x00 ∷ 0x01 ∷ [])
     ∷ (0x5E ∷ 0x09 ∷ 0x00 ∷ 0x00 ∷ 0x00 ∷ 0x01 ∷ [])
     ∷ []
-unfolding shown cvmProcessing byCvmRules cvmRulesFrom cvmConditionMet cvmSupported cvmRecognised cvmSuccessful cvmUnsuccessful if both either firstBytes bigEndianFrom
+unfolding shown cvmProcessing cvmResultByRules cvmRulesFromPairs cvmConditionMet cvmSupported cvmRecognised cvmResultOfSupported cvmResultOfUnsuccessful if both either firstBytesZeroPadded appendBigEndianBytes
 by-amount = refl
 
 -- an unrecognised CVM: the next rule where b7 indicates so, and the bit stays; none where b7 is clear or no rule is
@@ -117,7 +117,7 @@ unrecognised :
     ∷ (0x1F ∷ 0x03 ∷ 0x02 ∷ 0x00 ∷ 0x40 ∷ 0x00 ∷ [])
     ∷ (0x3F ∷ 0x00 ∷ 0x01 ∷ 0x00 ∷ 0xC0 ∷ 0x00 ∷ [])
     ∷ []
-unfolding shown cvmProcessing byCvmRules cvmRulesFrom cvmConditionMet cvmSupported cvmRecognised cvmSuccessful cvmUnsuccessful if both either firstBytes bigEndianFrom
+unfolding shown cvmProcessing cvmResultByRules cvmRulesFromPairs cvmConditionMet cvmSupported cvmRecognised cvmResultOfSupported cvmResultOfUnsuccessful if both either firstBytesZeroPadded appendBigEndianBytes
 unrecognised = refl
 
 -- fail with b7 and a rule left, with none left, and with b7 clear
@@ -132,7 +132,7 @@ fails :
     ∷ (0x3F ∷ 0x00 ∷ 0x01 ∷ 0x00 ∷ 0x80 ∷ 0x00 ∷ [])
     ∷ (0x00 ∷ 0x00 ∷ 0x01 ∷ 0x00 ∷ 0x80 ∷ 0x00 ∷ [])
     ∷ []
-unfolding shown cvmProcessing byCvmRules cvmRulesFrom cvmConditionMet cvmSupported cvmRecognised cvmSuccessful cvmUnsuccessful if both either firstBytes bigEndianFrom
+unfolding shown cvmProcessing cvmResultByRules cvmRulesFromPairs cvmConditionMet cvmSupported cvmRecognised cvmResultOfSupported cvmResultOfUnsuccessful if both either firstBytesZeroPadded appendBigEndianBytes
 fails = refl
 
 -- an odd last byte is no rule, so the one before it is the last
@@ -149,7 +149,7 @@ odd-bytes :
     ∷ (0x3F ∷ 0x00 ∷ 0x01 ∷ 0x00 ∷ 0x80 ∷ 0x00 ∷ [])
     ∷ (0x40 ∷ 0x00 ∷ 0x01 ∷ 0x00 ∷ 0x80 ∷ 0x00 ∷ [])
     ∷ []
-unfolding shown cvmProcessing byCvmRules cvmRulesFrom cvmConditionMet cvmSupported cvmRecognised cvmSuccessful cvmUnsuccessful if both either firstBytes bigEndianFrom
+unfolding shown cvmProcessing cvmResultByRules cvmRulesFromPairs cvmConditionMet cvmSupported cvmRecognised cvmResultOfSupported cvmResultOfUnsuccessful if both either firstBytesZeroPadded appendBigEndianBytes
 odd-bytes = refl
 
 -- cash at an ATM and elsewhere, neither cash nor cashback, cashback
@@ -168,7 +168,7 @@ by-type :
     ∷ (0x42 ∷ 0x05 ∷ 0x00 ∷ 0x00 ∷ 0x04 ∷ 0x02 ∷ [])
     ∷ (0x42 ∷ 0x02 ∷ 0x00 ∷ 0x00 ∷ 0x04 ∷ 0x02 ∷ [])
     ∷ []
-unfolding shown cvmProcessing byCvmRules cvmRulesFrom cvmConditionMet cvmSupported cvmRecognised cvmSuccessful cvmUnsuccessful if both either firstBytes bigEndianFrom
+unfolding shown cvmProcessing cvmResultByRules cvmRulesFromPairs cvmConditionMet cvmSupported cvmRecognised cvmResultOfSupported cvmResultOfUnsuccessful if both either firstBytesZeroPadded appendBigEndianBytes
 by-type = refl
 
 -- conditions that are not understood; b8 of a code is kept and not tested
@@ -185,7 +185,7 @@ reserved :
     ∷ (0x3F ∷ 0x00 ∷ 0x01 ∷ 0x00 ∷ 0x80 ∷ 0x00 ∷ [])
     ∷ (0x80 ∷ 0x00 ∷ 0x01 ∷ 0x00 ∷ 0x80 ∷ 0x00 ∷ [])
     ∷ []
-unfolding shown cvmProcessing byCvmRules cvmRulesFrom cvmConditionMet cvmSupported cvmRecognised cvmSuccessful cvmUnsuccessful if both either firstBytes bigEndianFrom
+unfolding shown cvmProcessing cvmResultByRules cvmRulesFromPairs cvmConditionMet cvmSupported cvmRecognised cvmResultOfSupported cvmResultOfUnsuccessful if both either firstBytesZeroPadded appendBigEndianBytes
 reserved = refl
 
 -- an offline PIN that is supported; one that is not
@@ -206,7 +206,7 @@ offline :
     ∷ (0x1F ∷ 0x00 ∷ 0x02 ∷ 0x00 ∷ 0x00 ∷ 0x00 ∷ [])
     ∷ (0x3F ∷ 0x00 ∷ 0x01 ∷ 0x00 ∷ 0x80 ∷ 0x00 ∷ [])
     ∷ []
-unfolding shown cvmProcessing byCvmRules cvmRulesFrom cvmConditionMet cvmSupported cvmRecognised cvmSuccessful cvmUnsuccessful if both either firstBytes bigEndianFrom
+unfolding shown cvmProcessing cvmResultByRules cvmRulesFromPairs cvmConditionMet cvmSupported cvmRecognised cvmResultOfSupported cvmResultOfUnsuccessful if both either firstBytesZeroPadded appendBigEndianBytes
 offline = refl
 
 -- ---- one test at a time
@@ -284,7 +284,7 @@ met-conditions :
     ∷ (true ∷ false ∷ true ∷ false ∷ false ∷ false ∷ false ∷ true ∷ false ∷ true ∷ false ∷ false ∷ false ∷ [])
     ∷ (true ∷ false ∷ true ∷ false ∷ false ∷ false ∷ false ∷ true ∷ false ∷ true ∷ false ∷ false ∷ false ∷ [])
     ∷ []
-unfolding cvmConditionMet cvmSupported if both firstBytes bigEndianFrom
+unfolding cvmConditionMet cvmSupported if both firstBytesZeroPadded appendBigEndianBytes
 met-conditions = refl
 
 -- X and Y are the first four bytes and the next four, the first byte the highest
@@ -293,5 +293,5 @@ read-amounts :
     ∷ cvmAmountY (0x01 ∷ 0x02 ∷ 0x03 ∷ 0x04 ∷ 0xFF ∷ 0xFF ∷ 0xFF ∷ 0xFE ∷ 0x1F ∷ 0x00 ∷ [])
     ∷ []
     ≡ 0x01020304 ∷ 0xFFFFFFFE ∷ []
-unfolding firstBytes bigEndianFrom
+unfolding firstBytesZeroPadded appendBigEndianBytes
 read-amounts = refl

@@ -9,33 +9,33 @@ use native.Mathlib.Omega.{arith}
 use lib.ListN.{length, drop, length-drop}
 use lib.Seq.{drop-append-le}
 use Rattle.basics.specs.Choice.{if}
-use Rattle.basics.specs.Number.{bigEndian}
+use Rattle.basics.specs.Number.{bigEndianNumber}
 use Rattle.basics.proofs.Laws.{if-yes}
-use Rattle.store.specs.Place.{StoredValue, present, bytesOfValue, objectValue}
+use Rattle.store.specs.Place.{StoredValue, present, bytesOrEmptyIfAbsent, objectValue}
 use Rattle.store.specs.Held.{storedBytes, storedByte}
-use Rattle.analysis.specs.Value.{firstBytes}
-use Rattle.analysis.specs.Digits.{isOneOf, amountOf, amountAbove}
-use Rattle.analysis.specs.Restrictions.{atAtm}
-use Rattle.analysis.specs.Cvm.{cvmAmountX, cvmAmountY, cvmProcessing, onDeviceResult, cvmTvrBits}
-use Rattle.analysis.specs.Action.{hasOnDeviceCvm, aucViolatedIn, restrictionsByte, tvrOf, sameCurrency, cvmConditionsIn, cvmResultIn, tvrWithCvm, findingsOf, AlikeButAipAndCvmList, OnDeviceRules}
-use Rattle.analysis.specs.Tvr.{tvrByte4, tvrWithBits}
+use Rattle.analysis.specs.Value.{firstBytesZeroPadded}
+use Rattle.analysis.specs.Digits.{isOneOf, amountOf, firstAmountIsAbove}
+use Rattle.analysis.specs.Restrictions.{isAtmTypeWithCashCapability}
+use Rattle.analysis.specs.Cvm.{cvmAmountX, cvmAmountY, cvmProcessing, onDeviceCvmResultByAboveLimit, cvmTvrBits}
+use Rattle.analysis.specs.Action.{cardAndKernelSupportOnDeviceCvm, aucViolatedInStore, restrictionsTvrByte2, tvrBeforeCvm, currenciesPresentAndEqual, cvmConditionsIn, cvmResultIn, tvrWithCvm, findingsOf, AlikeButAipAndCvmList, OnDeviceCvmIgnoresCvmList}
+use Rattle.analysis.specs.Tvr.{tvrByte4AmountAboveFloorLimit, tvrWithBits}
 use Rattle.analysis.specs.declared.action.AnalysisFindings.{AnalysisFindings}
 use Rattle.analysis.specs.declared.cvm.CvmResult.{CvmResult}
 use Rattle.analysis.proofs.CvmLaws.{odd-byte, on-device-bits}
 
 -- bytes after n others are not among the first n
-front-append : (n : ℕ) (s l : List ℕ) → n ≤ length s → firstBytes n (s ++ l) ≡ firstBytes n s
-unfolding firstBytes
+front-append : (n : ℕ) (s l : List ℕ) → n ≤ length s → firstBytesZeroPadded n (s ++ l) ≡ firstBytesZeroPadded n s
+unfolding firstBytesZeroPadded
 front-append zero s l h = refl
 front-append (suc n) [] l h = absurd (omega arith)
 front-append (suc n) (x ∷ s) l h = ap (λ (t : List ℕ). x ∷ t) (front-append n s l (omega arith))
 
 -- X and Y are in the first eight bytes
 amount-x : (s l : List ℕ) → 8 ≤ length s → cvmAmountX (s ++ l) ≡ cvmAmountX s
-amount-x s l h = ap bigEndian (front-append 4 s l (omega arith))
+amount-x s l h = ap bigEndianNumber (front-append 4 s l (omega arith))
 
 amount-y : (s l : List ℕ) → 8 ≤ length s → cvmAmountY (s ++ l) ≡ cvmAmountY s
-amount-y s l h = ap bigEndian (ap (firstBytes 4) (drop-append-le 4 s l (omega arith)) ∙ front-append 4 (drop 4 s) l (simp length-drop (omega arith)))
+amount-y s l h = ap bigEndianNumber (ap (firstBytesZeroPadded 4) (drop-append-le 4 s l (omega arith)) ∙ front-append 4 (drop 4 s) l (simp length-drop (omega arith)))
 
 -- two stores that differ in 8E alone
 pub record ApartFromList (b c : List ℕ) : Type 0 where
@@ -55,33 +55,33 @@ module _ (b c s : List ℕ) (x : ℕ) (h : 8 ≤ length s) (e : length s % 2 ≡
   same-terms : cvmConditionsIn b ≡ cvmConditionsIn c
   unfolding cvmConditionsIn
   same-terms =
-      let lx : cvmAmountX (storedBytes b 0x8E) ≡ cvmAmountX (storedBytes c 0x8E) = ap (λ (v : StoredValue). cvmAmountX (bytesOfValue v)) f ∙ amount-x s _ h ∙ sym (ap (λ (v : StoredValue). cvmAmountX (bytesOfValue v)) g) in
-      let ly : cvmAmountY (storedBytes b 0x8E) ≡ cvmAmountY (storedBytes c 0x8E) = ap (λ (v : StoredValue). cvmAmountY (bytesOfValue v)) f ∙ amount-y s _ h ∙ sym (ap (λ (v : StoredValue). cvmAmountY (bytesOfValue v)) g) in
+      let lx : cvmAmountX (storedBytes b 0x8E) ≡ cvmAmountX (storedBytes c 0x8E) = ap (λ (v : StoredValue). cvmAmountX (bytesOrEmptyIfAbsent v)) f ∙ amount-x s _ h ∙ sym (ap (λ (v : StoredValue). cvmAmountX (bytesOrEmptyIfAbsent v)) g) in
+      let ly : cvmAmountY (storedBytes b 0x8E) ≡ cvmAmountY (storedBytes c 0x8E) = ap (λ (v : StoredValue). cvmAmountY (bytesOrEmptyIfAbsent v)) f ∙ amount-y s _ h ∙ sym (ap (λ (v : StoredValue). cvmAmountY (bytesOrEmptyIfAbsent v)) g) in
       simp (a .same-9C, a .same-5F2A, a .same-9F02, a .same-9F33, a .same-9F35, a .same-9F40, a .same-9F42, lx, ly)
 
   pub odd-byte-stored : cvmResultIn b ≡ cvmResultIn c
-  unfolding cvmResultIn hasOnDeviceCvm
+  unfolding cvmResultIn cardAndKernelSupportOnDeviceCvm
   odd-byte-stored =
       simp (a .same-82, a .same-DF811B, a .same-9F02, a .same-DF8126, f, g, same-terms)
-      (ap (λ (v : CvmResult). if (hasOnDeviceCvm c) (onDeviceResult (amountAbove (storedBytes c 0x9F02) (storedBytes c 0xDF8126))) v)
+      (ap (λ (v : CvmResult). if (cardAndKernelSupportOnDeviceCvm c) (onDeviceCvmResultByAboveLimit (firstAmountIsAbove (storedBytes c 0x9F02) (storedBytes c 0xDF8126))) v)
       (odd-byte (storedByte c 0x82 1) (cvmConditionsIn c) s x (λ z. omega arith) e))
 
 -- ---- on-device CVM
 
 -- with on-device CVM the CVM is by the amount and DF8126 alone
-pub on-device-verified : (b : List ℕ) → hasOnDeviceCvm b ≡ true → cvmResultIn b ≡ onDeviceResult (amountAbove (storedBytes b 0x9F02) (storedBytes b 0xDF8126))
+pub on-device-verified : (b : List ℕ) → cardAndKernelSupportOnDeviceCvm b ≡ true → cvmResultIn b ≡ onDeviceCvmResultByAboveLimit (firstAmountIsAbove (storedBytes b 0x9F02) (storedBytes b 0xDF8126))
 unfolding cvmResultIn
 on-device-verified b p = if-yes _ _ p
 
 -- of two devices with on-device CVM alike but for 82 and 8E, 9F34, 95 and the CVM are the same
-module _ (b c : List ℕ) (p : hasOnDeviceCvm b ≡ true) (q : hasOnDeviceCvm c ≡ true) (a : AlikeButAipAndCvmList b c) where
+module _ (b c : List ℕ) (p : cardAndKernelSupportOnDeviceCvm b ≡ true) (q : cardAndKernelSupportOnDeviceCvm c ≡ true) (a : AlikeButAipAndCvmList b c) where
   on-device-same : cvmResultIn b ≡ cvmResultIn c
   on-device-same =
       on-device-verified b p
       ∙ (simp (a 0x9F02 (λ z. omega arith) (λ z. omega arith), a 0xDF8126 (λ z. omega arith) (λ z. omega arith)) (sym (on-device-verified c q)))
 
-  usage-same : aucViolatedIn b ≡ aucViolatedIn c
-  unfolding aucViolatedIn
+  usage-same : aucViolatedInStore b ≡ aucViolatedInStore c
+  unfolding aucViolatedInStore
   usage-same =
       simp (
         a 0x9F07 (λ z. omega arith) (λ z. omega arith),
@@ -93,8 +93,8 @@ module _ (b c : List ℕ) (p : hasOnDeviceCvm b ≡ true) (q : hasOnDeviceCvm c 
         a 0x9F03 (λ z. omega arith) (λ z. omega arith),
       )
 
-  result-same : tvrOf b ≡ tvrOf c
-  unfolding tvrOf restrictionsByte
+  result-same : tvrBeforeCvm b ≡ tvrBeforeCvm c
+  unfolding tvrBeforeCvm restrictionsTvrByte2
   result-same =
       simp (
         a 0x9F08 (λ z. omega arith) (λ z. omega arith),
@@ -112,20 +112,20 @@ module _ (b c : List ℕ) (p : hasOnDeviceCvm b ≡ true) (q : hasOnDeviceCvm c 
   on-device-alone = simp (on-device-same, result-same)
 
 -- and 95 is what restrictions and floor limit make it
-on-device-adds-none : (b : List ℕ) → hasOnDeviceCvm b ≡ true → tvrWithCvm b ≡ tvrOf b
-unfolding tvrWithCvm tvrOf tvrWithBits
+on-device-adds-none : (b : List ℕ) → cardAndKernelSupportOnDeviceCvm b ≡ true → tvrWithCvm b ≡ tvrBeforeCvm b
+unfolding tvrWithCvm tvrBeforeCvm tvrWithBits
 on-device-adds-none b p =
-    let z = on-device-bits (amountAbove (storedBytes b 0x9F02) (storedBytes b 0xDF8126)) in
+    let z = on-device-bits (firstAmountIsAbove (storedBytes b 0x9F02) (storedBytes b 0xDF8126)) in
     let v = on-device-verified b p in
     let tvr1 : cvmResultIn b .tvr1 ≡ 0 = ap (λ (w : CvmResult). w .tvr1) v ∙ z .0 in
     let tvr3 : cvmResultIn b .tvr3 ≡ 0 = ap (λ (w : CvmResult). w .tvr3) v ∙ z .1 in
-    let two : restrictionsByte b + 0 ≡ restrictionsByte b = omega arith in
-    let four : tvrByte4 (storedBytes b 0x9F02) (storedBytes b 0xDF8123) + 0 ≡ tvrByte4 (storedBytes b 0x9F02) (storedBytes b 0xDF8123) = omega arith in
+    let two : restrictionsTvrByte2 b + 0 ≡ restrictionsTvrByte2 b = omega arith in
+    let four : tvrByte4AmountAboveFloorLimit (storedBytes b 0x9F02) (storedBytes b 0xDF8123) + 0 ≡ tvrByte4AmountAboveFloorLimit (storedBytes b 0x9F02) (storedBytes b 0xDF8123) = omega arith in
     simp (tvr1, tvr3, two, four)
 
 bits-are : (b : List ℕ) → findingsOf b .bits ≡ tvrWithCvm b
 unfolding findingsOf
 bits-are b = refl
 
-pub on-device-rules : OnDeviceRules
+pub on-device-rules : OnDeviceCvmIgnoresCvmList
 on-device-rules = record { same = on-device-alone; no-bits = λ b p. bits-are b ∙ on-device-adds-none b p }

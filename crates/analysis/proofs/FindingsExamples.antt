@@ -7,22 +7,22 @@ use Prim.Native.Nat.{ℕ}
 use lib.ListN.{replicate}
 use Rattle.basics.specs.Choice.{if, both, either}
 use Rattle.basics.specs.Alike.{bytesEqual}
-use Rattle.basics.specs.Number.{bigEndianFrom, nibbles}
-use Rattle.dictionary.specs.Rows.{dictionaryRows, rowPast, findRow, storeSize}
-use Rattle.dictionary.specs.Named.{rowNumberOf}
-use Rattle.store.specs.Place.{rowOffset, rowPlace, placeValue, rowValue, putRow, objectValueIn}
-use Rattle.analysis.specs.Value.{firstBytes}
-use Rattle.analysis.specs.Digits.{bcdFrom, yearOf, dateOf, dateLater, amountOf, amountAbove}
-use Rattle.analysis.specs.Restrictions.{versionDiffers, notYetEffective, atAtm, issuerCountryOf, cashbackRequested, aucViolated}
+use Rattle.basics.specs.Number.{appendBigEndianBytes, nibbles}
+use Rattle.dictionary.specs.Rows.{dictionaryRows, rowFoundShifted, findRow, storeSize}
+use Rattle.dictionary.specs.Named.{rowNumberOfTagOrZero}
+use Rattle.store.specs.Place.{rowOffset, rowPlaceBytes, valueInPlace, rowValue, putRow, objectValueIn}
+use Rattle.analysis.specs.Value.{firstBytesZeroPadded}
+use Rattle.analysis.specs.Digits.{appendDecimalDigits, fourDigitYear, dateAsNumber, firstDateIsLater, amountOf, firstAmountIsAbove}
+use Rattle.analysis.specs.Restrictions.{cardVersionPresentAndDiffers, notYetEffective, isAtmTypeWithCashCapability, issuerCountryMatch, cashbackRequested, aucViolated}
 use Rattle.analysis.specs.Tvr.{tvrWithBits}
-use Rattle.analysis.specs.Cvm.{cvmRulesFrom, cvmRecognised, cvmSupported, cvmConditionMet, cvmSuccessful, cvmUnsuccessful, byCvmRules, cvmNumber, cvmProcessing, onDeviceCvm}
-use Rattle.analysis.specs.Action.{hasOnDeviceCvm, aucViolatedIn, restrictionsByte, tvrOf, sameCurrency, cvmConditionsIn, cvmResultIn, tvrWithCvm, findingsOf}
+use Rattle.analysis.specs.Cvm.{cvmRulesFromPairs, cvmRecognised, cvmSupported, cvmConditionMet, cvmResultOfSupported, cvmResultOfUnsuccessful, cvmResultByRules, cvmNumber, cvmProcessing, aipAndConfigurationSupportOnDeviceCvm}
+use Rattle.analysis.specs.Action.{cardAndKernelSupportOnDeviceCvm, aucViolatedInStore, restrictionsTvrByte2, tvrBeforeCvm, currenciesPresentAndEqual, cvmConditionsIn, cvmResultIn, tvrWithCvm, findingsOf}
 use Rattle.analysis.specs.declared.action.AnalysisFindings.{AnalysisFindings}
 
 -- objects put one by one into the empty store, the last one first
 unfoldable pub storing : List (ℕ × List ℕ) → List ℕ
 storing [] = replicate storeSize 0
-storing ((t, v) ∷ more) = putRow dictionaryRows (storing more) (rowNumberOf t) v
+storing ((t, v) ∷ more) = putRow dictionaryRows (storing more) (rowNumberOfTagOrZero t) v
 
 -- a purchase of 12.34 with a terminal that can do online PIN, signature and no CVM; the card supports verification
 abbrev withoutCurrencies : List (ℕ × List ℕ)
@@ -56,9 +56,9 @@ supports :
     ∷ (0x5E ∷ 0x03 ∷ 0x00 ∷ 0x80 ∷ 0x00 ∷ 0x00 ∷ 0x00 ∷ 0x00 ∷ 1 ∷ [])
     ∷ (0x3F ∷ 0x00 ∷ 0x01 ∷ 0x80 ∷ 0x00 ∷ 0x80 ∷ 0x00 ∷ 0x00 ∷ 0 ∷ [])
     ∷ []
-unfolding shown storing findingsOf tvrWithCvm cvmResultIn hasOnDeviceCvm onDeviceCvm cvmConditionsIn sameCurrency tvrOf restrictionsByte aucViolatedIn tvrWithBits versionDiffers notYetEffective aucViolated atAtm issuerCountryOf
-    cashbackRequested dateLater dateOf yearOf amountAbove amountOf bcdFrom nibbles bigEndianFrom bytesEqual cvmProcessing byCvmRules cvmRulesFrom cvmConditionMet cvmSupported cvmRecognised cvmSuccessful cvmUnsuccessful firstBytes
-    putRow rowNumberOf objectValueIn rowValue rowPlace placeValue rowOffset findRow rowPast dictionaryRows if both either
+unfolding shown storing findingsOf tvrWithCvm cvmResultIn cardAndKernelSupportOnDeviceCvm aipAndConfigurationSupportOnDeviceCvm cvmConditionsIn currenciesPresentAndEqual tvrBeforeCvm restrictionsTvrByte2 aucViolatedInStore tvrWithBits cardVersionPresentAndDiffers notYetEffective aucViolated isAtmTypeWithCashCapability issuerCountryMatch
+    cashbackRequested firstDateIsLater dateAsNumber fourDigitYear firstAmountIsAbove amountOf appendDecimalDigits nibbles appendBigEndianBytes bytesEqual cvmProcessing cvmResultByRules cvmRulesFromPairs cvmConditionMet cvmSupported cvmRecognised cvmResultOfSupported cvmResultOfUnsuccessful firstBytesZeroPadded
+    putRow rowNumberOfTagOrZero objectValueIn rowValue rowPlaceBytes valueInPlace rowOffset findRow rowFoundShifted dictionaryRows if both either
 supports = refl
 
 -- equal to X and Y; over X and under Y; no currency known
@@ -71,9 +71,9 @@ amounts :
     ∷ (0x5E ∷ 0x08 ∷ 0x00 ∷ 0x80 ∷ 0x00 ∷ 0x00 ∷ 0x00 ∷ 0x00 ∷ 1 ∷ [])
     ∷ (0x1F ∷ 0x00 ∷ 0x02 ∷ 0x80 ∷ 0x00 ∷ 0x00 ∷ 0x00 ∷ 0x00 ∷ 0 ∷ [])
     ∷ []
-unfolding shown storing findingsOf tvrWithCvm cvmResultIn hasOnDeviceCvm onDeviceCvm cvmConditionsIn sameCurrency tvrOf restrictionsByte aucViolatedIn tvrWithBits versionDiffers notYetEffective aucViolated atAtm issuerCountryOf
-    cashbackRequested dateLater dateOf yearOf amountAbove amountOf bcdFrom nibbles bigEndianFrom bytesEqual cvmProcessing byCvmRules cvmRulesFrom cvmConditionMet cvmSupported cvmRecognised cvmSuccessful cvmUnsuccessful firstBytes
-    putRow rowNumberOf objectValueIn rowValue rowPlace placeValue rowOffset findRow rowPast dictionaryRows if both either
+unfolding shown storing findingsOf tvrWithCvm cvmResultIn cardAndKernelSupportOnDeviceCvm aipAndConfigurationSupportOnDeviceCvm cvmConditionsIn currenciesPresentAndEqual tvrBeforeCvm restrictionsTvrByte2 aucViolatedInStore tvrWithBits cardVersionPresentAndDiffers notYetEffective aucViolated isAtmTypeWithCashCapability issuerCountryMatch
+    cashbackRequested firstDateIsLater dateAsNumber fourDigitYear firstAmountIsAbove amountOf appendDecimalDigits nibbles appendBigEndianBytes bytesEqual cvmProcessing cvmResultByRules cvmRulesFromPairs cvmConditionMet cvmSupported cvmRecognised cvmResultOfSupported cvmResultOfUnsuccessful firstBytesZeroPadded
+    putRow rowNumberOfTagOrZero objectValueIn rowValue rowPlaceBytes valueInPlace rowOffset findRow rowFoundShifted dictionaryRows if both either
 amounts = refl
 
 -- an unrecognised CVM and fail, each with the next rule; an odd last byte
@@ -86,9 +86,9 @@ unsuccessful-rules :
     ∷ (0x1F ∷ 0x00 ∷ 0x02 ∷ 0x80 ∷ 0x00 ∷ 0x00 ∷ 0x00 ∷ 0x00 ∷ 0 ∷ [])
     ∷ (0x3F ∷ 0x00 ∷ 0x01 ∷ 0x80 ∷ 0x00 ∷ 0x80 ∷ 0x00 ∷ 0x00 ∷ 0 ∷ [])
     ∷ []
-unfolding shown storing findingsOf tvrWithCvm cvmResultIn hasOnDeviceCvm onDeviceCvm cvmConditionsIn sameCurrency tvrOf restrictionsByte aucViolatedIn tvrWithBits versionDiffers notYetEffective aucViolated atAtm issuerCountryOf
-    cashbackRequested dateLater dateOf yearOf amountAbove amountOf bcdFrom nibbles bigEndianFrom bytesEqual cvmProcessing byCvmRules cvmRulesFrom cvmConditionMet cvmSupported cvmRecognised cvmSuccessful cvmUnsuccessful firstBytes
-    putRow rowNumberOf objectValueIn rowValue rowPlace placeValue rowOffset findRow rowPast dictionaryRows if both either
+unfolding shown storing findingsOf tvrWithCvm cvmResultIn cardAndKernelSupportOnDeviceCvm aipAndConfigurationSupportOnDeviceCvm cvmConditionsIn currenciesPresentAndEqual tvrBeforeCvm restrictionsTvrByte2 aucViolatedInStore tvrWithBits cardVersionPresentAndDiffers notYetEffective aucViolated isAtmTypeWithCashCapability issuerCountryMatch
+    cashbackRequested firstDateIsLater dateAsNumber fourDigitYear firstAmountIsAbove amountOf appendDecimalDigits nibbles appendBigEndianBytes bytesEqual cvmProcessing cvmResultByRules cvmRulesFromPairs cvmConditionMet cvmSupported cvmRecognised cvmResultOfSupported cvmResultOfUnsuccessful firstBytesZeroPadded
+    putRow rowNumberOfTagOrZero objectValueIn rowValue rowPlaceBytes valueInPlace rowOffset findRow rowFoundShifted dictionaryRows if both either
 unsuccessful-rules = refl
 
 -- cash at an ATM; cashback; conditions that are not understood; an offline PIN
@@ -103,9 +103,9 @@ types :
     ∷ (0x9F ∷ 0x00 ∷ 0x02 ∷ 0x80 ∷ 0x00 ∷ 0x00 ∷ 0x00 ∷ 0x00 ∷ 0 ∷ [])
     ∷ (0x44 ∷ 0x03 ∷ 0x00 ∷ 0x80 ∷ 0x00 ∷ 0x00 ∷ 0x00 ∷ 0x00 ∷ 4 ∷ [])
     ∷ []
-unfolding shown storing findingsOf tvrWithCvm cvmResultIn hasOnDeviceCvm onDeviceCvm cvmConditionsIn sameCurrency tvrOf restrictionsByte aucViolatedIn tvrWithBits versionDiffers notYetEffective aucViolated atAtm issuerCountryOf
-    cashbackRequested dateLater dateOf yearOf amountAbove amountOf bcdFrom nibbles bigEndianFrom bytesEqual cvmProcessing byCvmRules cvmRulesFrom cvmConditionMet cvmSupported cvmRecognised cvmSuccessful cvmUnsuccessful firstBytes
-    putRow rowNumberOf objectValueIn rowValue rowPlace placeValue rowOffset findRow rowPast dictionaryRows if both either
+unfolding shown storing findingsOf tvrWithCvm cvmResultIn cardAndKernelSupportOnDeviceCvm aipAndConfigurationSupportOnDeviceCvm cvmConditionsIn currenciesPresentAndEqual tvrBeforeCvm restrictionsTvrByte2 aucViolatedInStore tvrWithBits cardVersionPresentAndDiffers notYetEffective aucViolated isAtmTypeWithCashCapability issuerCountryMatch
+    cashbackRequested firstDateIsLater dateAsNumber fourDigitYear firstAmountIsAbove amountOf appendDecimalDigits nibbles appendBigEndianBytes bytesEqual cvmProcessing cvmResultByRules cvmRulesFromPairs cvmConditionMet cvmSupported cvmRecognised cvmResultOfSupported cvmResultOfUnsuccessful firstBytesZeroPadded
+    putRow rowNumberOfTagOrZero objectValueIn rowValue rowPlaceBytes valueInPlace rowOffset findRow rowFoundShifted dictionaryRows if both either
 types = refl
 
 -- one currency absent, another one, the same; the highest amount is over an X of 32 bits
@@ -120,9 +120,9 @@ currencies :
     ∷ (0x5E ∷ 0x06 ∷ 0x00 ∷ 0x80 ∷ 0x00 ∷ 0x00 ∷ 0x00 ∷ 0x00 ∷ 1 ∷ [])
     ∷ (0x5E ∷ 0x09 ∷ 0x00 ∷ 0x80 ∷ 0x00 ∷ 0x00 ∷ 0x80 ∷ 0x00 ∷ 1 ∷ [])
     ∷ []
-unfolding shown storing findingsOf tvrWithCvm cvmResultIn hasOnDeviceCvm onDeviceCvm cvmConditionsIn sameCurrency tvrOf restrictionsByte aucViolatedIn tvrWithBits versionDiffers notYetEffective aucViolated atAtm issuerCountryOf
-    cashbackRequested dateLater dateOf yearOf amountAbove amountOf bcdFrom nibbles bigEndianFrom bytesEqual cvmProcessing byCvmRules cvmRulesFrom cvmConditionMet cvmSupported cvmRecognised cvmSuccessful cvmUnsuccessful firstBytes
-    putRow rowNumberOf objectValueIn rowValue rowPlace placeValue rowOffset findRow rowPast dictionaryRows if both either
+unfolding shown storing findingsOf tvrWithCvm cvmResultIn cardAndKernelSupportOnDeviceCvm aipAndConfigurationSupportOnDeviceCvm cvmConditionsIn currenciesPresentAndEqual tvrBeforeCvm restrictionsTvrByte2 aucViolatedInStore tvrWithBits cardVersionPresentAndDiffers notYetEffective aucViolated isAtmTypeWithCashCapability issuerCountryMatch
+    cashbackRequested firstDateIsLater dateAsNumber fourDigitYear firstAmountIsAbove amountOf appendDecimalDigits nibbles appendBigEndianBytes bytesEqual cvmProcessing cvmResultByRules cvmRulesFromPairs cvmConditionMet cvmSupported cvmRecognised cvmResultOfSupported cvmResultOfUnsuccessful firstBytesZeroPadded
+    putRow rowNumberOfTagOrZero objectValueIn rowValue rowPlaceBytes valueInPlace rowOffset findRow rowFoundShifted dictionaryRows if both either
 currencies = refl
 
 -- cash, type 17, at a type of ATM without 9F40, and with b8 of it clear; cash at another type with it; type 20 is
@@ -138,7 +138,7 @@ places :
     ∷ (0x1E ∷ 0x04 ∷ 0x00 ∷ 0x80 ∷ 0x00 ∷ 0x00 ∷ 0x00 ∷ 0x00 ∷ 1 ∷ [])
     ∷ (0x1F ∷ 0x02 ∷ 0x02 ∷ 0x80 ∷ 0x00 ∷ 0x00 ∷ 0x00 ∷ 0x00 ∷ 0 ∷ [])
     ∷ []
-unfolding shown storing findingsOf tvrWithCvm cvmResultIn hasOnDeviceCvm onDeviceCvm cvmConditionsIn sameCurrency tvrOf restrictionsByte aucViolatedIn tvrWithBits versionDiffers notYetEffective aucViolated atAtm issuerCountryOf
-    cashbackRequested dateLater dateOf yearOf amountAbove amountOf bcdFrom nibbles bigEndianFrom bytesEqual cvmProcessing byCvmRules cvmRulesFrom cvmConditionMet cvmSupported cvmRecognised cvmSuccessful cvmUnsuccessful firstBytes
-    putRow rowNumberOf objectValueIn rowValue rowPlace placeValue rowOffset findRow rowPast dictionaryRows if both either
+unfolding shown storing findingsOf tvrWithCvm cvmResultIn cardAndKernelSupportOnDeviceCvm aipAndConfigurationSupportOnDeviceCvm cvmConditionsIn currenciesPresentAndEqual tvrBeforeCvm restrictionsTvrByte2 aucViolatedInStore tvrWithBits cardVersionPresentAndDiffers notYetEffective aucViolated isAtmTypeWithCashCapability issuerCountryMatch
+    cashbackRequested firstDateIsLater dateAsNumber fourDigitYear firstAmountIsAbove amountOf appendDecimalDigits nibbles appendBigEndianBytes bytesEqual cvmProcessing cvmResultByRules cvmRulesFromPairs cvmConditionMet cvmSupported cvmRecognised cvmResultOfSupported cvmResultOfUnsuccessful firstBytesZeroPadded
+    putRow rowNumberOfTagOrZero objectValueIn rowValue rowPlaceBytes valueInPlace rowOffset findRow rowFoundShifted dictionaryRows if both either
 places = refl

@@ -8,16 +8,16 @@ use Prim.Native.Nat.{ℕ}
 use lib.ListN.{replicate}
 use Rattle.basics.specs.Choice.{if, both, either}
 use Rattle.basics.specs.Alike.{bytesEqual}
-use Rattle.basics.specs.Number.{bigEndianFrom, nibbles}
-use Rattle.dictionary.specs.Rows.{dictionaryRows, rowPast, findRow}
-use Rattle.dictionary.specs.Named.{rowNumberOf}
-use Rattle.store.specs.Place.{rowOffset, rowPlace, placeValue, rowValue, putRow, objectValueIn}
-use Rattle.analysis.specs.Value.{firstBytes}
-use Rattle.analysis.specs.Digits.{bcdFrom, yearOf, dateOf, dateLater, amountOf, amountAbove}
-use Rattle.analysis.specs.Restrictions.{versionDiffers, notYetEffective, atAtm, issuerCountryOf, cashbackRequested, aucViolated}
+use Rattle.basics.specs.Number.{appendBigEndianBytes, nibbles}
+use Rattle.dictionary.specs.Rows.{dictionaryRows, rowFoundShifted, findRow}
+use Rattle.dictionary.specs.Named.{rowNumberOfTagOrZero}
+use Rattle.store.specs.Place.{rowOffset, rowPlaceBytes, valueInPlace, rowValue, putRow, objectValueIn}
+use Rattle.analysis.specs.Value.{firstBytesZeroPadded}
+use Rattle.analysis.specs.Digits.{appendDecimalDigits, fourDigitYear, dateAsNumber, firstDateIsLater, amountOf, firstAmountIsAbove}
+use Rattle.analysis.specs.Restrictions.{cardVersionPresentAndDiffers, notYetEffective, isAtmTypeWithCashCapability, issuerCountryMatch, cashbackRequested, aucViolated}
 use Rattle.analysis.specs.Tvr.{tvrWithBits}
-use Rattle.analysis.specs.Cvm.{cvmRulesFrom, cvmRecognised, cvmSupported, cvmConditionMet, cvmSuccessful, cvmUnsuccessful, byCvmRules, cvmProcessing, onDeviceCvm, onDeviceResult}
-use Rattle.analysis.specs.Action.{hasOnDeviceCvm, transactionLimit, aboveTransactionLimit, aucViolatedIn, restrictionsByte, tvrOf, sameCurrency, cvmConditionsIn, cvmResultIn, tvrWithCvm, findingsOf}
+use Rattle.analysis.specs.Cvm.{cvmRulesFromPairs, cvmRecognised, cvmSupported, cvmConditionMet, cvmResultOfSupported, cvmResultOfUnsuccessful, cvmResultByRules, cvmProcessing, aipAndConfigurationSupportOnDeviceCvm, onDeviceCvmResultByAboveLimit}
+use Rattle.analysis.specs.Action.{cardAndKernelSupportOnDeviceCvm, transactionLimit, storedAmountAboveLimit, aucViolatedInStore, restrictionsTvrByte2, tvrBeforeCvm, currenciesPresentAndEqual, cvmConditionsIn, cvmResultIn, tvrWithCvm, findingsOf}
 use Rattle.analysis.proofs.FindingsExamples.{storing, plain, shown}
 
 -- the plain store of a purchase of 12.34, with a configuration that takes on-device CVM
@@ -53,8 +53,8 @@ phones :
     ∷ (0x3F ∷ 0x00 ∷ 0x02 ∷ 0x80 ∷ 0x00 ∷ 0x00 ∷ 0x00 ∷ 0x00 ∷ 0 ∷ [])
     ∷ (0x3F ∷ 0x00 ∷ 0x02 ∷ 0x80 ∷ 0x00 ∷ 0x00 ∷ 0x00 ∷ 0x00 ∷ 0 ∷ [])
     ∷ []
-unfolding shown storing findingsOf tvrWithCvm cvmResultIn hasOnDeviceCvm onDeviceCvm onDeviceResult tvrOf restrictionsByte aucViolatedIn tvrWithBits versionDiffers notYetEffective aucViolated atAtm issuerCountryOf
-    cashbackRequested dateLater dateOf yearOf amountAbove amountOf bcdFrom nibbles bytesEqual firstBytes putRow rowNumberOf objectValueIn rowValue rowPlace placeValue rowOffset findRow rowPast dictionaryRows if both either
+unfolding shown storing findingsOf tvrWithCvm cvmResultIn cardAndKernelSupportOnDeviceCvm aipAndConfigurationSupportOnDeviceCvm onDeviceCvmResultByAboveLimit tvrBeforeCvm restrictionsTvrByte2 aucViolatedInStore tvrWithBits cardVersionPresentAndDiffers notYetEffective aucViolated isAtmTypeWithCashCapability issuerCountryMatch
+    cashbackRequested firstDateIsLater dateAsNumber fourDigitYear firstAmountIsAbove amountOf appendDecimalDigits nibbles bytesEqual firstBytesZeroPadded putRow rowNumberOfTagOrZero objectValueIn rowValue rowPlaceBytes valueInPlace rowOffset findRow rowFoundShifted dictionaryRows if both either
 phones = refl
 
 -- no on-device CVM: every bit of DF811B but b6, and every bit of 82 byte 1 but b2; the list is obeyed
@@ -65,15 +65,15 @@ not-phones :
     ≡ (0x42 ∷ 0x00 ∷ 0x00 ∷ 0x80 ∷ 0x00 ∷ 0x04 ∷ 0x00 ∷ 0x00 ∷ 2 ∷ [])
     ∷ (0x5E ∷ 0x00 ∷ 0x00 ∷ 0x80 ∷ 0x00 ∷ 0x00 ∷ 0x00 ∷ 0x00 ∷ 1 ∷ [])
     ∷ []
-unfolding shown storing findingsOf tvrWithCvm cvmResultIn hasOnDeviceCvm onDeviceCvm cvmConditionsIn sameCurrency tvrOf restrictionsByte aucViolatedIn tvrWithBits versionDiffers notYetEffective aucViolated atAtm issuerCountryOf
-    cashbackRequested dateLater dateOf yearOf amountAbove amountOf bcdFrom nibbles bigEndianFrom bytesEqual cvmProcessing byCvmRules cvmRulesFrom cvmConditionMet cvmSupported cvmRecognised cvmSuccessful cvmUnsuccessful firstBytes
-    putRow rowNumberOf objectValueIn rowValue rowPlace placeValue rowOffset findRow rowPast dictionaryRows if both either
+unfolding shown storing findingsOf tvrWithCvm cvmResultIn cardAndKernelSupportOnDeviceCvm aipAndConfigurationSupportOnDeviceCvm cvmConditionsIn currenciesPresentAndEqual tvrBeforeCvm restrictionsTvrByte2 aucViolatedInStore tvrWithBits cardVersionPresentAndDiffers notYetEffective aucViolated isAtmTypeWithCashCapability issuerCountryMatch
+    cashbackRequested firstDateIsLater dateAsNumber fourDigitYear firstAmountIsAbove amountOf appendDecimalDigits nibbles appendBigEndianBytes bytesEqual cvmProcessing cvmResultByRules cvmRulesFromPairs cvmConditionMet cvmSupported cvmRecognised cvmResultOfSupported cvmResultOfUnsuccessful firstBytesZeroPadded
+    putRow rowNumberOfTagOrZero objectValueIn rowValue rowPlaceBytes valueInPlace rowOffset findRow rowFoundShifted dictionaryRows if both either
 not-phones = refl
 
 -- the amount is above the transaction limit: with on-device CVM by DF8125, above and at it; b2 of 82 alone clear and b6
 -- of DF811B alone clear by DF8124
 abbrev limited : List (ℕ × List ℕ) → Bool
-limited l = aboveTransactionLimit (transactionLimit (storing l)) (storing l)
+limited l = storedAmountAboveLimit (transactionLimit (storing l)) (storing l)
 
 on-device-limits :
     limited ((0x82, 0x12 ∷ 0x80 ∷ []) ∷ (0xDF8124, highest) ∷ (0xDF8125, amount 0x12 0x33) ∷ ready)
@@ -82,5 +82,5 @@ on-device-limits :
     ∷ limited ((0x82, 0x12 ∷ 0x80 ∷ []) ∷ (0xDF811B, 0xDF ∷ []) ∷ (0xDF8124, amount 0x12 0x34) ∷ (0xDF8125, amount 0 0) ∷ ready)
     ∷ []
     ≡ true ∷ false ∷ true ∷ false ∷ []
-unfolding storing aboveTransactionLimit transactionLimit hasOnDeviceCvm onDeviceCvm amountOf bcdFrom nibbles firstBytes putRow rowNumberOf objectValueIn rowValue rowPlace placeValue rowOffset findRow rowPast dictionaryRows if both
+unfolding storing storedAmountAboveLimit transactionLimit cardAndKernelSupportOnDeviceCvm aipAndConfigurationSupportOnDeviceCvm amountOf appendDecimalDigits nibbles firstBytesZeroPadded putRow rowNumberOfTagOrZero objectValueIn rowValue rowPlaceBytes valueInPlace rowOffset findRow rowFoundShifted dictionaryRows if both
 on-device-limits = refl

@@ -15,12 +15,12 @@ use Rattle.basics.specs.Alike.{bytesEqual}
 use Rattle.basics.specs.Choice.{if_then_else_, _<?_, _=?_}
 use Rattle.store.specs.Place.{StoredValue, absent, present, objectValue}
 use Rattle.store.specs.Held.{storedBytes, storedByte}
-use Rattle.analysis.specs.Choice.{denialStage, onlineStage, defaultStage, actionCodesAt, choiceOf}
-use Rattle.analysis.specs.Digits.{isOneOf, dateLater, amountOf, amountAbove}
-use Rattle.analysis.specs.Restrictions.{versionDiffers, notYetEffective, atAtm, issuerCountryOf}
-use Rattle.analysis.specs.Restrictions.{cashbackRequested, aucViolated, tvrByte2}
-use Rattle.analysis.specs.Tvr.{tvrByte4, tvrFrom, tvrWithBits}
-use Rattle.analysis.specs.Cvm.{cvmAmountX, cvmAmountY, cvmProcessing, onDeviceCvm, onDeviceResult}
+use Rattle.analysis.specs.Choice.{denialStage, onlineStage, defaultStage, actionCodesAt, terminalActionAnalysis}
+use Rattle.analysis.specs.Digits.{isOneOf, firstDateIsLater, amountOf, firstAmountIsAbove}
+use Rattle.analysis.specs.Restrictions.{cardVersionPresentAndDiffers, notYetEffective, isAtmTypeWithCashCapability, issuerCountryMatch}
+use Rattle.analysis.specs.Restrictions.{cashbackRequested, aucViolated, tvrByte2VersionExpiredEarlyUsage}
+use Rattle.analysis.specs.Tvr.{tvrByte4AmountAboveFloorLimit, tvrFromBytes2And4, tvrWithBits}
+use Rattle.analysis.specs.Cvm.{cvmAmountX, cvmAmountY, cvmProcessing, aipAndConfigurationSupportOnDeviceCvm, onDeviceCvmResultByAboveLimit}
 use Rattle.analysis.specs.Cvm.{cvmResultsBytes, cvmTvrBits}
 use Rattle.analysis.specs.declared.action.AnalysisFindings.{AnalysisFindings}
 use Rattle.analysis.specs.declared.choice.Choice.{Choice}
@@ -39,8 +39,9 @@ abbrev pub transactionType : StoreBytes → Byte
 transactionType store = storedByte store 0x9C 1
 
 -- a device with on-device CVM, by the AIP (82) and the terminal's configuration DF811B
-unfoldable pub hasOnDeviceCvm : StoreBytes → Bool
-hasOnDeviceCvm store = onDeviceCvm (storedByte store 0x82 1) (storedByte store 0xDF811B 1)
+unfoldable pub cardAndKernelSupportOnDeviceCvm : StoreBytes → Bool
+cardAndKernelSupportOnDeviceCvm store =
+    aipAndConfigurationSupportOnDeviceCvm (storedByte store 0x82 1) (storedByte store 0xDF811B 1)
 
 -- ---- the transaction limit
 
@@ -48,43 +49,44 @@ hasOnDeviceCvm store = onDeviceCvm (storedByte store 0x82 1) (storedByte store 0
 -- on-device CVM, else DF8124
 unfoldable pub transactionLimit : StoreBytes → Amount
 transactionLimit store =
-    if hasOnDeviceCvm store then amountOf (storedBytes store 0xDF8125)
+    if cardAndKernelSupportOnDeviceCvm store then amountOf (storedBytes store 0xDF8125)
     else amountOf (storedBytes store 0xDF8124)
 
 -- reason 6 (Book C-2, S456.14): the amount is above a limit; an equal one is not
-unfoldable pub aboveTransactionLimit : Amount → StoreBytes → Bool
-aboveTransactionLimit limit store = limit <? amountOf (storedBytes store 0x9F02)
+unfoldable pub storedAmountAboveLimit : Amount → StoreBytes → Bool
+storedAmountAboveLimit limit store = limit <? amountOf (storedBytes store 0x9F02)
 
 -- ---- the TVR
 
 -- byte 2 b5: the application usage control against type, capabilities, countries, transaction type and other amount
-unfoldable pub aucViolatedIn : StoreBytes → Bool
-aucViolatedIn store =
+unfoldable pub aucViolatedInStore : StoreBytes → Bool
+aucViolatedInStore store =
     aucViolated (objectValue store 0x9F07)
-    (atAtm (terminalType store) (objectValue store 0x9F40))
-    (issuerCountryOf (objectValue store 0x5F28) (storedBytes store 0x9F1A))
+    (isAtmTypeWithCashCapability (terminalType store) (objectValue store 0x9F40))
+    (issuerCountryMatch (objectValue store 0x5F28) (storedBytes store 0x9F1A))
     (transactionType store) (cashbackRequested (objectValue store 0x9F03))
 
 -- byte 2: version; the transaction date 9A later than the expiration date 5F24; effective date; usage
-unfoldable pub restrictionsByte : StoreBytes → Byte
-restrictionsByte store =
-    tvrByte2
-    (versionDiffers (objectValue store 0x9F08) (storedBytes store 0x9F09))
-    (dateLater (storedBytes store 0x9A) (storedBytes store 0x5F24))
+unfoldable pub restrictionsTvrByte2 : StoreBytes → Byte
+restrictionsTvrByte2 store =
+    tvrByte2VersionExpiredEarlyUsage
+    (cardVersionPresentAndDiffers (objectValue store 0x9F08) (storedBytes store 0x9F09))
+    (firstDateIsLater (storedBytes store 0x9A) (storedBytes store 0x5F24))
     (notYetEffective (objectValue store 0x5F25) (storedBytes store 0x9A))
-    (aucViolatedIn store)
+    (aucViolatedInStore store)
 
 -- the five bytes of 95 by restrictions and floor limit
-unfoldable pub tvrOf : StoreBytes → TvrBytes
-tvrOf store = tvrFrom (restrictionsByte store) (tvrByte4 (storedBytes store 0x9F02) (storedBytes store 0xDF8123))
+unfoldable pub tvrBeforeCvm : StoreBytes → TvrBytes
+tvrBeforeCvm store =
+    tvrFromBytes2And4 (restrictionsTvrByte2 store) (tvrByte4AmountAboveFloorLimit (storedBytes store 0x9F02) (storedBytes store 0xDF8123))
 
 -- ---- cardholder verification
 
 -- the transaction's currency 5F2A is the application's 9F42; one that is absent counts as another
-unfoldable pub sameCurrency : StoredValue → StoredValue → Bool
-sameCurrency absent application = false
-sameCurrency (present transaction) absent = false
-sameCurrency (present transaction) (present application) = bytesEqual transaction application
+unfoldable pub currenciesPresentAndEqual : StoredValue → StoredValue → Bool
+currenciesPresentAndEqual absent application = false
+currenciesPresentAndEqual (present transaction) absent = false
+currenciesPresentAndEqual (present transaction) (present application) = bytesEqual transaction application
 
 -- what the conditions of the CVM List's rules depend on: byte 2 of 9F33; cash, type 01 or 17, and cashback, type 09; an
 -- ATM; the currency; the amount 9F02, and X and Y of the CVM List (8E)
@@ -94,8 +96,8 @@ cvmConditionsIn store =
       capabilities = storedByte store 0x9F33 2;
       cash = isOneOf (transactionType store) 0x01 0x17;
       cashback = transactionType store =? 0x09;
-      atm = atAtm (terminalType store) (objectValue store 0x9F40);
-      currency = sameCurrency (objectValue store 0x5F2A) (objectValue store 0x9F42);
+      atm = isAtmTypeWithCashCapability (terminalType store) (objectValue store 0x9F40);
+      currency = currenciesPresentAndEqual (objectValue store 0x5F2A) (objectValue store 0x9F42);
       amount = amountOf (storedBytes store 0x9F02);
       x = cvmAmountX (storedBytes store 0x8E);
       y = cvmAmountY (storedBytes store 0x8E);
@@ -104,12 +106,12 @@ cvmConditionsIn store =
 -- the CVM: with on-device CVM by the limit DF8126 alone, else by the AIP (82) and the CVM List (8E)
 unfoldable pub cvmResultIn : StoreBytes → CvmResult
 cvmResultIn store =
-    if hasOnDeviceCvm store then onDeviceResult (amountAbove (storedBytes store 0x9F02) (storedBytes store 0xDF8126))
+    if cardAndKernelSupportOnDeviceCvm store then onDeviceCvmResultByAboveLimit (firstAmountIsAbove (storedBytes store 0x9F02) (storedBytes store 0xDF8126))
     else cvmProcessing (storedByte store 0x82 1) (objectValue store 0x8E) (cvmConditionsIn store)
 
 -- the five bytes of 95 with the bits that the verification adds
 unfoldable pub tvrWithCvm : StoreBytes → TvrBytes
-tvrWithCvm store = tvrWithBits (tvrOf store) (cvmTvrBits (cvmResultIn store))
+tvrWithCvm store = tvrWithBits (tvrBeforeCvm store) (cvmTvrBits (cvmResultIn store))
 
 -- what is found before the choice: 9F34, 95 and the CVM
 unfoldable pub findingsOf : StoreBytes → AnalysisFindings
@@ -127,8 +129,8 @@ actionCodesOf store =
     ∷ []
 
 -- what is requested for a TVR
-unfoldable pub choiceFor : StoreBytes → TvrBytes → Choice
-choiceFor store result = choiceOf result (terminalType store) (actionCodesOf store)
+unfoldable pub choiceForTvr : StoreBytes → TvrBytes → Choice
+choiceForTvr store result = terminalActionAnalysis result (terminalType store) (actionCodesOf store)
 
 -- ---- what holds of it, proved in proofs/VerificationStore
 
@@ -140,9 +142,10 @@ abbrev pub AlikeButAipAndCvmList : StoreBytes → StoreBytes → Type 0
 AlikeButAipAndCvmList b c = (t : Tag) → (t ≡ 0x82 → ⊥) → (t ≡ 0x8E → ⊥) → objectValue b t ≡ objectValue c t
 
 -- with on-device CVM the list and the other bits of the AIP do not matter; `action::findings_of` promises it
-pub record OnDeviceRules : Type 0 where
+pub record OnDeviceCvmIgnoresCvmList : Type 0 where
   -- of two devices with on-device CVM alike but for 82 and 8E, 9F34, 95 and the CVM are the same
-  pub same : (b c : StoreBytes) → hasOnDeviceCvm b ≡ true → hasOnDeviceCvm c ≡ true → AlikeButAipAndCvmList b c
+  pub same : (b c : StoreBytes) → cardAndKernelSupportOnDeviceCvm b ≡ true
+      → cardAndKernelSupportOnDeviceCvm c ≡ true → AlikeButAipAndCvmList b c
       → findingsOf b ≡ findingsOf c
   -- the verification adds no bit to 95
-  pub no-bits : (b : StoreBytes) → hasOnDeviceCvm b ≡ true → findingsOf b .bits ≡ tvrOf b
+  pub no-bits : (b : StoreBytes) → cardAndKernelSupportOnDeviceCvm b ≡ true → findingsOf b .bits ≡ tvrBeforeCvm b

@@ -7,10 +7,10 @@ use Prim.Native.Nat.{ℕ, zero, suc, _%_}
 use lib.ListN.{getD}
 use Rattle.basics.specs.Types.{Byte, TvrBytes, Value}
 use Rattle.basics.specs.Choice.{if_then_else_, _and_, _or_, _=?_}
-use Rattle.analysis.specs.Bits.{numberedBit}
+use Rattle.analysis.specs.Bits.{hasBitCountedFromZeroAtByte1B8}
 use Rattle.analysis.specs.Digits.{isOneOf}
 use Rattle.store.specs.Place.{StoredValue, absent, present}
-use Rattle.analysis.specs.Value.{firstBytes}
+use Rattle.analysis.specs.Value.{firstBytesZeroPadded}
 use Rattle.analysis.specs.declared.choice.ActionCodes.{ActionCodes}
 use Rattle.analysis.specs.declared.choice.LowestBit.{LowestBit}
 use Rattle.analysis.specs.declared.choice.LowestBit.the-variants.{Bit, NoBit}
@@ -23,22 +23,23 @@ use Rattle.analysis.specs.declared.choice.Choice.the-variants.{Decline, 
 -- ---- the bit that a stage holds
 
 -- a stage holds bit i: the TVR has it, and so has the card's code or the terminal's
-unfoldable pub stageHoldsBit : TvrBytes → ActionCodes → ℕ → Bool
-stageHoldsBit result pair i = numberedBit result i and (numberedBit (pair .card) i or numberedBit (pair .terminal) i)
+unfoldable pub tvrBitIsInEitherActionCode : TvrBytes → ActionCodes → ℕ → Bool
+tvrBitIsInEitherActionCode result pair i =
+    hasBitCountedFromZeroAtByte1B8 result i and (hasBitCountedFromZeroAtByte1B8 (pair .card) i or hasBitCountedFromZeroAtByte1B8 (pair .terminal) i)
 
 -- the lowest of the n numbers from i on that passes a test
-unfoldable pub lowestFrom : (ℕ → Bool) → ℕ → ℕ → LowestBit
-lowestFrom f i zero = NoBit
-lowestFrom f i (suc n) = if f i then Bit i else lowestFrom f (suc i) n
+unfoldable pub lowestBitFrom : (ℕ → Bool) → ℕ → ℕ → LowestBit
+lowestBitFrom f i zero = NoBit
+lowestBitFrom f i (suc n) = if f i then Bit i else lowestBitFrom f (suc i) n
 
 -- the lowest bit, 0 to 39, that a stage holds, or none
-unfoldable pub lowestBit : TvrBytes → ActionCodes → LowestBit
-lowestBit result pair = lowestFrom (stageHoldsBit result pair) 0 40
+unfoldable pub lowestTvrBitInCodes : TvrBytes → ActionCodes → LowestBit
+lowestTvrBitInCodes result pair = lowestBitFrom (tvrBitIsInEitherActionCode result pair) 0 40
 
 -- there is such a bit
-abbrev pub someBit : LowestBit → Bool
-someBit (Bit i) = true
-someBit NoBit = false
+abbrev pub isSomeBit : LowestBit → Bool
+isSomeBit (Bit i) = true
+isSomeBit NoBit = false
 
 -- ---- the action codes
 
@@ -53,67 +54,68 @@ abbrev pub defaultStage : ℕ
 defaultStage = 2
 
 -- a code of zeros, and one of ones
-abbrev pub zeroCode : Value
-zeroCode = 0x00 ∷ 0x00 ∷ 0x00 ∷ 0x00 ∷ 0x00 ∷ []
+abbrev pub allZerosActionCode : Value
+allZerosActionCode = 0x00 ∷ 0x00 ∷ 0x00 ∷ 0x00 ∷ 0x00 ∷ []
 
-abbrev pub onesCode : Value
-onesCode = 0xFF ∷ 0xFF ∷ 0xFF ∷ 0xFF ∷ 0xFF ∷ []
+abbrev pub allOnesActionCode : Value
+allOnesActionCode = 0xFF ∷ 0xFF ∷ 0xFF ∷ 0xFF ∷ 0xFF ∷ []
 
 -- the card's code for a stage: an absent one is zeros for denial and ones for the others (Book C-2's ones end in FC;
 -- document 01 decides)
-unfoldable pub iacCode : ℕ → StoredValue → Value
-iacCode stage absent = if stage =? denialStage then zeroCode else onesCode
-iacCode stage (present s) = firstBytes 5 s
+unfoldable pub iacOrDefault : ℕ → StoredValue → Value
+iacOrDefault stage absent = if stage =? denialStage then allZerosActionCode else allOnesActionCode
+iacOrDefault stage (present s) = firstBytesZeroPadded 5 s
 
 -- the pair of a stage: the card's code, which may be absent, and the terminal's
 abbrev pub actionCodesAt : ℕ → StoredValue → Value → ActionCodes
-actionCodesAt stage card terminal = record { card = iacCode stage card; terminal = firstBytes 5 terminal }
+actionCodesAt stage card terminal =
+    record { card = iacOrDefault stage card; terminal = firstBytesZeroPadded 5 terminal }
 
 -- two codes of no bytes, where there is no such stage
 abbrev pub noActionCodes : ActionCodes
 noActionCodes = record { card = []; terminal = [] }
 
 -- a bit of the TVR is held at a stage
-unfoldable pub stageHolds : TvrBytes → List ActionCodes → ℕ → Bool
-stageHolds result pairs stage = someBit (lowestBit result (getD pairs stage noActionCodes))
+unfoldable pub someTvrBitInCodesOfStage : TvrBytes → List ActionCodes → ℕ → Bool
+someTvrBitInCodesOfStage result pairs stage = isSomeBit (lowestTvrBitInCodes result (getD pairs stage noActionCodes))
 
 -- ---- the choice
 
 -- what the last digit of the terminal type allows: 1 and 4 online only, 2 and 5 both, 3 and 6 offline only; no running
 -- session has a type with another ending
-unfoldable pub onlineCapabilityAt : ℕ → OnlineCapability
-onlineCapabilityAt digit =
+unfoldable pub onlineCapabilityByDigit : ℕ → OnlineCapability
+onlineCapabilityByDigit digit =
     if isOneOf digit 1 4 then OnlineOnly
     else if isOneOf digit 2 5 then OnlineCapable
     else if isOneOf digit 3 6 then OfflineOnly
     else Unlisted
 
 -- the terminal's type is two digits in a byte: the last one decides
-abbrev pub typeLastDigit : Byte → ℕ
-typeLastDigit kind = kind % 16
+abbrev pub terminalTypeLastDigit : Byte → ℕ
+terminalTypeLastDigit kind = kind % 16
 
 -- by the terminal's type
-abbrev pub onlineCapabilityOf : Byte → OnlineCapability
-onlineCapabilityOf kind = onlineCapabilityAt (typeLastDigit kind)
+abbrev pub onlineCapabilityOfType : Byte → OnlineCapability
+onlineCapabilityOfType kind = onlineCapabilityByDigit (terminalTypeLastDigit kind)
 
 -- what is requested, by the type and by whether a bit is held at denial, at online and at default; the rules leave an
 -- unlisted type open, and here it declines
-abbrev pub choiceBy : OnlineCapability → Bool → Bool → Bool → Choice
-choiceBy r             true  o     d     = Decline
-choiceBy OnlineOnly    false o     d     = Online
-choiceBy OfflineOnly   false o     true  = Decline
-choiceBy OfflineOnly   false o     false = Offline
-choiceBy OnlineCapable false true  d     = Online
-choiceBy OnlineCapable false false d     = Offline
-choiceBy Unlisted      false o     d     = Decline
+abbrev pub choiceByStages : OnlineCapability → Bool → Bool → Bool → Choice
+choiceByStages r             true  o     d     = Decline
+choiceByStages OnlineOnly    false o     d     = Online
+choiceByStages OfflineOnly   false o     true  = Decline
+choiceByStages OfflineOnly   false o     false = Offline
+choiceByStages OnlineCapable false true  d     = Online
+choiceByStages OnlineCapable false false d     = Offline
+choiceByStages Unlisted      false o     d     = Decline
 
 -- the choice from a TVR, terminal's type and pairs of codes
-unfoldable pub choiceOf : TvrBytes → Byte → List ActionCodes → Choice
-choiceOf result kind pairs =
-    choiceBy (onlineCapabilityOf kind)
-    (stageHolds result pairs denialStage)
-    (stageHolds result pairs onlineStage)
-    (stageHolds result pairs defaultStage)
+unfoldable pub terminalActionAnalysis : TvrBytes → Byte → List ActionCodes → Choice
+terminalActionAnalysis result kind pairs =
+    choiceByStages (onlineCapabilityOfType kind)
+    (someTvrBitInCodesOfStage result pairs denialStage)
+    (someTvrBitInCodesOfStage result pairs onlineStage)
+    (someTvrBitInCodesOfStage result pairs defaultStage)
 
 -- ---- its number
 
@@ -123,11 +125,11 @@ generateAcP1 Decline = 0x00
 generateAcP1 Offline = 0x40
 generateAcP1 Online = 0x80
 
--- the same rule with P1 itself, case by case: `generateAcP1For` is P1 of `choiceOf` (law `p1-is`)
+-- the same rule with P1 itself, case by case: `generateAcP1For` is P1 of `terminalActionAnalysis` (law `p1-is`)
 unfoldable pub generateAcP1For : TvrBytes → Byte → List ActionCodes → Byte
 generateAcP1For result kind pairs =
-    if stageHolds result pairs denialStage then 0x00
-    else if isOneOf (typeLastDigit kind) 1 4 then 0x80
-    else if isOneOf (typeLastDigit kind) 3 6 then (if stageHolds result pairs defaultStage then 0x00 else 0x40)
-    else if isOneOf (typeLastDigit kind) 2 5 then (if stageHolds result pairs onlineStage then 0x80 else 0x40)
+    if someTvrBitInCodesOfStage result pairs denialStage then 0x00
+    else if isOneOf (terminalTypeLastDigit kind) 1 4 then 0x80
+    else if isOneOf (terminalTypeLastDigit kind) 3 6 then (if someTvrBitInCodesOfStage result pairs defaultStage then 0x00 else 0x40)
+    else if isOneOf (terminalTypeLastDigit kind) 2 5 then (if someTvrBitInCodesOfStage result pairs onlineStage then 0x80 else 0x40)
     else 0x00

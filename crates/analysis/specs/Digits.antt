@@ -8,44 +8,44 @@ use lib.ListN.{drop}
 use Rattle.basics.specs.Types.{Amount, Bytes, Digits, Value}
 use Rattle.basics.specs.Choice.{if_then_else_, _or_, _<?_, _=?_}
 use Rattle.basics.specs.Number.{nibbles}
-use Rattle.analysis.specs.Value.{firstBytes}
+use Rattle.analysis.specs.Value.{firstBytesZeroPadded}
 
 -- a digit, or a type written in digits, is one of two
 abbrev pub isOneOf : ℕ → ℕ → ℕ → Bool
 isOneOf x a b = x =? a or x =? b
 
 -- the digits s appended to the number n
-unfoldable pub bcdFrom : ℕ → Digits → ℕ
-bcdFrom n [] = n
-bcdFrom n (d ∷ s) = bcdFrom (n * 10 + d) s
+unfoldable pub appendDecimalDigits : ℕ → Digits → ℕ
+appendDecimalDigits n [] = n
+appendDecimalDigits n (d ∷ s) = appendDecimalDigits (n * 10 + d) s
 
 -- bytes of two digits each as one decimal number, the first digit the highest
 abbrev pub bcdNumber : Bytes → ℕ
-bcdNumber s = bcdFrom 0 (nibbles s)
+bcdNumber s = appendDecimalDigits 0 (nibbles s)
 
 -- the two digits of a date's year
-abbrev pub yearDigits : Value → ℕ
-yearDigits s = bcdNumber (firstBytes 1 s)
+abbrev pub dateYearTwoDigits : Value → ℕ
+dateYearTwoDigits s = bcdNumber (firstBytesZeroPadded 1 s)
 
 -- the year of two digits: 00 to 49 are 2000 to 2049, 50 to 99 are 1950 to 1999
-unfoldable pub yearOf : ℕ → ℕ
-yearOf yy = if yy <? 50 then 2000 + yy else 1900 + yy
+unfoldable pub fourDigitYear : ℕ → ℕ
+fourDigitYear yy = if yy <? 50 then 2000 + yy else 1900 + yy
 
 -- a date, three bytes YYMMDD, as a number of eight digits, YYYYMMDD; month and day are not checked
-unfoldable pub dateOf : Value → ℕ
-dateOf s = yearOf (yearDigits s) * 10000 + bcdNumber (drop 1 (firstBytes 3 s))
+unfoldable pub dateAsNumber : Value → ℕ
+dateAsNumber s = fourDigitYear (dateYearTwoDigits s) * 10000 + bcdNumber (drop 1 (firstBytesZeroPadded 3 s))
 
 -- date a is later than date b; an equal one is not
-unfoldable pub dateLater : Value → Value → Bool
-dateLater a b = dateOf b <? dateOf a
+unfoldable pub firstDateIsLater : Value → Value → Bool
+firstDateIsLater a b = dateAsNumber b <? dateAsNumber a
 
 -- an amount, six bytes, as a number of twelve digits
 unfoldable pub amountOf : Value → Amount
-amountOf s = bcdNumber (firstBytes 6 s)
+amountOf s = bcdNumber (firstBytesZeroPadded 6 s)
 
 -- amount a is above amount b; an equal one is not
-unfoldable pub amountAbove : Value → Value → Bool
-amountAbove a b = amountOf b <? amountOf a
+unfoldable pub firstAmountIsAbove : Value → Value → Bool
+firstAmountIsAbove a b = amountOf b <? amountOf a
 
 -- ---- what holds of it, proved in proofs/Decimal
 --   one-century    on dates whose years are both 00 to 49, or both not, the later one has the greater six digits:

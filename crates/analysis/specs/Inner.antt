@@ -10,7 +10,7 @@ use Prim.Native.Nat.{ℕ, _+_, _-_, _*_, _/_, _%_}
 use lib.ListN.{getD}
 use Rattle.basics.specs.Types.{Byte, Bytes, Offset}
 use Rattle.basics.specs.Choice.{if_then_else_, _and_, _or_, _<?_, _=?_}
-use Rattle.analysis.specs.Bits.{byteBit}
+use Rattle.analysis.specs.Bits.{byteHasBit}
 use Rattle.analysis.specs.Choice.{denialStage, onlineStage, defaultStage}
 use Rattle.analysis.specs.Digits.{bcdNumber}
 use Rattle.analysis.specs.declared.cvm.CvmConditions.{CvmConditions}
@@ -33,38 +33,39 @@ bcdThreeBytes s i = bcdNumber (getD s i 0 ∷ getD s (i + 1) 0 ∷ getD s (i + 2
 -- ---- the bits of a byte
 
 -- bit k of a byte of the TVR is in the card's code or the terminal's: 0 is b8, 7 is b1
-unfoldable pub bitHeldIn : Byte → Byte → Byte → ℕ → Bool
-bitHeldIn result card terminal k = byteBit result (8 - k) and (byteBit card (8 - k) or byteBit terminal (8 - k))
+unfoldable pub tvrByteBitInCodes : Byte → Byte → Byte → ℕ → Bool
+tvrByteBitInCodes result card terminal k =
+    byteHasBit result (8 - k) and (byteHasBit card (8 - k) or byteHasBit terminal (8 - k))
 
 -- ---- the choice, stage by stage
 
 -- the stage that a type consults after denial
-abbrev pub laterStage : OnlineCapability → ℕ → Bool
-laterStage OnlineOnly stage = false
-laterStage OnlineCapable stage = stage =? onlineStage
-laterStage OfflineOnly stage = stage =? defaultStage
-laterStage Unlisted stage = false
+abbrev pub consultedAfterDenial : OnlineCapability → ℕ → Bool
+consultedAfterDenial OnlineOnly stage = false
+consultedAfterDenial OnlineCapable stage = stage =? onlineStage
+consultedAfterDenial OfflineOnly stage = stage =? defaultStage
+consultedAfterDenial Unlisted stage = false
 
 -- a stage is consulted: denial by every type
 abbrev pub stageConsulted : OnlineCapability → ℕ → Bool
-stageConsulted r stage = stage =? denialStage or laterStage r stage
+stageConsulted r stage = stage =? denialStage or consultedAfterDenial r stage
 
 -- what a bit held at a stage forces
-abbrev pub forcedChoice : ℕ → Choice
-forcedChoice stage = if stage =? onlineStage then Online else Decline
+abbrev pub choiceForcedAtStage : ℕ → Choice
+choiceForcedAtStage stage = if stage =? onlineStage then Online else Decline
 
 -- what is requested where no stage that is consulted holds a bit
-abbrev pub unforcedChoice : OnlineCapability → Choice
-unforcedChoice OnlineOnly = Online
-unforcedChoice OnlineCapable = Offline
-unforcedChoice OfflineOnly = Offline
-unforcedChoice Unlisted = Decline
+abbrev pub choiceWithoutForcingBit : OnlineCapability → Choice
+choiceWithoutForcingBit OnlineOnly = Online
+choiceWithoutForcingBit OnlineCapable = Offline
+choiceWithoutForcingBit OfflineOnly = Offline
+choiceWithoutForcingBit Unlisted = Decline
 
 -- ---- the conditions of the CVM List
 
 -- the amount is under or over X or Y, by the code of the condition
-abbrev pub cvmAmountMet : CvmConditions → Byte → Bool
-cvmAmountMet t condition =
+abbrev pub cvmAmountConditionMet : CvmConditions → Byte → Bool
+cvmAmountConditionMet t condition =
     if condition =? 6 then t .amount <? t .x
     else if condition =? 7 then t .x <? t .amount
     else if condition =? 8 then t .amount <? t .y

@@ -4,16 +4,16 @@
 use mathlib.Core.List.{[], _∷_}
 use Prim.Native.Nat.{_+_}
 use Rattle.basics.specs.Types.{Byte, TvrBytes, Value}
-use Rattle.analysis.specs.Bits.{bitWeight}
-use Rattle.analysis.specs.Digits.{amountAbove}
+use Rattle.analysis.specs.Bits.{bitWeightIfSet}
+use Rattle.analysis.specs.Digits.{firstAmountIsAbove}
 
 -- byte 4: b8, the amount 9F02 is above the floor limit DF8123
-abbrev pub tvrByte4 : Value → Value → Byte
-tvrByte4 amount limit = bitWeight 8 (amountAbove amount limit)
+abbrev pub tvrByte4AmountAboveFloorLimit : Value → Value → Byte
+tvrByte4AmountAboveFloorLimit amount limit = bitWeightIfSet 8 (firstAmountIsAbove amount limit)
 
 -- byte 1 has b8 alone, byte 2 the restrictions, byte 4 the floor limit
-abbrev pub tvrFrom : Byte → Byte → TvrBytes
-tvrFrom restrictions floor = 0x80 ∷ restrictions ∷ 0 ∷ floor ∷ 0 ∷ []
+abbrev pub tvrFromBytes2And4 : Byte → Byte → TvrBytes
+tvrFromBytes2And4 restrictions floor = 0x80 ∷ restrictions ∷ 0 ∷ floor ∷ 0 ∷ []
 
 -- bits added to a TVR that has none of them, byte by byte
 unfoldable pub tvrWithBits : TvrBytes → TvrBytes → TvrBytes

@@ -7,12 +7,12 @@ use Rattle.basics.specs.Types.{Bytes, Length, Value}
 use Rattle.store.specs.Place.{StoredValue, absent, present}
 
 -- a value as a flag and bytes, which count only where the flag is set
-abbrev pub valueIf : Bool → Value → StoredValue
-valueIf true s = present s
-valueIf false s = absent
+abbrev pub storedValueIf : Bool → Value → StoredValue
+storedValueIf true s = present s
+storedValueIf false s = absent
 
 -- the first n bytes, with zeros past the end
-unfoldable pub firstBytes : Length → Value → Bytes
-firstBytes zero s = []
-firstBytes (suc n) [] = 0 ∷ firstBytes n []
-firstBytes (suc n) (x ∷ s) = x ∷ firstBytes n s
+unfoldable pub firstBytesZeroPadded : Length → Value → Bytes
+firstBytesZeroPadded zero s = []
+firstBytesZeroPadded (suc n) [] = 0 ∷ firstBytesZeroPadded n []
+firstBytesZeroPadded (suc n) (x ∷ s) = x ∷ firstBytesZeroPadded n s

@@ -3,13 +3,13 @@ ghost use mathlib.Core.Path.{_≡_};
 ghost use Prim.Native.Nat.{_<_, _≤_};
 ghost use lib.ListN.{drop};
 ghost use Rattle.basics.specs.Choice.{if};
-ghost use Rattle.basics.specs.Number.{bigEndian};
-ghost use Rattle.analysis.specs.Bits.{byteBit, valueHasBit as bitOf};
-ghost use Rattle.analysis.specs.Value.{firstBytes};
+ghost use Rattle.basics.specs.Number.{bigEndianNumber};
+ghost use Rattle.analysis.specs.Bits.{byteHasBit, valueHasBit as bitOf};
+ghost use Rattle.analysis.specs.Value.{firstBytesZeroPadded};
 
 // A value as five bytes: its first five, with zeros past the end.
-pub fn five(s: &[u8]) -> [u8; 5]
-    ensures { λ r. ⌜ r ≡ firstBytes 5 (now (s .entry)) ⌝ }
+pub fn first_five_bytes(s: &[u8]) -> [u8; 5]
+    ensures { λ r. ⌜ r ≡ firstBytesZeroPadded 5 (now (s .entry)) ⌝ }
 {
     [
         basics::byte_at(s, 0),
@@ -21,9 +21,9 @@ pub fn five(s: &[u8]) -> [u8; 5]
 }
 
 // The four bytes from place i on, counted from 0, as one number, high byte first; bytes past the end are 0.
-pub fn number_at(s: &[u8], i: usize) -> u64
+pub fn four_byte_number_at(s: &[u8], i: usize) -> u64
     requires { ⌜ i ≤ 4 ⌝ }
-    ensures { λ r. ⌜ r ≡ bigEndian (firstBytes 4 (drop i (now (s .entry)))) ⌝ }
+    ensures { λ r. ⌜ r ≡ bigEndianNumber (firstBytesZeroPadded 4 (drop i (now (s .entry)))) ⌝ }
 {
     let a = basics::widen32(basics::byte_at(s, i)) as u64;
     let b = basics::widen32(basics::byte_at(s, i + 1)) as u64;
@@ -33,23 +33,23 @@ pub fn number_at(s: &[u8], i: usize) -> u64
 }
 
 // Bit b of byte n of a value, the first byte 1.
-pub fn has(s: &[u8], n: usize, b: usize) -> bool
+pub fn value_has_bit(s: &[u8], n: usize, b: usize) -> bool
     requires { ⌜ (0 < n) × ((0 < b) × (b ≤ 8)) ⌝ }
     ensures { λ r. ⌜ r ≡ bitOf (now (s .entry)) n b ⌝ }
 {
-    bit(basics::byte_at(s, n - 1), b)
+    byte_has_bit(basics::byte_at(s, n - 1), b)
 }
 
 // Bit b of a byte, b8 the highest and b1 the lowest.
-pub fn bit(x: u8, b: usize) -> bool
+pub fn byte_has_bit(x: u8, b: usize) -> bool
     requires { ⌜ (0 < b) × (b ≤ 8) ⌝ }
-    ensures { λ r. ⌜ r ≡ byteBit x b ⌝ }
+    ensures { λ r. ⌜ r ≡ byteHasBit x b ⌝ }
 {
     (x >> (b - 1)) % 2 == 1
 }
 
 // What a bit adds to its byte where it is set.
-pub fn bit_weight(set: bool, weight: u8) -> u8
+pub fn weight_if_set(set: bool, weight: u8) -> u8
     ensures { λ r. ⌜ (r ≡ if set weight 0) × (r ≤ weight) ⌝ }
 {
     if set { weight } else { 0 }

@@ -2,9 +2,9 @@
 use crate::byte;
 ghost use mathlib.Core.Path.{_≡_};
 ghost use Prim.Native.Nat.{_<_};
-ghost use Rattle.analysis.specs.Value.{valueIf};
-ghost use Rattle.analysis.specs.Choice.{lowestFrom, lowestBit, onlineCapabilityOf, choiceOf, generateAcP1, generateAcP1For, iacCode, actionCodesAt};
-ghost use Rattle.analysis.specs.Inner.{bitHeldIn, stageConsulted as isConsulted, forcedChoice, unforcedChoice};
+ghost use Rattle.analysis.specs.Value.{storedValueIf};
+ghost use Rattle.analysis.specs.Choice.{lowestBitFrom, lowestTvrBitInCodes, onlineCapabilityOfType, terminalActionAnalysis, generateAcP1, generateAcP1For, iacOrDefault, actionCodesAt};
+ghost use Rattle.analysis.specs.Inner.{tvrByteBitInCodes, stageConsulted as isConsulted, choiceForcedAtStage, choiceWithoutForcingBit};
 
 // The action codes of a stage, five bytes each.
 pub struct ActionCodes {
@@ -41,10 +41,10 @@ pub const DEFAULT: usize = 2;
 
 // The pair of a stage, from the card's code, which counts only where it is present, and the terminal's.
 pub fn action_codes(stage: usize, there: bool, card: &[u8], terminal: &[u8]) -> ActionCodes
-    ensures { λ r. ⌜ r ≡ actionCodesAt stage (valueIf there (now (card .entry))) (now (terminal .entry)) ⌝ }
+    ensures { λ r. ⌜ r ≡ actionCodesAt stage (storedValueIf there (now (card .entry))) (now (terminal .entry)) ⌝ }
 {
-    let c = iac_code(stage, there, card);
-    let t = byte::five(terminal);
+    let c = iac_or_default(stage, there, card);
+    let t = byte::first_five_bytes(terminal);
     ActionCodes {
         card: c,
         terminal: t,
@@ -52,11 +52,11 @@ pub fn action_codes(stage: usize, there: bool, card: &[u8], terminal: &[u8]) -> 
 }
 
 // The card's code of a stage. An absent one is zeros for denial and ones for the others.
-pub fn iac_code(stage: usize, there: bool, code: &[u8]) -> [u8; 5]
-    ensures { λ r. ⌜ r ≡ iacCode stage (valueIf there (now (code .entry))) ⌝ }
+pub fn iac_or_default(stage: usize, there: bool, code: &[u8]) -> [u8; 5]
+    ensures { λ r. ⌜ r ≡ iacOrDefault stage (storedValueIf there (now (code .entry))) ⌝ }
 {
     if there {
-        return byte::five(code);
+        return byte::first_five_bytes(code);
     }
     if stage == DENIAL {
         return [0; 5];
@@ -65,16 +65,16 @@ pub fn iac_code(stage: usize, there: bool, code: &[u8]) -> [u8; 5]
 }
 
 // The choice: the first stage that the type consults and that holds a bit forces it, and else the type alone gives it.
-pub fn choose(bits: [u8; 5], kind: u8, pairs: [ActionCodes; 3]) -> Choice
-    ensures choice { λ r. ⌜ r ≡ choiceOf bits kind pairs ⌝ }
+pub fn terminal_action_analysis(bits: [u8; 5], kind: u8, pairs: [ActionCodes; 3]) -> Choice
+    ensures choice { λ r. ⌜ r ≡ terminalActionAnalysis bits kind pairs ⌝ }
     ensures number { λ r. ⌜ generateAcP1 r ≡ generateAcP1For bits kind pairs ⌝ }
 {
-    let capability = capability_of(kind);
+    let capability = online_capability_of_type(kind);
     let mut stage = 0;
     while stage < 3 {
         if consulted(capability, stage) {
             let pair = pairs[stage];
-            if let LowestBit::Bit(_) = stage_bit(bits, pair) {
+            if let LowestBit::Bit(_) = lowest_tvr_bit_in_codes(bits, pair) {
                 return forced(stage);
             }
         }
@@ -84,8 +84,8 @@ pub fn choose(bits: [u8; 5], kind: u8, pairs: [ActionCodes; 3]) -> Choice
 }
 
 // The lowest TVR bit, 0 to 39, that the card's code or the terminal's has.
-pub fn stage_bit(bits: [u8; 5], pair: ActionCodes) -> LowestBit
-    ensures { λ r. ⌜ r ≡ lowestBit bits pair ⌝ }
+pub fn lowest_tvr_bit_in_codes(bits: [u8; 5], pair: ActionCodes) -> LowestBit
+    ensures { λ r. ⌜ r ≡ lowestTvrBitInCodes bits pair ⌝ }
 {
     let card = pair.card;
     let terminal = pair.terminal;
@@ -101,7 +101,7 @@ pub fn stage_bit(bits: [u8; 5], pair: ActionCodes) -> LowestBit
 
 // The same within a byte: 0 is b8 and 7 is b1.
 fn byte_bit(result: u8, card: u8, terminal: u8) -> LowestBit
-    ensures { λ r. ⌜ r ≡ lowestFrom (bitHeldIn result card terminal) 0 8 ⌝ }
+    ensures { λ r. ⌜ r ≡ lowestBitFrom (tvrByteBitInCodes result card terminal) 0 8 ⌝ }
 {
     if result == 0 {
         return LowestBit::NoBit;
@@ -119,20 +119,20 @@ fn byte_bit(result: u8, card: u8, terminal: u8) -> LowestBit
 // Bit k of the TVR is in the card's code or the terminal's.
 fn holds_bit(result: u8, card: u8, terminal: u8, k: usize) -> bool
     requires { ⌜ k < 8 ⌝ }
-    ensures { λ r. ⌜ r ≡ bitHeldIn result card terminal k ⌝ }
+    ensures { λ r. ⌜ r ≡ tvrByteBitInCodes result card terminal k ⌝ }
 {
     let b = 8 - k;
-    if !byte::bit(result, b) {
+    if !byte::byte_has_bit(result, b) {
         return false;
     }
-    if byte::bit(card, b) {
+    if byte::byte_has_bit(card, b) {
         return true;
     }
-    byte::bit(terminal, b)
+    byte::byte_has_bit(terminal, b)
 }
 
 // P1 of the command that requests the choice.
-pub fn p1(choice: Choice) -> u8
+pub fn generate_ac_p1(choice: Choice) -> u8
     ensures { λ r. ⌜ r ≡ generateAcP1 choice ⌝ }
 {
     match choice {
@@ -143,8 +143,8 @@ pub fn p1(choice: Choice) -> u8
 }
 
 // A type ends in 1 or 4: online only; 2 or 5: online capable; 3 or 6: offline only.
-pub fn capability_of(kind: u8) -> OnlineCapability
-    ensures { λ r. ⌜ r ≡ onlineCapabilityOf kind ⌝ }
+pub fn online_capability_of_type(kind: u8) -> OnlineCapability
+    ensures { λ r. ⌜ r ≡ onlineCapabilityOfType kind ⌝ }
 {
     let ending = kind % 16;
     match ending {
@@ -172,7 +172,7 @@ fn consulted(capability: OnlineCapability, stage: usize) -> bool
 
 // What a bit held at a stage forces.
 fn forced(stage: usize) -> Choice
-    ensures { λ r. ⌜ r ≡ forcedChoice stage ⌝ }
+    ensures { λ r. ⌜ r ≡ choiceForcedAtStage stage ⌝ }
 {
     if stage == ONLINE {
         Choice::Online
@@ -183,7 +183,7 @@ fn forced(stage: usize) -> Choice
 
 // What is requested where no bit forces it. The rules leave an unlisted type open: it declines.
 fn unforced(capability: OnlineCapability) -> Choice
-    ensures { λ r. ⌜ r ≡ unforcedChoice capability ⌝ }
+    ensures { λ r. ⌜ r ≡ choiceWithoutForcingBit capability ⌝ }
 {
     match capability {
         OnlineCapability::OnlineOnly => Choice::Online,

@@ -3,11 +3,11 @@
 use crate::byte;
 ghost use mathlib.Core.Path.{_≡_};
 ghost use mathlib.Core.Bool.{false};
-ghost use Rattle.analysis.specs.Value.{valueIf};
-ghost use Rattle.analysis.specs.Cvm.{cvmNumber, cvmRecognised as isRecognised, cvmSupported as isSupported, cvmPerformed, cvmConditionMet as isMet};
-ghost use Rattle.analysis.specs.Inner.{cvmAmountMet};
-ghost use Rattle.analysis.specs.Cvm.{cvmRulesFrom, cvmSuccessful as takenBy, noCvmPerformed, cvmUnsuccessful as unsuccessfulBy, nextCvmApplies, cvmNotPerformed, byCvmRules, cvmProcessing};
-ghost use Rattle.analysis.specs.Cvm.{onDeviceCvm, onDeviceResult};
+ghost use Rattle.analysis.specs.Value.{storedValueIf};
+ghost use Rattle.analysis.specs.Cvm.{cvmNumber, cvmRecognised as isRecognised, cvmSupported as isSupported, cvmSupportedNotFail, cvmConditionMet as isMet};
+ghost use Rattle.analysis.specs.Inner.{cvmAmountConditionMet};
+ghost use Rattle.analysis.specs.Cvm.{cvmRulesFromPairs, cvmResultOfSupported as takenBy, cvmResultNoRuleSucceeded, cvmResultOfUnsuccessful as unsuccessfulBy, nextCvmRuleApplies, cvmResultNotPerformed, cvmResultByRules, cvmProcessing};
+ghost use Rattle.analysis.specs.Cvm.{aipAndConfigurationSupportOnDeviceCvm, onDeviceCvmResultByAboveLimit};
 
 // The CVMs that the outcome carries.
 pub enum Cvm {
@@ -88,9 +88,9 @@ pub fn cvm_number(cvm: Cvm) -> u8
 
 // By byte 1 of the AIP (82), the CVM List (8E), which counts only where it is present, and the terms.
 pub fn perform_cvm(aip: u8, there: bool, list: &[u8], terms: CvmConditions) -> CvmResult
-    ensures { λ r. ⌜ r ≡ cvmProcessing aip (valueIf there (now (list .entry))) terms ⌝ }
+    ensures { λ r. ⌜ r ≡ cvmProcessing aip (storedValueIf there (now (list .entry))) terms ⌝ }
 {
-    if !byte::bit(aip, 5) {
+    if !byte::byte_has_bit(aip, 5) {
         return cvm_not_performed(false);
     }
     if !there {
@@ -106,15 +106,15 @@ pub fn perform_cvm(aip: u8, there: bool, list: &[u8], terms: CvmConditions) -> C
 }
 
 // A device with on-device CVM: b2 of byte 1 of the AIP (82), and b6 of the kernel configuration DF811B.
-pub fn is_on_device(aip: u8, configuration: u8) -> bool
-    ensures { λ r. ⌜ r ≡ onDeviceCvm aip configuration ⌝ }
+pub fn supports_on_device_cvm(aip: u8, configuration: u8) -> bool
+    ensures { λ r. ⌜ r ≡ aipAndConfigurationSupportOnDeviceCvm aip configuration ⌝ }
 {
-    byte::bit(aip, 2) & byte::bit(configuration, 6)
+    byte::byte_has_bit(aip, 2) & byte::byte_has_bit(configuration, 6)
 }
 
 // What on-device CVM has verified, by whether the amount is above the Reader CVM Required Limit.
-pub fn on_device_cvm(above: bool) -> CvmResult
-    ensures { λ r. ⌜ r ≡ onDeviceResult above ⌝ }
+pub fn on_device_cvm_result(above: bool) -> CvmResult
+    ensures { λ r. ⌜ r ≡ onDeviceCvmResultByAboveLimit above ⌝ }
 {
     if above {
         return CvmResult { code: CVM_PLAINTEXT_PIN, condition: ALWAYS, result: RESULT_SUCCESSFUL, tvr1: 0, tvr3: 0, cvm: Cvm::ConfirmationCode };
@@ -124,15 +124,15 @@ pub fn on_device_cvm(above: bool) -> CvmResult
 
 // No verification is requested, since the card does not support it or its CVM List is missing.
 fn cvm_not_performed(missing: bool) -> CvmResult
-    ensures { λ r. ⌜ r ≡ cvmNotPerformed missing ⌝ }
+    ensures { λ r. ⌜ r ≡ cvmResultNotPerformed missing ⌝ }
 {
-    let tvr1 = byte::bit_weight(missing, 0x20);
+    let tvr1 = byte::weight_if_set(missing, 0x20);
     CvmResult { code: CODE_NOT_PERFORMED, condition: ALWAYS, result: RESULT_UNKNOWN, tvr1, tvr3: 0, cvm: Cvm::NoCvm }
 }
 
 // Rule after rule, each of two bytes.
 fn by_cvm_rules(rules: &[u8], terms: CvmConditions) -> CvmResult
-    ensures { λ r. ⌜ r ≡ byCvmRules terms false (cvmRulesFrom (now (rules .entry))) ⌝ }
+    ensures { λ r. ⌜ r ≡ cvmResultByRules terms false (cvmRulesFromPairs (now (rules .entry))) ⌝ }
 {
     let mut rest = rules;
     let mut unrecognised = false;
@@ -155,12 +155,12 @@ fn by_cvm_rules(rules: &[u8], terms: CvmConditions) -> CvmResult
 
 // The next rule follows an unsuccessful one: b7 of the code indicates so, and there is one.
 fn next_cvm_applies(code: u8, rest: &[u8]) -> bool
-    ensures { λ r. ⌜ r ≡ nextCvmApplies code (cvmRulesFrom (now (rest .entry))) ⌝ }
+    ensures { λ r. ⌜ r ≡ nextCvmRuleApplies code (cvmRulesFromPairs (now (rest .entry))) ⌝ }
 {
     if rest.len() < 2 {
         return false;
     }
-    byte::bit(code, 7)
+    byte::byte_has_bit(code, 7)
 }
 
 // The condition of a rule is understood, has its data, and is true.
@@ -180,7 +180,7 @@ fn cvm_condition_met(terms: CvmConditions, code: u8, condition: u8) -> bool
 
 // The amount is under or over X or Y.
 fn cvm_amount_met(terms: CvmConditions, condition: u8) -> bool
-    ensures { λ r. ⌜ r ≡ cvmAmountMet terms condition ⌝ }
+    ensures { λ r. ⌜ r ≡ cvmAmountConditionMet terms condition ⌝ }
 {
     match condition {
         UNDER_X => terms.amount < terms.x,
@@ -198,20 +198,20 @@ fn cvm_supported(capabilities: u8, code: u8) -> bool
     let cvm = code % 64;
     match cvm {
         CVM_FAIL => true,
-        CVM_PLAINTEXT_PIN => byte::bit(capabilities, 8),
-        CVM_ONLINE_PIN => byte::bit(capabilities, 7),
-        CVM_PLAINTEXT_PIN_AND_SIGNATURE => byte::bit(capabilities, 8) & byte::bit(capabilities, 6),
-        CVM_ENCIPHERED_PIN => byte::bit(capabilities, 5),
-        CVM_ENCIPHERED_PIN_AND_SIGNATURE => byte::bit(capabilities, 5) & byte::bit(capabilities, 6),
-        CVM_SIGNATURE => byte::bit(capabilities, 6),
-        CVM_NO_CVM => byte::bit(capabilities, 4),
+        CVM_PLAINTEXT_PIN => byte::byte_has_bit(capabilities, 8),
+        CVM_ONLINE_PIN => byte::byte_has_bit(capabilities, 7),
+        CVM_PLAINTEXT_PIN_AND_SIGNATURE => byte::byte_has_bit(capabilities, 8) & byte::byte_has_bit(capabilities, 6),
+        CVM_ENCIPHERED_PIN => byte::byte_has_bit(capabilities, 5),
+        CVM_ENCIPHERED_PIN_AND_SIGNATURE => byte::byte_has_bit(capabilities, 5) & byte::byte_has_bit(capabilities, 6),
+        CVM_SIGNATURE => byte::byte_has_bit(capabilities, 6),
+        CVM_NO_CVM => byte::byte_has_bit(capabilities, 4),
         _ => false,
     }
 }
 
 // A CVM that is supported, and not fail.
 fn cvm_performed(capabilities: u8, code: u8) -> bool
-    ensures { λ r. ⌜ r ≡ cvmPerformed capabilities code ⌝ }
+    ensures { λ r. ⌜ r ≡ cvmSupportedNotFail capabilities code ⌝ }
 {
     cvm_supported(capabilities, code) & (code % 64 != CVM_FAIL)
 }
@@ -229,7 +229,7 @@ fn cvm_successful(code: u8, condition: u8, unrecognised: bool) -> CvmResult
     ensures { λ r. ⌜ r ≡ takenBy code condition unrecognised ⌝ }
 {
     let cvm = code % 64;
-    let bits = byte::bit_weight(unrecognised, 0x40);
+    let bits = byte::weight_if_set(unrecognised, 0x40);
     match cvm {
         CVM_ONLINE_PIN => CvmResult { code, condition, result: RESULT_UNKNOWN, tvr1: 0, tvr3: bits + 0x04, cvm: Cvm::OnlinePin },
         CVM_SIGNATURE => CvmResult { code, condition, result: RESULT_UNKNOWN, tvr1: 0, tvr3: bits, cvm: Cvm::Signature },
@@ -243,7 +243,7 @@ fn cvm_unsuccessful(code: u8, condition: u8, unrecognised: bool) -> CvmResult
     ensures { λ r. ⌜ r ≡ unsuccessfulBy code condition unrecognised ⌝ }
 {
     if code % 64 == CVM_FAIL {
-        let tvr3 = 0x80 + byte::bit_weight(unrecognised, 0x40);
+        let tvr3 = 0x80 + byte::weight_if_set(unrecognised, 0x40);
         return CvmResult { code, condition, result: RESULT_FAILED, tvr1: 0, tvr3, cvm: Cvm::NoCvm };
     }
     no_cvm_performed(unrecognised)
@@ -251,8 +251,8 @@ fn cvm_unsuccessful(code: u8, condition: u8, unrecognised: bool) -> CvmResult
 
 // No rule was taken.
 fn no_cvm_performed(unrecognised: bool) -> CvmResult
-    ensures { λ r. ⌜ r ≡ noCvmPerformed unrecognised ⌝ }
+    ensures { λ r. ⌜ r ≡ cvmResultNoRuleSucceeded unrecognised ⌝ }
 {
-    let tvr3 = 0x80 + byte::bit_weight(unrecognised, 0x40);
+    let tvr3 = 0x80 + byte::weight_if_set(unrecognised, 0x40);
     CvmResult { code: CODE_NOT_PERFORMED, condition: ALWAYS, result: RESULT_FAILED, tvr1: 0, tvr3, cvm: Cvm::NoCvm }
 }

@@ -1,27 +1,27 @@
 // Dates and amounts, two digits to a byte, compared as decimal numbers.
 ghost use mathlib.Core.Path.{_≡_};
 ghost use Prim.Native.Nat.{_≤_};
-ghost use Rattle.analysis.specs.Digits.{yearOf, dateOf, dateLater, amountOf, amountAbove};
+ghost use Rattle.analysis.specs.Digits.{fourDigitYear, dateAsNumber, firstDateIsLater, amountOf, firstAmountIsAbove};
 ghost use Rattle.analysis.specs.Inner.{bcdByte, bcdThreeBytes};
 
 // Date a, YYMMDD, is later than date b, by years from 1950 to 2049. Of each the first three bytes count, and bytes past
 // the end are 0.
-pub fn later(a: &[u8], b: &[u8]) -> bool
-    ensures { λ r. ⌜ r ≡ dateLater (now (a .entry)) (now (b .entry)) ⌝ }
+pub fn first_date_is_later(a: &[u8], b: &[u8]) -> bool
+    ensures { λ r. ⌜ r ≡ firstDateIsLater (now (a .entry)) (now (b .entry)) ⌝ }
 {
     date_of(b) < date_of(a)
 }
 
 // Amount a is above amount b; an equal one is not. Of each the first six bytes count, and bytes past the end are 0.
-pub fn above(a: &[u8], b: &[u8]) -> bool
-    ensures { λ r. ⌜ r ≡ amountAbove (now (a .entry)) (now (b .entry)) ⌝ }
+pub fn first_amount_is_above(a: &[u8], b: &[u8]) -> bool
+    ensures { λ r. ⌜ r ≡ firstAmountIsAbove (now (a .entry)) (now (b .entry)) ⌝ }
 {
     amount_of(b) < amount_of(a)
 }
 
 // The eight digits of a date, YYYYMMDD.
 fn date_of(s: &[u8]) -> u64
-    ensures { λ r. ⌜ r ≡ dateOf (now (s .entry)) ⌝ }
+    ensures { λ r. ⌜ r ≡ dateAsNumber (now (s .entry)) ⌝ }
 {
     let year = year_of(two_digits(basics::byte_at(s, 0)));
     let month = two_digits(basics::byte_at(s, 1));
@@ -32,7 +32,7 @@ fn date_of(s: &[u8]) -> u64
 // The year of two digits: 00 to 49 are of this century.
 fn year_of(year: u64) -> u64
     requires { ⌜ year ≤ 165 ⌝ }
-    ensures { λ r. ⌜ (r ≡ yearOf year) × (r ≤ 2065) ⌝ }
+    ensures { λ r. ⌜ (r ≡ fourDigitYear year) × (r ≤ 2065) ⌝ }
 {
     if year < 50 {
         return 2000 + year;

@@ -6,5 +6,5 @@ use Prim.Native.Nat.{ℕ}
 use lib.ListN.{length, drop}
 
 -- the bytes v at the front of the slice l: those after v stay
-abbrev pub withPrefix : List ℕ → List ℕ → List ℕ
-withPrefix v l = v ++ drop (length v) l
+abbrev pub writtenOverFront : List ℕ → List ℕ → List ℕ
+writtenOverFront v l = v ++ drop (length v) l

@@ -6,13 +6,13 @@ use Prim.Native.Nat.{ℕ, _+_, _*_, _/_, _%_}
 use Rattle.basics.specs.Choice.{_and_, _≤?_, _=?_}
 
 -- the bytes s appended to the number n, high byte first
-unfoldable pub bigEndianFrom : ℕ → List ℕ → ℕ
-bigEndianFrom n [] = n
-bigEndianFrom n (b ∷ s) = bigEndianFrom (n * 256 + b) s
+unfoldable pub appendBigEndianBytes : ℕ → List ℕ → ℕ
+appendBigEndianBytes n [] = n
+appendBigEndianBytes n (b ∷ s) = appendBigEndianBytes (n * 256 + b) s
 
 -- bytes as one number, high byte first
-abbrev pub bigEndian : List ℕ → ℕ
-bigEndian s = bigEndianFrom 0 s
+abbrev pub bigEndianNumber : List ℕ → ℕ
+bigEndianNumber s = appendBigEndianBytes 0 s
 
 -- each byte's high digit and then its low one
 unfoldable pub nibbles : List ℕ → List ℕ
@@ -20,8 +20,8 @@ nibbles [] = []
 nibbles (b ∷ s) = b / 16 ∷ b % 16 ∷ nibbles s
 
 -- the bit of weight 1, 2, 4, .. 128 of a byte is set
-abbrev pub hasBit : ℕ → ℕ → Bool
-hasBit b weight = b / weight % 2 =? 1
+abbrev pub hasBitOfWeight : ℕ → ℕ → Bool
+hasBitOfWeight b weight = b / weight % 2 =? 1
 
 -- a number lies between two others, inclusive
 abbrev pub between : ℕ → ℕ → ℕ → Bool

@@ -7,28 +7,28 @@ use Rattle.basics.specs.Choice.{if_then_else_}
 -- ---- refusals, by their numbers; they are checked in the order 22, 25, 21 and, of start bytes, 20, 23, 24
 
 -- more than 1,024 start bytes, or other than whole primitive objects
-abbrev pub refusedBytes : ℕ
-refusedBytes = 20
+abbrev pub refusalBadStartBytes : ℕ
+refusalBadStartBytes = 20
 
 -- a start once the session has begun, or another call before it has or after its end
-abbrev pub refusedPhase : ℕ
-refusedPhase = 21
+abbrev pub refusalWrongPhase : ℕ
+refusalWrongPhase = 21
 
 -- the command buffer has no room for the longest command
-abbrev pub refusedBuffer : ℕ
-refusedBuffer = 22
+abbrev pub refusalBufferTooSmall : ℕ
+refusalBufferTooSmall = 22
 
 -- a known object that is not a start's, does not fit its row or comes again; or a terminal type outside the list
-abbrev pub refusedObject : ℕ
-refusedObject = 23
+abbrev pub refusalBadStartObject : ℕ
+refusalBadStartObject = 23
 
 -- a mandatory object of a start is missing
-abbrev pub refusedAbsent : ℕ
-refusedAbsent = 24
+abbrev pub refusalRequiredObjectAbsent : ℕ
+refusalRequiredObjectAbsent = 24
 
 -- the session record is out of its ranges
-abbrev pub refusedRanges : ℕ
-refusedRanges = 25
+abbrev pub refusalRecordOutOfRanges : ℕ
+refusalRecordOutOfRanges = 25
 
 -- ---- reasons
 
@@ -37,36 +37,36 @@ abbrev pub reasonNone : ℕ
 reasonNone = 0
 
 -- the status of the card is not 90 00
-abbrev pub reasonStatus : ℕ
-reasonStatus = 1
+abbrev pub reasonStatusNot9000 : ℕ
+reasonStatusNot9000 = 1
 
 -- an answer of wrong length, encoding, outer tag or body
 abbrev pub reasonMalformed : ℕ
 reasonMalformed = 2
 
 -- an object that the card may not set so
-abbrev pub reasonNotAllowed : ℕ
-reasonNotAllowed = 3
+abbrev pub reasonObjectNotAllowed : ℕ
+reasonObjectNotAllowed = 3
 
 -- an object that the next step needs is absent; 5F24, 5A and 8C count as missing when empty, too
-abbrev pub reasonMissing : ℕ
-reasonMissing = 4
+abbrev pub reasonObjectMissing : ℕ
+reasonObjectMissing = 4
 
 -- an AFL that breaks its rules
-abbrev pub reasonAfl : ℕ
-reasonAfl = 5
+abbrev pub reasonAflInvalid : ℕ
+reasonAflInvalid = 5
 
 -- an amount over the reader's transaction limit
 abbrev pub reasonAboveLimit : ℕ
 reasonAboveLimit = 6
 
 -- a DOL that is broken, or that fills to a length no command can carry
-abbrev pub reasonDol : ℕ
-reasonDol = 7
+abbrev pub reasonDolBrokenOrBadLength : ℕ
+reasonDolBrokenOrBadLength = 7
 
 -- a cryptogram of a type that the one requested does not allow
-abbrev pub reasonCryptogram : ℕ
-reasonCryptogram = 8
+abbrev pub reasonCryptogramTypeNotAllowed : ℕ
+reasonCryptogramTypeNotAllowed = 8
 
 -- the link to the card failed
 abbrev pub reasonLink : ℕ
@@ -77,11 +77,11 @@ abbrev pub reasonStopped : ℕ
 reasonStopped = 10
 
 -- the AIP indicates no EMV mode
-abbrev pub reasonMode : ℕ
-reasonMode = 11
+abbrev pub reasonNoSupportedMode : ℕ
+reasonNoSupportedMode = 11
 
 -- ---- tests in their order
 
 -- the reason of a test that has to pass: none where it does
-abbrev pub unless : Bool → ℕ → ℕ
-unless t n = if t then reasonNone else n
+abbrev pub reasonUnless : Bool → ℕ → ℕ
+reasonUnless t n = if t then reasonNone else n

@@ -6,13 +6,13 @@ use lib.ListN.{length}
 
 -- the result for s by at most so many steps: a step may request the result of other bytes, with one step less; where no
 -- step is left the result is `out`
-unfoldable pub recurseBy : {R : Type 0} → R → ((List ℕ → R) → List ℕ → R) → ℕ → List ℕ → R
-recurseBy out step zero s = out
-recurseBy out step (suc n) s = step (recurseBy out step n) s
+unfoldable pub recurseWithFuel : {R : Type 0} → R → ((List ℕ → R) → List ℕ → R) → ℕ → List ℕ → R
+recurseWithFuel out step zero s = out
+recurseWithFuel out step (suc n) s = step (recurseWithFuel out step n) s
 
 -- the same by one step more than s has bytes: enough wherever a step recurses only on fewer bytes than it was given
-unfoldable pub recurse : {R : Type 0} → R → ((List ℕ → R) → List ℕ → R) → List ℕ → R
-recurse out step s = recurseBy out step (suc (length s)) s
+unfoldable pub recurseWithFuelFromLength : {R : Type 0} → R → ((List ℕ → R) → List ℕ → R) → List ℕ → R
+recurseWithFuelFromLength out step s = recurseWithFuel out step (suc (length s)) s
 
 -- ---- what holds of it, proved in proofs/Recursion for all results, steps and bytes
 --   recurse-unroll    where a step recurses only on fewer bytes than it was given, the bound does not matter:

@@ -63,7 +63,7 @@ pub fn is_between(low: u8, x: u8, high: u8) -> bool
 }
 
 // The same bytes.
-pub fn same(a: &[u8], b: &[u8]) -> bool
+pub fn bytes_equal(a: &[u8], b: &[u8]) -> bool
     ensures { λ r. ⌜ r ≡ bytesEqual (now (a .entry)) (now (b .entry)) ⌝ }
 {
     if a.len() != b.len() {

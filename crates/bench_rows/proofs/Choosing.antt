@@ -2,9 +2,9 @@
 use mathlib.Core.List.{List}
 use Prim.Native.Nat.{ℕ}
 use Rattle.analysis.proofs.Bench as analysis
-use Rattle.bench_rows.specs.BenchTable.{ZeroTacs, BenchChoices}
+use Rattle.bench_rows.specs.BenchTable.{ZeroTacsAndNoIacDenial, BenchChoices}
 
-pub chooses : (store : List ℕ) → ZeroTacs store → BenchChoices store
+pub chooses : (store : List ℕ) → ZeroTacsAndNoIacDenial store → BenchChoices store
 chooses store p =
     let plain : analysis.Plain store = record { denial-card = p .card-denial; denial-terminal = p .denial; online-terminal = p .online; default-terminal = p .default } in
     let w = analysis.choice-rows store plain in

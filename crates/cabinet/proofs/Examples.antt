@@ -8,10 +8,10 @@ use lib.ListN.{replicate}
 use Rattle.basics.specs.Choice.{if, both}
 use Rattle.basics.specs.Number.{nibbles}
 use Rattle.dictionary.specs.Named.{rowAmount}
-use Rattle.dictionary.specs.Rows.{dictionaryRows, rowPast, findRow, storeSize}
-use Rattle.store.specs.Place.{rowOffset, rowPlace, placeValue, rowValue, objectValueIn, putRow}
-use Rattle.analysis.specs.Value.{firstBytes}
-use Rattle.analysis.specs.Digits.{bcdFrom, amountOf}
+use Rattle.dictionary.specs.Rows.{dictionaryRows, rowFoundShifted, findRow, storeSize}
+use Rattle.store.specs.Place.{rowOffset, rowPlaceBytes, valueInPlace, rowValue, objectValueIn, putRow}
+use Rattle.analysis.specs.Value.{firstBytesZeroPadded}
+use Rattle.analysis.specs.Digits.{appendDecimalDigits, amountOf}
 use Rattle.session_record.specs.declared.CallResult.{CallResult}
 use Rattle.session_record.specs.declared.Outcome.{Outcome}
 use Rattle.session_record.specs.declared.AwaitedResponse.{AwaitedResponse}
@@ -21,8 +21,8 @@ use Rattle.session_record.specs.Session.{sessionOf, freshSession, endingOf, out
 use Rattle.session.specs.Steps.{Step}
 use Rattle.layout.specs.Layout.{bigEndianBytes}
 use Rattle.layout.specs.Word.{refusalWord}
-use Rattle.cabinet.specs.State.{cabinet, cabinetStateSize, amountToReserve, amountsFit}
-use Rattle.cabinet.specs.Calls.{refusedRemaining, refusedCap, cabinetRefusal, remainingAfter, cabinetStepDone, settlesAmounts, sessionToStart, reservesAmount, cabinetOpenWord}
+use Rattle.cabinet.specs.State.{cabinet, cabinetStateSize, runningSessionAmountOrZero, reservedMatchesSessionAndSumInRange}
+use Rattle.cabinet.specs.Calls.{refusedAmountOverRemaining, refusedCapTooLarge, cabinetRefusal, remainingAfterOutcome, cabinetResultOfStep, cabinetResultWithAmountsSettled, sessionForNewStart, cabinetStartIfAmountRemains, cabinetOpenWord}
 
 -- none, the greatest, and all ones in eight bytes
 bytes : map (bigEndianBytes 8) (0 ∷ 1000 ∷ 999999999999 ∷ 0xFFFFFFFFFFFFFFFF ∷ [])
@@ -35,26 +35,26 @@ unfolding bigEndianBytes
 bytes = refl
 
 -- approved, online request, declined, ended, select next, with 600 left and 400 reserved
-ends : map (λ o. remainingAfter o 600 400) (Outcome.Approved ∷ Outcome.OnlineRequest ∷ Outcome.Declined ∷ Outcome.Ended ∷ Outcome.SelectNext ∷ [])
+ends : map (λ o. remainingAfterOutcome o 600 400) (Outcome.Approved ∷ Outcome.OnlineRequest ∷ Outcome.Declined ∷ Outcome.Ended ∷ Outcome.SelectNext ∷ [])
     ≡ 600 ∷ 1000 ∷ 1000 ∷ 1000 ∷ 1000 ∷ []
 ends = refl
 
 -- an approval spends whatever its CVM: no CVM, signature, none reported
 module _ (st : Step) (l buf : List ℕ) where
-  approvals : map (λ m. settlesAmounts (CallResult.Outcome (outcomeParameters (endingOf Outcome.Approved 0) m)) st 600 400 l buf) (0 ∷ 1 ∷ 15 ∷ [])
-      ≡ cabinetStepDone st 600 0 l ∷ cabinetStepDone st 600 0 l ∷ cabinetStepDone st 600 0 l ∷ []
+  approvals : map (λ m. cabinetResultWithAmountsSettled (CallResult.Outcome (outcomeParameters (endingOf Outcome.Approved 0) m)) st 600 400 l buf) (0 ∷ 1 ∷ 15 ∷ [])
+      ≡ cabinetResultOfStep st 600 0 l ∷ cabinetResultOfStep st 600 0 l ∷ cabinetResultOfStep st 600 0 l ∷ []
   approvals = refl
 
   -- an amount that is all that remains passes, one more is 30
-  equal : reservesAmount st 1000 1000 l buf ≡ settlesAmounts (st .reply .answer) st 0 1000 l buf
-  unfolding reservesAmount if
+  equal : cabinetStartIfAmountRemains st 1000 1000 l buf ≡ cabinetResultWithAmountsSettled (st .reply .answer) st 0 1000 l buf
+  unfolding cabinetStartIfAmountRemains if
   equal = refl
 
-  smaller : reservesAmount st 1001 1000 l buf ≡ cabinetRefusal 30 l buf
-  unfolding reservesAmount if
+  smaller : cabinetStartIfAmountRemains st 1001 1000 l buf ≡ cabinetRefusal 30 l buf
+  unfolding cabinetStartIfAmountRemains if
   smaller = refl
 
-refusals : map refusalWord (refusedRemaining ∷ refusedCap ∷ []) ≡ 0x2001E ∷ 0x2001F ∷ []
+refusals : map refusalWord (refusedAmountOverRemaining ∷ refusedCapTooLarge ∷ []) ≡ 0x2001E ∷ 0x2001F ∷ []
 refusals = refl
 
 -- the greatest cap and one more; with one byte too few 25 comes first
@@ -71,24 +71,24 @@ running : Session
 running = sessionOf (Phase.Waiting AwaitedResponse.Gpo) 1 one
 
 -- 1 is expected while it runs, nothing once it has ended
-dues : amountToReserve (Phase.Waiting AwaitedResponse.Gpo) one ∷ amountToReserve (Phase.Ended (endingOf Outcome.Approved 0)) one ∷ [] ≡ 1 ∷ 0 ∷ []
-unfolding one amountToReserve if dictionaryRows findRow rowPast putRow objectValueIn rowValue rowPlace placeValue rowOffset amountOf firstBytes nibbles bcdFrom
+dues : runningSessionAmountOrZero (Phase.Waiting AwaitedResponse.Gpo) one ∷ runningSessionAmountOrZero (Phase.Ended (endingOf Outcome.Approved 0)) one ∷ [] ≡ 1 ∷ 0 ∷ []
+unfolding one runningSessionAmountOrZero if dictionaryRows findRow rowFoundShifted putRow objectValueIn rowValue rowPlaceBytes valueInPlace rowOffset amountOf firstBytesZeroPadded nibbles appendDecimalDigits
 dues = refl
 
 -- reserved 1; 0; 2; then with what remains at the greatest amount, over it by one, and all ones
-fits : map amountsFit (cabinet running 4 1 ∷ cabinet running 4 0 ∷ cabinet running 4 2
+fits : map reservedMatchesSessionAndSumInRange (cabinet running 4 1 ∷ cabinet running 4 0 ∷ cabinet running 4 2
     ∷ cabinet running 999999999998 1 ∷ cabinet running 999999999999 1 ∷ cabinet running 0xFFFFFFFFFFFFFFFF 1 ∷ [])
     ≡ true ∷ false ∷ false ∷ true ∷ false ∷ false ∷ []
-unfolding amountsFit one running amountToReserve if both dictionaryRows findRow rowPast putRow objectValueIn rowValue rowPlace placeValue rowOffset amountOf firstBytes nibbles bcdFrom
+unfolding reservedMatchesSessionAndSumInRange one running runningSessionAmountOrZero if both dictionaryRows findRow rowFoundShifted putRow objectValueIn rowValue rowPlaceBytes valueInPlace rowOffset amountOf firstBytesZeroPadded nibbles appendDecimalDigits
 fits = refl
 
 -- a fresh session has nothing reserved
-fresh : map amountsFit (cabinet freshSession 1000 0 ∷ cabinet freshSession 1000 1 ∷ []) ≡ true ∷ false ∷ []
-unfolding amountsFit amountToReserve if both
+fresh : map reservedMatchesSessionAndSumInRange (cabinet freshSession 1000 0 ∷ cabinet freshSession 1000 1 ∷ []) ≡ true ∷ false ∷ []
+unfolding reservedMatchesSessionAndSumInRange runningSessionAmountOrZero if both
 fresh = refl
 
 -- a start after an end is on a fresh session, on a running one it is on that
-begins : (n : ℕ) (b : List ℕ) → sessionToStart (sessionOf (Phase.Ended (endingOf Outcome.Ended 10)) n b) ∷ sessionToStart (sessionOf (Phase.Waiting AwaitedResponse.Gpo) n b) ∷ []
+begins : (n : ℕ) (b : List ℕ) → sessionForNewStart (sessionOf (Phase.Ended (endingOf Outcome.Ended 10)) n b) ∷ sessionForNewStart (sessionOf (Phase.Waiting AwaitedResponse.Gpo) n b) ∷ []
     ≡ freshSession ∷ sessionOf (Phase.Waiting AwaitedResponse.Gpo) n b ∷ []
-unfolding sessionToStart if
+unfolding sessionForNewStart if
 begins n b = refl

@@ -5,24 +5,24 @@
 // other end gives it back. `cabinet_find` looks a start object up in a site's list and the maker's defaults.
 // docs/HOST.md has the state and the words.
 use dictionary::{ROW_AMOUNT, SIZE};
-use layout::{RecordHeld, HEAD, RECORD_SIZE};
+use layout::{DecodedRecordHead, HEAD, RECORD_SIZE};
 use session_record::{CallResult, Outcome, Phase, Transition};
 use session::LEAST_BUFFER;
 ghost use mathlib.Core.Path.{_≡_};
 ghost use Prim.Native.Nat.{_+_, _*_, _≤_, _<_};
 ghost use lib.Dec.{leb};
 ghost use lib.ListN.{length};
-ghost use Rattle.basics.specs.Number.{bigEndian as numberOf};
+ghost use Rattle.basics.specs.Number.{bigEndianNumber as numberOf};
 ghost use Rattle.session.specs.Steps.{leastBuffer};
 ghost use Rattle.layout.specs.Layout.{bigEndianBytes};
 ghost use Rattle.layout.specs.Word.{resultWord};
 ghost use Rattle.session_record.specs.Session.{isRunning};
-ghost use Rattle.cabinet_lookup.specs.Word.{placeWord};
-ghost use Rattle.cabinet.specs.State.{mostAmount, cabinetStateSize, storedAmount, amountToReserve, cabinetHeldIn};
-ghost use Rattle.cabinet.specs.Calls.{DidCabinetCall, CabinetOpened, remainingAfter, remainingWord, startOnCabinet};
+ghost use Rattle.cabinet_lookup.specs.Word.{lookupWord};
+ghost use Rattle.cabinet.specs.State.{greatestTwelveDigitAmount, cabinetStateSize, storedAmountAuthorized, runningSessionAmountOrZero, decodedCabinetIfValid};
+ghost use Rattle.cabinet.specs.Calls.{ReturnsCabinetResult, OpensCabinetOrRefuses, remainingAfterOutcome, remainingAmountOrAllOnes, startOnCabinet};
 ghost use Rattle.cabinet.specs.Calls.{cabinetStart, cabinetAnswer, cabinetLinkFailed, cabinetStop};
-ghost use Rattle.cabinet.specs.Inner.{cabinetPartsIn, cabinetAdmission, cabinetOf, ifInRanges, cabinetFreshStart};
-ghost use Rattle.cabinet.specs.Inner.{commandSizeIn, commandHandedOver, withAmounts, amountsSettled, cabinetFinished};
+ghost use Rattle.cabinet.specs.Inner.{admissionByStateBytes, admissionByStateAndBufferSize, cabinetWithStoreIn, cabinetCallIfSessionInRanges, cabinetStartOnFresh};
+ghost use Rattle.cabinet.specs.Inner.{commandSizeOrZero, commandCopiedToBuffer, stateWithAmounts, amountsAfterResult, stateAfterTransition};
 
 // Refusals besides the kernel's: less remains than the amount of a start; a cap over the greatest amount.
 pub const REFUSED_LEFT: u8 = 30;
@@ -46,7 +46,7 @@ pub struct Amounts {
 }
 
 // What a state reports besides the session's store.
-pub struct CabinetParts {
+pub struct CabinetWithoutStore {
     pub phase: Phase,
     pub count: u8,
     pub amounts: Amounts,
@@ -54,7 +54,7 @@ pub struct CabinetParts {
 
 // Whether a call is taken, on what the state reports, or the word of its refusal.
 pub enum CabinetAdmission {
-    Admitted(CabinetParts),
+    Admitted(CabinetWithoutStore),
     Refused(u32),
 }
 
@@ -69,7 +69,7 @@ pub extern "C" fn cabinet_size() -> usize
 // Opens the cabinet with a cap, whatever the bytes held: 0, or refusal 25 where they are too few, then 31.
 #[no_mangle]
 pub extern "C" fn cabinet_open(state: &mut [u8], cap: u64) -> u32
-    ensures { λ r. ⌜ CabinetOpened cap r (now (state .entry)) (now (state .exit)) ⌝ }
+    ensures { λ r. ⌜ OpensCabinetOrRefuses cap r (now (state .entry)) (now (state .exit)) ⌝ }
 {
     if state.len() < STATE_SIZE {
         return layout::refusal_word(basics::REFUSED_RANGES);
@@ -86,7 +86,7 @@ pub extern "C" fn cabinet_open(state: &mut [u8], cap: u64) -> u32
 // Starts a session with the objects that the terminal brings, a fresh one after an end, and reserves its amount.
 #[no_mangle]
 pub extern "C" fn cabinet_start(state: &mut [u8], terminal: &[u8], command: &mut [u8]) -> u32
-    ensures { λ r. ⌜ DidCabinetCall r (now (state .exit)) (now (command .exit))
+    ensures { λ r. ⌜ ReturnsCabinetResult r (now (state .exit)) (now (command .exit))
         (cabinetStart (now (terminal .entry)) (now (state .entry)) (now (command .entry))) ⌝ }
 {
     let admission = admit(state, command.len());
@@ -99,7 +99,7 @@ pub extern "C" fn cabinet_start(state: &mut [u8], terminal: &[u8], command: &mut
 // Takes the card's answer to the command that was handed out last, status bytes included.
 #[no_mangle]
 pub extern "C" fn cabinet_answer(state: &mut [u8], card: &[u8], command: &mut [u8]) -> u32
-    ensures { λ r. ⌜ DidCabinetCall r (now (state .exit)) (now (command .exit))
+    ensures { λ r. ⌜ ReturnsCabinetResult r (now (state .exit)) (now (command .exit))
         (cabinetAnswer (now (card .entry)) (now (state .entry)) (now (command .entry))) ⌝ }
 {
     let admission = admit(state, command.len());
@@ -108,7 +108,7 @@ pub extern "C" fn cabinet_answer(state: &mut [u8], card: &[u8], command: &mut [u
         CabinetAdmission::Admitted(holding) => {
             let phase = holding.phase;
             let amounts = holding.amounts;
-            let transition = session::answer_in(phase, holding.count, &mut state[HEAD..RECORD_SIZE], card, command);
+            let transition = session::answer_on_parts(phase, holding.count, &mut state[HEAD..RECORD_SIZE], card, command);
             finish(transition, amounts, state)
         }
     }
@@ -117,7 +117,7 @@ pub extern "C" fn cabinet_answer(state: &mut [u8], card: &[u8], command: &mut [u
 // The link to the card failed.
 #[no_mangle]
 pub extern "C" fn cabinet_link_failed(state: &mut [u8], command: &mut [u8]) -> u32
-    ensures { λ r. ⌜ DidCabinetCall r (now (state .exit)) (now (command .exit)) (cabinetLinkFailed (now (state .entry)) (now (command .entry))) ⌝ }
+    ensures { λ r. ⌜ ReturnsCabinetResult r (now (state .exit)) (now (command .exit)) (cabinetLinkFailed (now (state .entry)) (now (command .entry))) ⌝ }
 {
     let admission = admit(state, command.len());
     match admission {
@@ -125,7 +125,7 @@ pub extern "C" fn cabinet_link_failed(state: &mut [u8], command: &mut [u8]) -> u
         CabinetAdmission::Admitted(holding) => {
             let phase = holding.phase;
             let amounts = holding.amounts;
-            let transition = session::link_failed_in(phase, holding.count, &state[HEAD..RECORD_SIZE], command);
+            let transition = session::link_failed_on_parts(phase, holding.count, &state[HEAD..RECORD_SIZE], command);
             finish(transition, amounts, state)
         }
     }
@@ -134,7 +134,7 @@ pub extern "C" fn cabinet_link_failed(state: &mut [u8], command: &mut [u8]) -> u
 // The terminal stops the session.
 #[no_mangle]
 pub extern "C" fn cabinet_stop(state: &mut [u8], command: &mut [u8]) -> u32
-    ensures { λ r. ⌜ DidCabinetCall r (now (state .exit)) (now (command .exit)) (cabinetStop (now (state .entry)) (now (command .entry))) ⌝ }
+    ensures { λ r. ⌜ ReturnsCabinetResult r (now (state .exit)) (now (command .exit)) (cabinetStop (now (state .entry)) (now (command .entry))) ⌝ }
 {
     let admission = admit(state, command.len());
     match admission {
@@ -142,7 +142,7 @@ pub extern "C" fn cabinet_stop(state: &mut [u8], command: &mut [u8]) -> u32
         CabinetAdmission::Admitted(holding) => {
             let phase = holding.phase;
             let amounts = holding.amounts;
-            let transition = session::stop_in(phase, holding.count, &state[HEAD..RECORD_SIZE], command);
+            let transition = session::stop_on_parts(phase, holding.count, &state[HEAD..RECORD_SIZE], command);
             finish(transition, amounts, state)
         }
     }
@@ -151,14 +151,14 @@ pub extern "C" fn cabinet_stop(state: &mut [u8], command: &mut [u8]) -> u32
 // What remains of the cap; NO_AMOUNT where every call but opening is refused with 25.
 #[no_mangle]
 pub extern "C" fn cabinet_left(state: &[u8]) -> u64
-    ensures { λ r. ⌜ r ≡ remainingWord (cabinetHeldIn (now (state .entry))) ⌝ }
+    ensures { λ r. ⌜ r ≡ remainingAmountOrAllOnes (decodedCabinetIfValid (now (state .entry))) ⌝ }
 {
     let admission = holding_in(state);
     let CabinetAdmission::Admitted(holding) = admission else {
         return NO_AMOUNT;
     };
     let phase = holding.phase;
-    if !session_record::parts_in_ranges(phase, holding.count, &state[HEAD..RECORD_SIZE]) {
+    if !session_record::session_parts_in_ranges(phase, holding.count, &state[HEAD..RECORD_SIZE]) {
         return NO_AMOUNT;
     }
     holding.amounts.remaining
@@ -170,14 +170,14 @@ pub extern "C" fn cabinet_left(state: &[u8]) -> u64
 // 2^32 bytes or more.
 #[no_mangle]
 pub extern "C" fn cabinet_find(site: &[u8], defaults: &[u8], tag: u32) -> u64
-    ensures { λ r. ⌜ r ≡ placeWord tag (now (site .entry)) (now (defaults .entry)) ⌝ }
+    ensures { λ r. ⌜ r ≡ lookupWord tag (now (site .entry)) (now (defaults .entry)) ⌝ }
 {
-    cabinet_lookup::value_place(site, defaults, tag)
+    cabinet_lookup::lookup_word(site, defaults, tag)
 }
 
 // A buffer that is too short is refused before a state that is not in order.
 fn admit(state: &[u8], size: usize) -> CabinetAdmission
-    ensures { λ r. ⌜ r ≡ cabinetAdmission (now (state .entry)) size ⌝ }
+    ensures { λ r. ⌜ r ≡ admissionByStateAndBufferSize (now (state .entry)) size ⌝ }
 {
     if size < LEAST_BUFFER {
         return CabinetAdmission::Refused(layout::refusal_word(basics::REFUSED_BUFFER));
@@ -187,14 +187,14 @@ fn admit(state: &[u8], size: usize) -> CabinetAdmission
 
 // What a state reports, or refusal 25: all of its tests but the session's ranges, which the kernel's call makes.
 fn holding_in(state: &[u8]) -> CabinetAdmission
-    ensures { λ r. ⌜ r ≡ cabinetPartsIn (now (state .entry)) ⌝ }
+    ensures { λ r. ⌜ r ≡ admissionByStateBytes (now (state .entry)) ⌝ }
 {
     let refused = CabinetAdmission::Refused(layout::refusal_word(basics::REFUSED_RANGES));
     if state.len() < STATE_SIZE {
         return refused;
     }
-    let held = layout::head_in(state);
-    let RecordHeld::Record(head) = held else {
+    let held = layout::decode_record_head(state);
+    let DecodedRecordHead::Record(head) = held else {
         return refused;
     };
     let phase = head.phase;
@@ -206,12 +206,12 @@ fn holding_in(state: &[u8]) -> CabinetAdmission
     if !is_within(remaining, reserved) {
         return refused;
     }
-    CabinetAdmission::Admitted(CabinetParts { phase, count: head.count, amounts: Amounts { remaining, reserved } })
+    CabinetAdmission::Admitted(CabinetWithoutStore { phase, count: head.count, amounts: Amounts { remaining, reserved } })
 }
 
 // Whether two amounts together are at most the greatest amount.
 fn is_within(remaining: u64, reserved: u64) -> bool
-    ensures { λ r. ⌜ r ≡ leb (remaining + reserved) mostAmount ⌝ }
+    ensures { λ r. ⌜ r ≡ leb (remaining + reserved) greatestTwelveDigitAmount ⌝ }
 {
     if MOST_AMOUNT < reserved {
         return false;
@@ -221,7 +221,7 @@ fn is_within(remaining: u64, reserved: u64) -> bool
 
 // What has to be reserved: the running session's amount.
 fn due(phase: Phase, bytes: &[u8]) -> u64
-    ensures { λ r. ⌜ r ≡ amountToReserve phase (now (bytes .entry)) ⌝ }
+    ensures { λ r. ⌜ r ≡ runningSessionAmountOrZero phase (now (bytes .entry)) ⌝ }
 {
     if is_running(phase) {
         return amount_in(bytes);
@@ -242,22 +242,22 @@ fn is_running(phase: Phase) -> bool
 
 // The amount of a store.
 fn amount_in(bytes: &[u8]) -> u64
-    ensures { λ r. ⌜ r ≡ storedAmount (now (bytes .entry)) ⌝ }
+    ensures { λ r. ⌜ r ≡ storedAmountAuthorized (now (bytes .entry)) ⌝ }
 {
     analysis::digits::amount_of(store::value(bytes, ROW_AMOUNT))
 }
 
 // A start past the first tests: 25 where the session is out of its ranges, 21 where it runs.
-fn start_held(holding: CabinetParts, state: &mut [u8], terminal: &[u8], command: &mut [u8]) -> u32
+fn start_held(holding: CabinetWithoutStore, state: &mut [u8], terminal: &[u8], command: &mut [u8]) -> u32
     requires { ⌜ cabinetStateSize ≤ length (now state) ⌝ }
     requires { ⌜ leastBuffer ≤ length (now command) ⌝ }
-    requires { ⌜ holding .amounts .remaining ≤ mostAmount ⌝ }
-    ensures { λ r. ⌜ DidCabinetCall r (now (state .exit)) (now (command .exit))
-        (ifInRanges (startOnCabinet (now (terminal .entry)) (now (state .entry)) (now (command .entry)))
-        (now (state .entry)) (now (command .entry)) (cabinetOf holding (now (state .entry)))) ⌝ }
+    requires { ⌜ holding .amounts .remaining ≤ greatestTwelveDigitAmount ⌝ }
+    ensures { λ r. ⌜ ReturnsCabinetResult r (now (state .exit)) (now (command .exit))
+        (cabinetCallIfSessionInRanges (startOnCabinet (now (terminal .entry)) (now (state .entry)) (now (command .entry)))
+        (now (state .entry)) (now (command .entry)) (cabinetWithStoreIn holding (now (state .entry)))) ⌝ }
 {
     let phase = holding.phase;
-    if !session_record::parts_in_ranges(phase, holding.count, &state[HEAD..RECORD_SIZE]) {
+    if !session_record::session_parts_in_ranges(phase, holding.count, &state[HEAD..RECORD_SIZE]) {
         return layout::refusal_word(basics::REFUSED_RANGES);
     }
     if is_running(phase) {
@@ -272,13 +272,13 @@ fn start_held(holding: CabinetParts, state: &mut [u8], terminal: &[u8], command:
 fn start_fresh(remaining: u64, state: &mut [u8], terminal: &[u8], command: &mut [u8]) -> u32
     requires { ⌜ cabinetStateSize ≤ length (now state) ⌝ }
     requires { ⌜ leastBuffer ≤ length (now command) ⌝ }
-    requires { ⌜ remaining ≤ mostAmount ⌝ }
-    ensures { λ r. ⌜ DidCabinetCall r (now (state .exit)) (now (command .exit))
-        (cabinetFreshStart (now (terminal .entry)) remaining (now (state .entry)) (now (command .entry))) ⌝ }
+    requires { ⌜ remaining ≤ greatestTwelveDigitAmount ⌝ }
+    ensures { λ r. ⌜ ReturnsCabinetResult r (now (state .exit)) (now (command .exit))
+        (cabinetStartOnFresh (now (terminal .entry)) remaining (now (state .entry)) (now (command .entry))) ⌝ }
 {
     let mut store = [0u8; SIZE];
     let mut first = [0u8; LEAST_BUFFER];
-    let transition = session::start_in(Phase::Fresh, 0, &mut store, terminal, &mut first);
+    let transition = session::start_on_parts(Phase::Fresh, 0, &mut store, terminal, &mut first);
     let answer = transition.answer;
     if let CallResult::Refused(refusal) = answer {
         return layout::refusal_word(refusal.number);
@@ -294,8 +294,8 @@ fn start_fresh(remaining: u64, state: &mut [u8], terminal: &[u8], command: &mut 
 
 // Copies a command from the front of one buffer to the front of another; without a command nothing.
 fn hand_over(answer: CallResult, first: &[u8], command: &mut [u8])
-    requires { ⌜ (commandSizeIn answer ≤ length (now first)) × (commandSizeIn answer ≤ length (now command)) ⌝ }
-    ensures { λ _. ⌜ now (command .exit) ≡ commandHandedOver answer (now (first .entry)) (now (command .entry)) ⌝ }
+    requires { ⌜ (commandSizeOrZero answer ≤ length (now first)) × (commandSizeOrZero answer ≤ length (now command)) ⌝ }
+    ensures { λ _. ⌜ now (command .exit) ≡ commandCopiedToBuffer answer (now (first .entry)) (now (command .entry)) ⌝ }
 {
     let CallResult::Command(issued) = answer else {
         return;
@@ -308,23 +308,23 @@ fn hand_over(answer: CallResult, first: &[u8], command: &mut [u8])
 // refusal writes nothing.
 fn finish(transition: Transition, amounts: Amounts, state: &mut [u8]) -> u32
     requires { ⌜ cabinetStateSize ≤ length (now state) ⌝ }
-    requires { ⌜ amounts .remaining + amounts .reserved ≤ mostAmount ⌝ }
-    ensures { λ r. ⌜ (r ≡ resultWord (transition .answer)) × (now (state .exit) ≡ cabinetFinished transition amounts (now (state .entry))) ⌝ }
+    requires { ⌜ amounts .remaining + amounts .reserved ≤ greatestTwelveDigitAmount ⌝ }
+    ensures { λ r. ⌜ (r ≡ resultWord (transition .answer)) × (now (state .exit) ≡ stateAfterTransition transition amounts (now (state .entry))) ⌝ }
 {
     let answer = transition.answer;
     if let CallResult::Refused(_) = answer {
         return layout::result_word(answer);
     }
     let phase = transition.phase;
-    layout::put_head(phase, transition.count, state);
+    layout::write_record_head(phase, transition.count, state);
     put_amounts(settled(answer, amounts), state);
     layout::result_word(answer)
 }
 
 // The amounts after an answer: an end leaves nothing reserved.
 fn settled(answer: CallResult, amounts: Amounts) -> Amounts
-    requires { ⌜ amounts .remaining + amounts .reserved ≤ mostAmount ⌝ }
-    ensures { λ r. ⌜ r ≡ amountsSettled answer amounts ⌝ }
+    requires { ⌜ amounts .remaining + amounts .reserved ≤ greatestTwelveDigitAmount ⌝ }
+    ensures { λ r. ⌜ r ≡ amountsAfterResult answer amounts ⌝ }
 {
     match answer {
         CallResult::Command(_) => amounts,
@@ -338,8 +338,8 @@ fn settled(answer: CallResult, amounts: Amounts) -> Amounts
 
 // What remains after an end: an approval spends what is reserved, every other outcome gives it back.
 fn left_after(outcome: Outcome, amounts: Amounts) -> u64
-    requires { ⌜ amounts .remaining + amounts .reserved ≤ mostAmount ⌝ }
-    ensures { λ r. ⌜ r ≡ remainingAfter outcome (amounts .remaining) (amounts .reserved) ⌝ }
+    requires { ⌜ amounts .remaining + amounts .reserved ≤ greatestTwelveDigitAmount ⌝ }
+    ensures { λ r. ⌜ r ≡ remainingAfterOutcome outcome (amounts .remaining) (amounts .reserved) ⌝ }
 {
     match outcome {
         Outcome::Approved => amounts.remaining,
@@ -353,7 +353,7 @@ fn left_after(outcome: Outcome, amounts: Amounts) -> u64
 // Writes the two amounts after the record.
 fn put_amounts(amounts: Amounts, state: &mut [u8])
     requires { ⌜ cabinetStateSize ≤ length (now state) ⌝ }
-    ensures { λ _. ⌜ now (state .exit) ≡ withAmounts amounts (now (state .entry)) ⌝ }
+    ensures { λ _. ⌜ now (state .exit) ≡ stateWithAmounts amounts (now (state .entry)) ⌝ }
 {
     let remaining = amount_bytes(amounts.remaining);
     bytes::copy(&remaining, &mut state[LEFT..ASIDE]);

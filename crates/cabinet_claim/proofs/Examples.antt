@@ -6,16 +6,16 @@ use mathlib.Core.Bool.{true, false}
 use mathlib.Core.List.{List, [], _∷_, map}
 use Prim.Native.Nat.{ℕ}
 use Rattle.basics.specs.Choice.{if, both}
-use Rattle.basics.specs.Number.{nibbles, bigEndianFrom}
-use Rattle.basics.specs.Recursion.{recurseBy, recurse}
-use Rattle.tlv.specs.Tag.{tagSize, tagSecondByte, tagThirdByte, tagAt, tagFirstByte, isTemplate, isPrivate}
-use Rattle.tlv.specs.Length.{lengthAt, lengthOneByte}
+use Rattle.basics.specs.Number.{nibbles, appendBigEndianBytes}
+use Rattle.basics.specs.Recursion.{recurseWithFuel, recurseWithFuelFromLength}
+use Rattle.tlv.specs.Tag.{tagSize, tagSizeFromSecondByte, tagSizeFromThirdByte, tagAt, tagFirstByte, isTemplate, isPrivate}
+use Rattle.tlv.specs.Length.{lengthAt, lengthAfter81}
 use Rattle.tlv.specs.Object.{headerOf}
-use Rattle.tlv.specs.Primitives.{primitiveOf}
-use Rattle.analysis.specs.Value.{firstBytes}
-use Rattle.analysis.specs.Digits.{bcdFrom, amountOf}
-use Rattle.cabinet_lookup.specs.Value.{heldObjects, firstValue, valueOrDefault}
-use Rattle.cabinet_claim.specs.Account.{opening, start, answer, link-failed, CabinetCallMade, account, startAmountIn, isRefusedWord, isApprovedWord, accountEnters, accountAfter, accountOf}
+use Rattle.tlv.specs.Primitives.{primitiveAtFront}
+use Rattle.analysis.specs.Value.{firstBytesZeroPadded}
+use Rattle.analysis.specs.Digits.{appendDecimalDigits, amountOf}
+use Rattle.cabinet_lookup.specs.Value.{leadingPrimitiveObjects, firstValueOfTag, valueOrDefault}
+use Rattle.cabinet_claim.specs.Account.{opening, start, answer, link-failed, CabinetCallMade, account, startAmountIn, isRefusedWord, isApprovedWord, accountAfterCall, accountAfterCalls, accountSinceOpening}
 use Rattle.cabinet_claim.proofs.Words.{cabinetCallMade}
 
 -- approved with no CVM, with a signature, with none reported; online request, declined, ended by a failed link, select
@@ -36,7 +36,7 @@ one : List ℕ
 one = 0x9F ∷ 0x02 ∷ 0x06 ∷ 0x00 ∷ 0x00 ∷ 0x00 ∷ 0x00 ∷ 0x00 ∷ 0x01 ∷ []
 
 amounts : map startAmountIn (four ∷ one ∷ [] ∷ []) ≡ 400 ∷ 1 ∷ 0 ∷ []
-unfolding four one heldObjects firstValue valueOrDefault recurse recurseBy primitiveOf headerOf tagAt tagSize tagSecondByte tagThirdByte lengthAt lengthOneByte tagFirstByte isTemplate isPrivate bigEndianFrom if amountOf firstBytes nibbles bcdFrom
+unfolding four one leadingPrimitiveObjects firstValueOfTag valueOrDefault recurseWithFuelFromLength recurseWithFuel primitiveAtFront headerOf tagAt tagSize tagSizeFromSecondByte tagSizeFromThirdByte lengthAt lengthAfter81 tagFirstByte isTemplate isPrivate appendBigEndianBytes if amountOf firstBytesZeroPadded nibbles appendDecimalDigits
 amounts = refl
 
 -- a start of 400, another that is refused (21), an approval with a signature: 400 are approved
@@ -48,8 +48,8 @@ sold = cabinetCallMade (start four []) 8 ∷ cabinetCallMade (start one []) 0x20
 abbrev failed : List CabinetCallMade
 failed = cabinetCallMade (start one []) 8 ∷ cabinetCallMade (link-failed []) 0x0F010309 ∷ []
 
-accounts : (let a = accountOf 1000 sold in let b = accountAfter a failed in
-    a ∷ b ∷ accountEnters b (cabinetCallMade (opening 1000000000000) 0x2001F) ∷ accountEnters b (cabinetCallMade (opening 5) 0) ∷ [])
+accounts : (let a = accountSinceOpening 1000 sold in let b = accountAfterCalls a failed in
+    a ∷ b ∷ accountAfterCall b (cabinetCallMade (opening 1000000000000) 0x2001F) ∷ accountAfterCall b (cabinetCallMade (opening 5) 0) ∷ [])
     ≡ account 1000 400 400 ∷ account 1000 1 400 ∷ account 1000 1 400 ∷ account 5 0 0 ∷ []
-unfolding accountEnters accountAfter both four one heldObjects firstValue valueOrDefault recurse recurseBy primitiveOf headerOf tagAt tagSize tagSecondByte tagThirdByte lengthAt lengthOneByte tagFirstByte isTemplate isPrivate bigEndianFrom if amountOf firstBytes nibbles bcdFrom
+unfolding accountAfterCall accountAfterCalls both four one leadingPrimitiveObjects firstValueOfTag valueOrDefault recurseWithFuelFromLength recurseWithFuel primitiveAtFront headerOf tagAt tagSize tagSizeFromSecondByte tagSizeFromThirdByte lengthAt lengthAfter81 tagFirstByte isTemplate isPrivate appendBigEndianBytes if amountOf firstBytesZeroPadded nibbles appendDecimalDigits
 accounts = refl

@@ -14,15 +14,15 @@ use borrow.Author.Tests.{leb-true, le-leb, eqb-true, eq-eqb}
 use Rattle.basics.proofs.Laws.{if-yes, if-no, bool-cases, both-yes, both-left, both-right}
 use Rattle.session_record.specs.declared.Session.{Session}
 use Rattle.session_record.specs.Session.{storeBytes}
-use Rattle.session_record.specs.Ranges.{inRanges}
+use Rattle.session_record.specs.Ranges.{sessionRecordInRanges}
 use Rattle.layout.specs.Layout.{decodedSession}
-use Rattle.cabinet.specs.State.{Cabinet, cabinet, mostAmount, cabinetStateSize, remainingIn, reservedIn, amountToReserve, amountsFit, cabinetInOrder, cabinetHeldBy, cabinetHeldIn}
+use Rattle.cabinet.specs.State.{Cabinet, cabinet, greatestTwelveDigitAmount, cabinetStateSize, remainingInCabinetState, reservedInCabinetState, runningSessionAmountOrZero, reservedMatchesSessionAndSumInRange, cabinetSessionAndAmountsValid, decodedCabinetOfSession, decodedCabinetIfValid}
 
 pub record Ordered (c : Cabinet) (l : List ℕ) : Type 0 where
   pub enough : cabinetStateSize ≤ length l
-  pub ranges : inRanges (c .session) ≡ true
-  pub due : c .reserved ≡ amountToReserve (c .session .phase) (storeBytes (c .session))
-  pub sum : c .remaining + c .reserved ≤ mostAmount
+  pub ranges : sessionRecordInRanges (c .session) ≡ true
+  pub due : c .reserved ≡ runningSessionAmountOrZero (c .session .phase) (storeBytes (c .session))
+  pub sum : c .remaining + c .reserved ≤ greatestTwelveDigitAmount
 
 pub record Held (c : Cabinet) (l : List ℕ) : Type 0 where
   pub order : Ordered c l
@@ -32,8 +32,8 @@ never : {A : Type 0} {c : Cabinet} → _≡_ {A = Option Cabinet} none (some c) 
 never e = let z : _≡_ {A = ℕ} 0 1 = cc in absurd (omega arith)
 
 module _ (c : Cabinet) (l : List ℕ) (h : cabinetStateSize ≤ length l) where
-  by-order : (s : Session) (d : Cabinet) → d .session ≡ s → decodedSession l ≡ some s → cabinetInOrder d ≡ true → d ≡ c → Held c l
-  unfolding amountsFit
+  by-order : (s : Session) (d : Cabinet) → d .session ≡ s → decodedSession l ≡ some s → cabinetSessionAndAmountsValid d ≡ true → d ≡ c → Held c l
+  unfolding reservedMatchesSessionAndSumInRange
   by-order s d p q o e =
       subst (λ (x : Cabinet). Held x l) e
       (record {
@@ -41,23 +41,23 @@ module _ (c : Cabinet) (l : List ℕ) (h : cabinetStateSize ≤ length l) where
         session = q ∙ ap some (sym p);
       })
 
-  by-record : (x : Option Session) → decodedSession l ≡ x → cabinetHeldBy l x ≡ some c → Held c l
+  by-record : (x : Option Session) → decodedSession l ≡ x → decodedCabinetOfSession l x ≡ some c → Held c l
   by-record none q f = never f
-  by-record (some s) q f = elim (bool-cases (cabinetInOrder (cabinet s (remainingIn l) (reservedIn l)))) [
-    | inl o ↦ let e : some (cabinet s (remainingIn l) (reservedIn l)) ≡ some c = sym (if-yes _ _ o) ∙ f in by-order s (cabinet s (remainingIn l) (reservedIn l)) (λ i. s) q o (cc)
+  by-record (some s) q f = elim (bool-cases (cabinetSessionAndAmountsValid (cabinet s (remainingInCabinetState l) (reservedInCabinetState l)))) [
+    | inl o ↦ let e : some (cabinet s (remainingInCabinetState l) (reservedInCabinetState l)) ≡ some c = sym (if-yes _ _ o) ∙ f in by-order s (cabinet s (remainingInCabinetState l) (reservedInCabinetState l)) (λ i. s) q o (cc)
     | inr o ↦ never (sym (if-no _ _ o) ∙ f)
   ]
 
-pub held-is : (c : Cabinet) (l : List ℕ) → cabinetHeldIn l ≡ some c → Held c l
-unfolding cabinetHeldIn
+pub held-is : (c : Cabinet) (l : List ℕ) → decodedCabinetIfValid l ≡ some c → Held c l
+unfolding decodedCabinetIfValid
 held-is c l e = elim (bool-cases (leb cabinetStateSize (length l))) [
   | inl t ↦ by-record c l (leb-true _ _ t) (decodedSession l) (λ i. decodedSession l) (sym (if-yes _ _ t) ∙ e)
   | inr t ↦ never (sym (if-no _ _ t) ∙ e)
 ]
 
-pub held-ordered : (c : Cabinet) (l : List ℕ) → cabinetHeldIn l ≡ some c → Ordered c l
+pub held-ordered : (c : Cabinet) (l : List ℕ) → decodedCabinetIfValid l ≡ some c → Ordered c l
 held-ordered c l e = held-is c l e .order
 
-pub in-order : {c : Cabinet} {l : List ℕ} → Ordered c l → cabinetInOrder c ≡ true
-unfolding amountsFit
+pub in-order : {c : Cabinet} {l : List ℕ} → Ordered c l → cabinetSessionAndAmountsValid c ≡ true
+unfolding reservedMatchesSessionAndSumInRange
 in-order o = both-yes _ _ (o .ranges) (both-yes _ _ (eq-eqb _ _ (o .due)) (le-leb _ _ (o .sum)))

@@ -7,12 +7,12 @@ use mathlib.Core.List.{List}
 use Prim.Native.Nat.{ℕ}
 use native.Mathlib.Omega.{arith}
 use lib.ListN.{length}
-use Rattle.basics.specs.Number.{hasBit}
+use Rattle.basics.specs.Number.{hasBitOfWeight}
 use Rattle.basics.specs.Reason.{reasonLink, reasonStopped}
 use Rattle.dictionary.specs.Named.{rowAmount}
 use Rattle.dictionary.specs.Rows.{dictionaryRows, rowAt, storeSize, setByCard}
 use Rattle.dictionary.proofs.Named.{at-9F02}
-use Rattle.store.specs.Place.{StoredValue, bytesOfValue, objectValue}
+use Rattle.store.specs.Place.{StoredValue, bytesOrEmptyIfAbsent, objectValue}
 use Rattle.reading.specs.declared.Awaited.{Awaited}
 use Rattle.analysis.specs.Action.{findingsOf}
 use Rattle.analysis.specs.Digits.{amountOf}
@@ -24,12 +24,12 @@ use Rattle.session_record.specs.declared.Reply.{Reply}
 use Rattle.session_record.specs.declared.Session.{Session}
 use Rattle.session_record.specs.Session.{storeBytes}
 use Rattle.session_record.proofs.Phases.{store-size, store-fits}
-use Rattle.session.specs.Steps.{withFindings, Step, abortStep, linkFailedStep, stopStep}
+use Rattle.session.specs.Steps.{storeWithFindings, Step, abortStep, linkFailedStep, stopStep}
 use Rattle.session.specs.Answer.{answerStep}
 use Rattle.session_record.specs.Session.{isRunning}
 use Rattle.step_laws.proofs.Kept.{read-size, read-fits, read-start, found-other, digits-other}
 use Rattle.step_laws.proofs.Ways.{withoutCommand, Admitted, taken, GpoWay, RecordsWay, MagStripeWay, RecordWay, CryptogramWay, ChecksumWay, AnswerWay, answer-way, BrokenWay, broken-way}
-use Rattle.cabinet.specs.State.{storedAmount}
+use Rattle.cabinet.specs.State.{storedAmountAuthorized}
 
 -- ---- what a step leaves
 
@@ -37,15 +37,15 @@ pub record Stays (s : Session) (st : Step) : Type 0 where
   pub value : objectValue (storeBytes (st .reply .session)) 0x9F02 ≡ objectValue (storeBytes s) 0x9F02
   pub waits : (x : CommandLength) → st .reply .answer ≡ CallResult.Command x → isRunning (st .reply .session .phase) ≡ true
 
-pub stays-amount : {s : Session} {st : Step} → Stays s st → storedAmount (storeBytes (st .reply .session)) ≡ storedAmount (storeBytes s)
-stays-amount w = ap (λ (v : StoredValue). amountOf (bytesOfValue v)) (w .value)
+pub stays-amount : {s : Session} {st : Step} → Stays s st → storedAmountAuthorized (storeBytes (st .reply .session)) ≡ storedAmountAuthorized (storeBytes s)
+stays-amount w = ap (λ (v : StoredValue). amountOf (bytesOrEmptyIfAbsent v)) (w .value)
 
 -- an end hands out no command
 no-command : {A : Type 0} {e : _} {x : CommandLength} → CallResult.Outcome e ≡ CallResult.Command x → A
 no-command q = let z : _≡_ {A = ℕ} 0 1 = cc in absurd (omega arith)
 
 -- no card sets the amount
-not-by-card : hasBit (rowAt rowAmount .setters) setByCard ≡ false
+not-by-card : hasBitOfWeight (rowAt rowAmount .setters) setByCard ≡ false
 unfolding dictionaryRows
 not-by-card = refl
 
@@ -58,7 +58,7 @@ module _ (s : Session) (setByCard buf : List ℕ) where
   stays-gpo i (GpoWay.first r m a e) = record { value = reads Awaited.Gpo i; waits = λ x q. refl }
 
   finds : (a : Awaited) → Admitted s (length buf) → length (storeBytes (taken a s setByCard)) ≡ storeSize
-      → (let b = storeBytes (taken a s setByCard) in objectValue (withFindings b (findingsOf b)) 0x9F02 ≡ objectValue (storeBytes s) 0x9F02)
+      → (let b = storeBytes (taken a s setByCard) in objectValue (storeWithFindings b (findingsOf b)) 0x9F02 ≡ objectValue (storeBytes s) 0x9F02)
   finds a i l =
       let b = storeBytes (taken a s setByCard) in
       found-other b (findingsOf b) l (found-length b) (bits-length b) 0x9F02 rowAmount at-9F02 (λ z. omega arith) (λ z. omega arith) ∙ reads a i

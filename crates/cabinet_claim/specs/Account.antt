@@ -9,13 +9,13 @@ use mathlib.Core.Option.{some}
 use Prim.Native.Nat.{_+_, _/_, _%_, _≤_}
 use Rattle.basics.specs.Types.{Bytes, StartBytes, Response, Buffer, Amount, ResultWord}
 use Rattle.basics.specs.Choice.{if_then_else_, _and_, _=?_, every}
-use Rattle.basics.specs.Reason.{refusedRanges}
+use Rattle.basics.specs.Reason.{refusalRecordOutOfRanges}
 use Rattle.analysis.specs.Digits.{amountOf}
 use Rattle.session_record.specs.declared.Outcome.{Outcome}
 use Rattle.session_record.specs.Numbers.{outcomeNumber}
-use Rattle.layout.specs.Word.{wordKind, kindOutcome, kindRefusal, refusalWord}
+use Rattle.layout.specs.Word.{resultWordKind, wordKindOutcome, wordKindRefusal, refusalWord}
 use Rattle.cabinet_lookup.specs.Value.{lookupValue}
-use Rattle.cabinet.specs.State.{Cabinet, mostAmount, cabinetHeldIn}
+use Rattle.cabinet.specs.State.{Cabinet, greatestTwelveDigitAmount, decodedCabinetIfValid}
 use Rattle.cabinet.specs.Calls.{CabinetResult, cabinetOpenWord, cabinetOpenState, cabinetStart, cabinetAnswer}
 use Rattle.cabinet.specs.Calls.{cabinetLinkFailed, cabinetStop}
 
@@ -74,56 +74,57 @@ startAmountIn bytes = amountOf (lookupValue 0x9F02 bytes [])
 
 -- the word of a refusal, and that of an approval, whatever the CVM in its upper bits
 abbrev pub isRefusedWord : ResultWord → Bool
-isRefusedWord w = wordKind w =? kindRefusal
+isRefusedWord w = resultWordKind w =? wordKindRefusal
 
 abbrev pub isApprovedWord : ResultWord → Bool
-isApprovedWord w = wordKind w =? kindOutcome and w / 256 % 256 =? outcomeNumber Outcome.Approved
+isApprovedWord w = resultWordKind w =? wordKindOutcome and w / 256 % 256 =? outcomeNumber Outcome.Approved
 
 -- an approval adds the amount of the last accepted start
-abbrev pub accountApproves : ResultWord → Account → Account
-accountApproves w a =
+abbrev pub accountWithAmountAddedIfApproved : ResultWord → Account → Account
+accountWithAmountAddedIfApproved w a =
     if isApprovedWord w then account (a .cap) (a .amount) (a .approved + a .amount)
     else a
 
 -- a call that was not refused
-abbrev pub accountAccepts : Account → CabinetCall → ResultWord → Account
-accountAccepts a (opening cap)     w = account cap 0 0
-accountAccepts a (start bytes buf) w = accountApproves w (account (a .cap) (startAmountIn bytes) (a .approved))
-accountAccepts a (answer card buf) w = accountApproves w a
-accountAccepts a (link-failed buf) w = accountApproves w a
-accountAccepts a (stop buf)        w = accountApproves w a
+abbrev pub accountAfterAcceptedCall : Account → CabinetCall → ResultWord → Account
+accountAfterAcceptedCall a (opening cap)     w = account cap 0 0
+accountAfterAcceptedCall a (start bytes buf) w =
+    accountWithAmountAddedIfApproved w (account (a .cap) (startAmountIn bytes) (a .approved))
+accountAfterAcceptedCall a (answer card buf) w = accountWithAmountAddedIfApproved w a
+accountAfterAcceptedCall a (link-failed buf) w = accountWithAmountAddedIfApproved w a
+accountAfterAcceptedCall a (stop buf)        w = accountWithAmountAddedIfApproved w a
 
 -- one call; a refused one changes nothing
-unfoldable pub accountEnters : Account → CabinetCallMade → Account
-accountEnters a m =
+unfoldable pub accountAfterCall : Account → CabinetCallMade → Account
+accountAfterCall a m =
     if isRefusedWord (m .word) then a
-    else accountAccepts a (m .call) (m .word)
+    else accountAfterAcceptedCall a (m .call) (m .word)
 
 -- the account after the calls of a list
-unfoldable pub accountAfter : Account → List CabinetCallMade → Account
-accountAfter a [] = a
-accountAfter a (m ∷ ms) = accountAfter (accountEnters a m) ms
+unfoldable pub accountAfterCalls : Account → List CabinetCallMade → Account
+accountAfterCalls a [] = a
+accountAfterCalls a (m ∷ ms) = accountAfterCalls (accountAfterCall a m) ms
 
 -- the account of calls after an opening with this cap
-abbrev pub accountOf : Amount → List CabinetCallMade → Account
-accountOf cap ms = accountAfter (account cap 0 0) ms
+abbrev pub accountSinceOpening : Amount → List CabinetCallMade → Account
+accountSinceOpening cap ms = accountAfterCalls (account cap 0 0) ms
 
 -- ---- the claim
 
 -- a call was not refused with 25
-abbrev pub notRefusedForRanges : CabinetCallMade → Bool
-notRefusedForRanges m = not (m .word =? refusalWord refusedRanges)
+abbrev pub cabinetCallNotRefusedWith25 : CabinetCallMade → Bool
+cabinetCallNotRefusedWith25 m = not (m .word =? refusalWord refusalRecordOutOfRanges)
 
 -- ms are the calls of a list made one after the other (`playCabinetCalls`) since an opening with this cap was accepted,
 -- and l are the bytes that the last of them left (`finalCabinetState`), those of the opening where there are none
-pub record Balanced (cap : Amount) (ms : List CabinetCallMade) (l : Bytes) : Type 0 where
+pub record RemainingReservedApprovedSumToCap (cap : Amount) (callsMade : List CabinetCallMade) (stateAfter : Bytes) : Type 0 where
   -- the bytes hold a cabinet in order: what is reserved is the running session's amount, 0 where none runs
   pub state : Cabinet
-  pub held : cabinetHeldIn l ≡ some state
+  pub held : decodedCabinetIfValid stateAfter ≡ some state
   -- the remaining and reserved amounts and those of approved sessions are together the cap
-  pub balance : state .remaining + state .reserved + accountOf cap ms .approved ≡ accountOf cap ms .cap
+  pub balance : state .remaining + state .reserved + accountSinceOpening cap callsMade .approved ≡ accountSinceOpening cap callsMade .cap
   -- so approvals never come to more than the cap, and no cap is over the greatest amount
-  pub never-over : accountOf cap ms .approved ≤ accountOf cap ms .cap
-  pub cap-fits : accountOf cap ms .cap ≤ mostAmount
+  pub never-over : accountSinceOpening cap callsMade .approved ≤ accountSinceOpening cap callsMade .cap
+  pub cap-fits : accountSinceOpening cap callsMade .cap ≤ greatestTwelveDigitAmount
   -- none of the calls was refused with 25
-  pub never-25 : every notRefusedForRanges ms ≡ true
+  pub never-25 : every cabinetCallNotRefusedWith25 callsMade ≡ true

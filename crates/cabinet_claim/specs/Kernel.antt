@@ -15,28 +15,33 @@ use Rattle.layout.specs.Layout.{decodedSession}
 use Rattle.layout.specs.Word.{resultWord}
 use Rattle.session.specs.Calls.{isRefusal}
 use Rattle.cabinet.specs.State.{Cabinet}
-use Rattle.cabinet.specs.Calls.{CabinetResult, refusedRemaining, cabinetRefusal, sessionToStart, startAmount}
+use Rattle.cabinet.specs.Calls.{CabinetResult, refusedAmountOverRemaining, cabinetRefusal, sessionForNewStart, amountOfStartStep}
 use Rattle.cabinet.specs.Calls.{cabinetStart, cabinetAnswer, cabinetLinkFailed, cabinetStop}
 
 -- the word, the buffer and the session of the kernel's step
-pub record AsKernel (st : Step) (d : CabinetResult) : Type 0 where
-  pub word : d .word ≡ resultWord (st .reply .answer)
-  pub buffer : d .buffer ≡ st .buffer
-  pub session : decodedSession (d .state) ≡ some (st .reply .session)
+pub record CabinetResultSameAsKernelStep (kernelStep : Step) (cabinetResult : CabinetResult) : Type 0 where
+  pub word : cabinetResult .word ≡ resultWord (kernelStep .reply .answer)
+  pub buffer : cabinetResult .buffer ≡ kernelStep .buffer
+  pub session : decodedSession (cabinetResult .state) ≡ some (kernelStep .reply .session)
 
 -- a start on the state's bytes l with a buffer
-pub record AsStart (c : Cabinet) (st : Step) (l : Bytes) (buf : Buffer) (d : CabinetResult) : Type 0 where
+pub record CabinetStartAsKernelIfAmountRemains (cabinetBefore : Cabinet) (kernelStep : Step) (stateBefore : Bytes) (bufferBefore : Buffer) (cabinetResult : CabinetResult) : Type 0 where
   -- what the kernel refuses is refused by the same number, and an ended session stays
-  pub refused : (r : Refusal) → st .reply .answer ≡ CallResult.Refused r → d ≡ cabinetRefusal (r .number) l buf
+  pub refused : (r : Refusal) → kernelStep .reply .answer ≡ CallResult.Refused r
+      → cabinetResult ≡ cabinetRefusal (r .number) stateBefore bufferBefore
   -- what it does not is refused with 30 where what remains is smaller than the amount, and only there
-  pub smaller : isRefusal (st .reply .answer) ≡ false → c .remaining < startAmount st
-      → d ≡ cabinetRefusal refusedRemaining l buf
-  pub enough : isRefusal (st .reply .answer) ≡ false → startAmount st ≤ c .remaining → AsKernel st d
+  pub smaller : isRefusal (kernelStep .reply .answer) ≡ false → cabinetBefore .remaining < amountOfStartStep kernelStep
+      → cabinetResult ≡ cabinetRefusal refusedAmountOverRemaining stateBefore bufferBefore
+  pub enough : isRefusal (kernelStep .reply .answer) ≡ false
+      → amountOfStartStep kernelStep ≤ cabinetBefore .remaining → CabinetResultSameAsKernelStep kernelStep cabinetResult
 
 -- every call on bytes l that hold the cabinet c
-pub record AsTheKernel (c : Cabinet) (l : Bytes) : Type 0 where
+pub record CabinetCallsAsKernel (cabinetBefore : Cabinet) (stateBefore : Bytes) : Type 0 where
   pub start : (bytes : StartBytes) (buf : Buffer)
-      → AsStart c (startStep (sessionToStart (c .session)) bytes buf) l buf (cabinetStart bytes l buf)
-  pub answer : (card : Response) (buf : Buffer) → AsKernel (answerStep (c .session) card buf) (cabinetAnswer card l buf)
-  pub link-failed : (buf : Buffer) → AsKernel (linkFailedStep (c .session) buf) (cabinetLinkFailed l buf)
-  pub stop : (buf : Buffer) → AsKernel (stopStep (c .session) buf) (cabinetStop l buf)
+      → CabinetStartAsKernelIfAmountRemains cabinetBefore (startStep (sessionForNewStart (cabinetBefore .session)) bytes buf) stateBefore buf (cabinetStart bytes stateBefore buf)
+  pub answer : (card : Response) (buf : Buffer)
+      → CabinetResultSameAsKernelStep (answerStep (cabinetBefore .session) card buf) (cabinetAnswer card stateBefore buf)
+  pub link-failed : (buf : Buffer)
+      → CabinetResultSameAsKernelStep (linkFailedStep (cabinetBefore .session) buf) (cabinetLinkFailed stateBefore buf)
+  pub stop : (buf : Buffer)
+      → CabinetResultSameAsKernelStep (stopStep (cabinetBefore .session) buf) (cabinetStop stateBefore buf)

@@ -20,57 +20,57 @@ use Rattle.tlv.specs.declared.TlvHeader.{TlvHeader}
 use Rattle.tlv.specs.declared.ObjectFront.{ObjectFront}
 use Rattle.tlv.specs.declared.ObjectFront.the-variants as front
 use Rattle.tlv.specs.Object.{headerValue, behindObject}
-use Rattle.tlv.specs.Primitives.{Object, tlvObject, primitiveOf}
+use Rattle.tlv.specs.Primitives.{Object, tlvObject, primitiveAtFront}
 use Rattle.tlv.proofs.Laws.{contents, contents-is, tail, tail-is}
 use Rattle.tlv.proofs.Primitives.{primitive-fits}
 use Rattle.tlv.proofs.Tree.{shorter-behind}
 use Rattle.cabinet_lookup.specs.declared.LookupSpan.{LookupSpan}
 use Rattle.cabinet_lookup.specs.declared.LookupFound.{LookupFound}
 use Rattle.cabinet_lookup.specs.declared.LookupFound.the-variants.{At, Absent}
-use Rattle.cabinet_lookup.specs.Value.{objectsFromFront, nextObjects, heldObjects, firstValue, valueOrDefault, lookupValue}
-use Rattle.cabinet_lookup.specs.Place.{lookupSpan, spanBytes, lookupShifted, lookupAtFront, lookupNext, lookupFirst, lookupInBoth, lookupPlace}
-use Rattle.cabinet_lookup.specs.Address.{addressAfter, addressInPlace}
-use Rattle.cabinet_lookup.specs.Word.{nowhere, fromSite, fromDefaults, sourceBy, sourceOf, spanWord, placeWord}
+use Rattle.cabinet_lookup.specs.Value.{objectsFromFront, leadingPrimitiveObjectsStep, leadingPrimitiveObjects, firstValueOfTag, valueOrDefault, lookupValue}
+use Rattle.cabinet_lookup.specs.Place.{lookupSpan, spanBytes, lookupShifted, lookupAtFront, lookupStep, lookupFirst, spanBySiteOrDefaults, spanInSiteThenDefaults}
+use Rattle.cabinet_lookup.specs.Address.{addressAfter, addressInSiteOrDefaults}
+use Rattle.cabinet_lookup.specs.Word.{sourceNowhere, sourceSite, sourceDefaults, sourceByValues, lookupSource, lookupWordOfSpan, lookupWord}
 
 -- ---- the recursions end by themselves
 
-held-same : AsksShorter nextObjects
-held-same k k′ s same = go (primitiveOf s) refl
+held-same : AsksShorter leadingPrimitiveObjectsStep
+held-same k k′ s same = go (primitiveAtFront s) refl
   where
-    go : (x : ObjectFront) → primitiveOf s ≡ x → objectsFromFront k s x ≡ objectsFromFront k′ s x
+    go : (x : ObjectFront) → primitiveAtFront s ≡ x → objectsFromFront k s x ≡ objectsFromFront k′ s x
     go front.Broken e = refl
     go (front.Object h) e =
         ap (λ (os : List Object). tlvObject (h .tag) (headerValue s h) ∷ os) (same (behindObject s h) (shorter-behind (primitive-fits s h e)))
 
-pub held-unroll : (s : List ℕ) → heldObjects s ≡ nextObjects heldObjects s
-unfolding heldObjects
-held-unroll s = recurse-unroll [] nextObjects held-same s
+pub held-unroll : (s : List ℕ) → leadingPrimitiveObjects s ≡ leadingPrimitiveObjectsStep leadingPrimitiveObjects s
+unfolding leadingPrimitiveObjects
+held-unroll s = recurse-unroll [] leadingPrimitiveObjectsStep held-same s
 
-place-same : (tag : ℕ) → AsksShorter (lookupNext tag)
-place-same tag k k′ s same = go (primitiveOf s) refl
+place-same : (tag : ℕ) → AsksShorter (lookupStep tag)
+place-same tag k k′ s same = go (primitiveAtFront s) refl
   where
-    go : (x : ObjectFront) → primitiveOf s ≡ x → lookupAtFront tag k s x ≡ lookupAtFront tag k′ s x
+    go : (x : ObjectFront) → primitiveAtFront s ≡ x → lookupAtFront tag k s x ≡ lookupAtFront tag k′ s x
     go front.Broken e = refl
     go (front.Object h) e =
         ap (λ (r : LookupFound). if (eqb (h .tag) tag) (At (lookupSpan (h .start) (h .len))) (lookupShifted (h .start + h .len) r))
         (same (behindObject s h) (shorter-behind (primitive-fits s h e)))
 
 module _ (tag : ℕ) where
-  pub place-unroll : (s : List ℕ) → lookupFirst tag s ≡ lookupNext tag (lookupFirst tag) s
+  pub place-unroll : (s : List ℕ) → lookupFirst tag s ≡ lookupStep tag (lookupFirst tag) s
   unfolding lookupFirst
-  place-unroll s = recurse-unroll Absent (lookupNext tag) (place-same tag) s
+  place-unroll s = recurse-unroll Absent (lookupStep tag) (place-same tag) s
 
   -- ---- one law for each way out of a step
 
   module _ (s : List ℕ) where
-    pub at-broken : primitiveOf s ≡ front.Broken → lookupFirst tag s ≡ Absent
+    pub at-broken : primitiveAtFront s ≡ front.Broken → lookupFirst tag s ≡ Absent
     at-broken e = place-unroll s ∙ ap (lookupAtFront tag (lookupFirst tag) s) e
 
-    value-broken : primitiveOf s ≡ front.Broken → firstValue tag (heldObjects s) ≡ none
-    unfolding firstValue
-    value-broken e = ap (firstValue tag) (held-unroll s ∙ ap (objectsFromFront heldObjects s) e)
+    value-broken : primitiveAtFront s ≡ front.Broken → firstValueOfTag tag (leadingPrimitiveObjects s) ≡ none
+    unfolding firstValueOfTag
+    value-broken e = ap (firstValueOfTag tag) (held-unroll s ∙ ap (objectsFromFront leadingPrimitiveObjects s) e)
 
-    module _ (h : TlvHeader) (e : primitiveOf s ≡ front.Object h) where
+    module _ (h : TlvHeader) (e : primitiveAtFront s ≡ front.Object h) where
       at-object : lookupFirst tag s ≡ lookupAtFront tag (lookupFirst tag) s (front.Object h)
       at-object = place-unroll s ∙ ap (lookupAtFront tag (lookupFirst tag) s) e
 
@@ -80,14 +80,14 @@ module _ (tag : ℕ) where
       pub at-behind : (h .tag ≡ tag → ⊥) → lookupFirst tag s ≡ lookupShifted (h .start + h .len) (lookupFirst tag (behindObject s h))
       at-behind n = at-object ∙ if-no _ _ (ne-eqb (h .tag) tag n)
 
-      value-object : firstValue tag (heldObjects s) ≡ if (eqb (h .tag) tag) (some (headerValue s h)) (firstValue tag (heldObjects (behindObject s h)))
-      unfolding firstValue
-      value-object = ap (firstValue tag) (held-unroll s ∙ ap (objectsFromFront heldObjects s) e)
+      value-object : firstValueOfTag tag (leadingPrimitiveObjects s) ≡ if (eqb (h .tag) tag) (some (headerValue s h)) (firstValueOfTag tag (leadingPrimitiveObjects (behindObject s h)))
+      unfolding firstValueOfTag
+      value-object = ap (firstValueOfTag tag) (held-unroll s ∙ ap (objectsFromFront leadingPrimitiveObjects s) e)
 
-      value-here : h .tag ≡ tag → firstValue tag (heldObjects s) ≡ some (headerValue s h)
+      value-here : h .tag ≡ tag → firstValueOfTag tag (leadingPrimitiveObjects s) ≡ some (headerValue s h)
       value-here t = value-object ∙ if-yes _ _ (eq-eqb (h .tag) tag t)
 
-      value-behind : (h .tag ≡ tag → ⊥) → firstValue tag (heldObjects s) ≡ firstValue tag (heldObjects (behindObject s h))
+      value-behind : (h .tag ≡ tag → ⊥) → firstValueOfTag tag (leadingPrimitiveObjects s) ≡ firstValueOfTag tag (leadingPrimitiveObjects (behindObject s h))
       value-behind n = value-object ∙ if-no _ _ (ne-eqb (h .tag) tag n)
 
 -- ---- a place has the value of the first object
@@ -105,14 +105,14 @@ stands-behind s n (At p) v h w = (
   w .1 ∙ ap (λ (t : List ℕ). some (take (p .len) t)) (drop-drop (p .start) n s),
 )
 
-pub stands : (tag : ℕ) (s : List ℕ) → Stands s (lookupFirst tag s) (firstValue tag (heldObjects s))
-stands tag = shorter-first (λ s. Stands s (lookupFirst tag s) (firstValue tag (heldObjects s))) step
+pub stands : (tag : ℕ) (s : List ℕ) → Stands s (lookupFirst tag s) (firstValueOfTag tag (leadingPrimitiveObjects s))
+stands tag = shorter-first (λ s. Stands s (lookupFirst tag s) (firstValueOfTag tag (leadingPrimitiveObjects s))) step
   where
-    step : (s : List ℕ) → ((v : List ℕ) → length v < length s → Stands v (lookupFirst tag v) (firstValue tag (heldObjects v)))
-        → Stands s (lookupFirst tag s) (firstValue tag (heldObjects s))
-    step s ih = go (primitiveOf s) refl
+    step : (s : List ℕ) → ((v : List ℕ) → length v < length s → Stands v (lookupFirst tag v) (firstValueOfTag tag (leadingPrimitiveObjects v)))
+        → Stands s (lookupFirst tag s) (firstValueOfTag tag (leadingPrimitiveObjects s))
+    step s ih = go (primitiveAtFront s) refl
       where
-        go : (x : ObjectFront) → primitiveOf s ≡ x → Stands s (lookupFirst tag s) (firstValue tag (heldObjects s))
+        go : (x : ObjectFront) → primitiveAtFront s ≡ x → Stands s (lookupFirst tag s) (firstValueOfTag tag (leadingPrimitiveObjects s))
         go front.Broken e = rw (at-broken tag s e) (value-broken tag s e)
         go (front.Object h) e =
             let f = primitive-fits s h e in
@@ -126,8 +126,8 @@ stands tag = shorter-first (λ s. Stands s (lookupFirst tag s) (firstValue tag (
 
 module _ (site defaults : List ℕ) where
   value-both : (x y : LookupFound) (v w : Option (List ℕ)) → Stands site x v → Stands defaults y w
-      → spanBytes (site ++ defaults) (lookupInBoth (length site) x y) ≡ valueOrDefault v (valueOrDefault w [])
-  unfolding lookupInBoth valueOrDefault
+      → spanBytes (site ++ defaults) (spanBySiteOrDefaults (length site) x y) ≡ valueOrDefault v (valueOrDefault w [])
+  unfolding spanBySiteOrDefaults valueOrDefault
   value-both (At p) y v w f g =
       rw (f .1, drop-append-le (p .start) site defaults (omega arith))
       (take-append-le (p .len) (drop (p .start) site) defaults (let l = length-drop (p .start) site in omega arith))
@@ -135,18 +135,18 @@ module _ (site defaults : List ℕ) where
   value-both Absent Absent v w f g = rw (f, g)
 
   inside-both : (x y : LookupFound) (v w : Option (List ℕ)) → Stands site x v → Stands defaults y w
-      → lookupInBoth (length site) x y .start + lookupInBoth (length site) x y .len ≤ length site + length defaults
-  unfolding lookupInBoth
+      → spanBySiteOrDefaults (length site) x y .start + spanBySiteOrDefaults (length site) x y .len ≤ length site + length defaults
+  unfolding spanBySiteOrDefaults
   inside-both (At p) y v w f g = omega arith
   inside-both Absent (At p) v w f g = omega arith
   inside-both Absent Absent v w f g = omega arith
 
   -- the bytes at the place are the value
-  pub value-at : (tag : ℕ) → spanBytes (site ++ defaults) (lookupPlace tag site defaults) ≡ lookupValue tag site defaults
+  pub value-at : (tag : ℕ) → spanBytes (site ++ defaults) (spanInSiteThenDefaults tag site defaults) ≡ lookupValue tag site defaults
   value-at tag = value-both (lookupFirst tag site) (lookupFirst tag defaults) _ _ (stands tag site) (stands tag defaults)
 
   -- the place lies inside both lists
-  pub place-inside : (tag : ℕ) (p : LookupSpan) → p ≡ lookupPlace tag site defaults → p .start + p .len ≤ length site + length defaults
+  pub place-inside : (tag : ℕ) (p : LookupSpan) → p ≡ spanInSiteThenDefaults tag site defaults → p .start + p .len ≤ length site + length defaults
   place-inside tag p e = rw e (inside-both (lookupFirst tag site) (lookupFirst tag defaults) _ _ (stands tag site) (stands tag defaults))
 
 -- ---- by what is found in each list
@@ -158,65 +158,65 @@ found-inside tag s p e = (rw e at (stands tag s)) .0
 module _ (tag : ℕ) (site defaults : List ℕ) where
   -- these bytes are the value, and they are those at the place
   abbrev pub Handed : List ℕ → Type 0
-  Handed v = (v ≡ lookupValue tag site defaults) × (v ≡ spanBytes (site ++ defaults) (lookupPlace tag site defaults))
+  Handed v = (v ≡ lookupValue tag site defaults) × (v ≡ spanBytes (site ++ defaults) (spanInSiteThenDefaults tag site defaults))
 
   handed : (v : List ℕ) → v ≡ lookupValue tag site defaults → Handed v
   handed v e = (e, e ∙ sym (value-at site defaults tag))
 
   module _ (p : LookupSpan) (e : lookupFirst tag site ≡ At p) where
-    pub site-place : lookupPlace tag site defaults ≡ p
-    unfolding lookupInBoth
-    site-place = ap (λ (x : LookupFound). lookupInBoth (length site) x (lookupFirst tag defaults)) e
+    pub site-place : spanInSiteThenDefaults tag site defaults ≡ p
+    unfolding spanBySiteOrDefaults
+    site-place = ap (λ (x : LookupFound). spanBySiteOrDefaults (length site) x (lookupFirst tag defaults)) e
 
     pub site-part : Handed (contents site (p .start) (p .len))
     unfolding valueOrDefault
     site-part =
-        let v : firstValue tag (heldObjects site) ≡ some (spanBytes site p) = (rw e at (stands tag site)) .1 in
-        handed _ (contents-is site (p .start) (p .len) ∙ sym (ap (λ (x : Option (List ℕ)). valueOrDefault x (valueOrDefault (firstValue tag (heldObjects defaults)) [])) v))
+        let v : firstValueOfTag tag (leadingPrimitiveObjects site) ≡ some (spanBytes site p) = (rw e at (stands tag site)) .1 in
+        handed _ (contents-is site (p .start) (p .len) ∙ sym (ap (λ (x : Option (List ℕ)). valueOrDefault x (valueOrDefault (firstValueOfTag tag (leadingPrimitiveObjects defaults)) [])) v))
 
   module _ (n : lookupFirst tag site ≡ Absent) where
-    nothing : lookupValue tag site defaults ≡ valueOrDefault (firstValue tag (heldObjects defaults)) []
+    nothing : lookupValue tag site defaults ≡ valueOrDefault (firstValueOfTag tag (leadingPrimitiveObjects defaults)) []
     unfolding valueOrDefault
     nothing =
-        let v : firstValue tag (heldObjects site) ≡ none = rw n at (stands tag site) in
-        ap (λ (x : Option (List ℕ)). valueOrDefault x (valueOrDefault (firstValue tag (heldObjects defaults)) [])) v
+        let v : firstValueOfTag tag (leadingPrimitiveObjects site) ≡ none = rw n at (stands tag site) in
+        ap (λ (x : Option (List ℕ)). valueOrDefault x (valueOrDefault (firstValueOfTag tag (leadingPrimitiveObjects defaults)) [])) v
 
     module _ (p : LookupSpan) (e : lookupFirst tag defaults ≡ At p) where
-      pub default-place : lookupPlace tag site defaults ≡ lookupSpan (length site + p .start) (p .len)
-      unfolding lookupInBoth
+      pub default-place : spanInSiteThenDefaults tag site defaults ≡ lookupSpan (length site + p .start) (p .len)
+      unfolding spanBySiteOrDefaults
       default-place = rw (n, e)
 
       pub default-part : Handed (contents defaults (p .start) (p .len))
       unfolding valueOrDefault
       default-part =
-          let v : firstValue tag (heldObjects defaults) ≡ some (spanBytes defaults p) = (rw e at (stands tag defaults)) .1 in
+          let v : firstValueOfTag tag (leadingPrimitiveObjects defaults) ≡ some (spanBytes defaults p) = (rw e at (stands tag defaults)) .1 in
           handed _ (contents-is defaults (p .start) (p .len) ∙ sym (nothing ∙ ap (λ (x : Option (List ℕ)). valueOrDefault x []) v))
 
     module _ (e : lookupFirst tag defaults ≡ Absent) where
-      pub no-place : lookupPlace tag site defaults ≡ lookupSpan (length site) 0
-      unfolding lookupInBoth
+      pub no-place : spanInSiteThenDefaults tag site defaults ≡ lookupSpan (length site) 0
+      unfolding spanBySiteOrDefaults
       no-place = rw (n, e)
 
       pub no-part : Handed []
       unfolding valueOrDefault
       no-part =
-          let v : firstValue tag (heldObjects defaults) ≡ none = rw e at (stands tag defaults) in
+          let v : firstValueOfTag tag (leadingPrimitiveObjects defaults) ≡ none = rw e at (stands tag defaults) in
           handed _ (sym (nothing ∙ ap (λ (x : Option (List ℕ)). valueOrDefault x []) v))
 
 -- ---- the address, by what is found in each list
 
 module _ (s d : ℕ × ℕ) (x y : LookupFound) where
-  pub site-address : (p : LookupSpan) → x ≡ At p → addressAfter (p .start) s ≡ addressInPlace s d x y
-  unfolding addressInPlace
-  site-address p e = sym (ap (λ (r : LookupFound). addressInPlace s d r y) e)
+  pub site-address : (p : LookupSpan) → x ≡ At p → addressAfter (p .start) s ≡ addressInSiteOrDefaults s d x y
+  unfolding addressInSiteOrDefaults
+  site-address p e = sym (ap (λ (r : LookupFound). addressInSiteOrDefaults s d r y) e)
 
   module _ (n : x ≡ Absent) where
-    pub default-address : (p : LookupSpan) → y ≡ At p → addressAfter (p .start) d ≡ addressInPlace s d x y
-    unfolding addressInPlace
+    pub default-address : (p : LookupSpan) → y ≡ At p → addressAfter (p .start) d ≡ addressInSiteOrDefaults s d x y
+    unfolding addressInSiteOrDefaults
     default-address p e = rw (n, e)
 
-    pub no-address : y ≡ Absent → addressAfter 0 d ≡ addressInPlace s d x y
-    unfolding addressInPlace
+    pub no-address : y ≡ Absent → addressAfter 0 d ≡ addressInSiteOrDefaults s d x y
+    unfolding addressInSiteOrDefaults
     no-address e = rw (n, e)
 
 -- ---- a walk over one list, as the code makes it: `at` is where the rest begins
@@ -242,11 +242,11 @@ module _ (tag : ℕ) (bytes : List ℕ) where
   begin = record { inside = omega arith; is = sym (shifted-zero _ ∙ ap (lookupFirst tag) (tail-is bytes 0)) }
 
   module _ {at : ℕ} (w : Reached at) where
-    pub stopped : primitiveOf (tail bytes at) ≡ front.Broken → lookupFirst tag bytes ≡ Absent
+    pub stopped : primitiveAtFront (tail bytes at) ≡ front.Broken → lookupFirst tag bytes ≡ Absent
     unfolding lookupShifted
     stopped e = w .is ∙ ap (lookupShifted at) (at-broken tag _ e)
 
-    module _ (h : TlvHeader) (e : primitiveOf (tail bytes at) ≡ front.Object h) where
+    module _ (h : TlvHeader) (e : primitiveAtFront (tail bytes at) ≡ front.Object h) where
       pub bounds : (2 ≤ h .start) × (at + h .start + h .len ≤ length bytes)
       bounds =
           let f = primitive-fits _ _ e in
@@ -277,26 +277,26 @@ module _ (tag : ℕ) (bytes : List ℕ) where
 -- ---- the source of the value, by what is found in each list
 
 module _ (tag : ℕ) (site defaults : List ℕ) where
-  source-by : (v w : Option (List ℕ)) → firstValue tag (heldObjects site) ≡ v → firstValue tag (heldObjects defaults) ≡ w
-      → sourceOf tag site defaults ≡ sourceBy v w
-  source-by v w e f = ap₂ sourceBy e f
+  source-by : (v w : Option (List ℕ)) → firstValueOfTag tag (leadingPrimitiveObjects site) ≡ v → firstValueOfTag tag (leadingPrimitiveObjects defaults) ≡ w
+      → lookupSource tag site defaults ≡ sourceByValues v w
+  source-by v w e f = ap₂ sourceByValues e f
 
-  pub source-site : (p : LookupSpan) → lookupFirst tag site ≡ At p → sourceOf tag site defaults ≡ fromSite
-  unfolding sourceBy
+  pub source-site : (p : LookupSpan) → lookupFirst tag site ≡ At p → lookupSource tag site defaults ≡ sourceSite
+  unfolding sourceByValues
   source-site p e = source-by _ _ ((rw e at (stands tag site)) .1) refl
 
   module _ (n : lookupFirst tag site ≡ Absent) where
-    pub source-default : (p : LookupSpan) → lookupFirst tag defaults ≡ At p → sourceOf tag site defaults ≡ fromDefaults
-    unfolding sourceBy
+    pub source-default : (p : LookupSpan) → lookupFirst tag defaults ≡ At p → lookupSource tag site defaults ≡ sourceDefaults
+    unfolding sourceByValues
     source-default p e = source-by _ _ (rw n at (stands tag site)) ((rw e at (stands tag defaults)) .1)
 
-    pub source-neither : lookupFirst tag defaults ≡ Absent → sourceOf tag site defaults ≡ nowhere
-    unfolding sourceBy
+    pub source-neither : lookupFirst tag defaults ≡ Absent → lookupSource tag site defaults ≡ sourceNowhere
+    unfolding sourceByValues
     source-neither e = source-by _ _ (rw n at (stands tag site)) (rw e at (stands tag defaults))
 
 -- a source is one of three
-pub source-few : (v w : Option (List ℕ)) → sourceBy v w ≤ 2
-unfolding sourceBy
+pub source-few : (v w : Option (List ℕ)) → sourceByValues v w ≤ 2
+unfolding sourceByValues
 source-few (some v) w = omega arith
 source-few none (some w) = omega arith
 source-few none none = omega arith
@@ -308,32 +308,32 @@ pub word-fits : (a k n : ℕ) → k ≤ 2 → a + n < 0x100000000 → a * 0x1000
 word-fits a k n f h = omega arith
 
 module _ (tag : ℕ) (site defaults : List ℕ) where
-  pub word-long : 0x100000000 ≤ length site + length defaults → placeWord tag site defaults ≡ 0xFFFFFFFFFFFFFFFF
-  unfolding placeWord
+  pub word-long : 0x100000000 ≤ length site + length defaults → lookupWord tag site defaults ≡ 0xFFFFFFFFFFFFFFFF
+  unfolding lookupWord
   word-long h = if-yes _ _ (le-leb 0x100000000 (length site + length defaults) h)
 
   module _ (short : length site + length defaults < 0x100000000) where
-    pub word-is : (k : ℕ) (p : LookupSpan) → sourceOf tag site defaults ≡ k → lookupPlace tag site defaults ≡ p
-        → spanWord k p ≡ placeWord tag site defaults
-    unfolding placeWord
-    word-is k p f e = sym (if-no _ _ (lt-leb 0x100000000 (length site + length defaults) short) ∙ ap₂ spanWord f e)
+    pub word-is : (k : ℕ) (p : LookupSpan) → lookupSource tag site defaults ≡ k → spanInSiteThenDefaults tag site defaults ≡ p
+        → lookupWordOfSpan k p ≡ lookupWord tag site defaults
+    unfolding lookupWord
+    word-is k p f e = sym (if-no _ _ (lt-leb 0x100000000 (length site + length defaults) short) ∙ ap₂ lookupWordOfSpan f e)
 
     -- the word of a place is never all ones
-    pub word-below : placeWord tag site defaults < 0xFFFFFFFFFFFFFFFF
+    pub word-below : lookupWord tag site defaults < 0xFFFFFFFFFFFFFFFF
     word-below =
         let i = place-inside site defaults tag _ refl in
         rw (← (word-is _ _ refl refl)) (word-fits _ _ _ (source-few _ _) (omega arith))
 
-    pub word-site : (p : LookupSpan) → lookupFirst tag site ≡ At p → spanWord fromSite p ≡ placeWord tag site defaults
-    word-site p e = word-is fromSite p (source-site tag site defaults p e) (site-place tag site defaults p e)
+    pub word-site : (p : LookupSpan) → lookupFirst tag site ≡ At p → lookupWordOfSpan sourceSite p ≡ lookupWord tag site defaults
+    word-site p e = word-is sourceSite p (source-site tag site defaults p e) (site-place tag site defaults p e)
 
     module _ (n : lookupFirst tag site ≡ Absent) where
       pub word-default : (p : LookupSpan) → lookupFirst tag defaults ≡ At p
-          → spanWord fromDefaults (lookupSpan (length site + p .start) (p .len)) ≡ placeWord tag site defaults
+          → lookupWordOfSpan sourceDefaults (lookupSpan (length site + p .start) (p .len)) ≡ lookupWord tag site defaults
       word-default p e =
-          word-is fromDefaults _ (source-default tag site defaults n p e) (default-place tag site defaults n p e)
+          word-is sourceDefaults _ (source-default tag site defaults n p e) (default-place tag site defaults n p e)
 
-      pub word-neither : lookupFirst tag defaults ≡ Absent → length site * 0x100000000 ≡ placeWord tag site defaults
+      pub word-neither : lookupFirst tag defaults ≡ Absent → length site * 0x100000000 ≡ lookupWord tag site defaults
       word-neither e =
-          let z : length site * 0x100000000 ≡ length site * 0x100000000 + nowhere * 0x10000 + 0 = omega arith in
-          z ∙ word-is nowhere _ (source-neither tag site defaults n e) (no-place tag site defaults n e)
+          let z : length site * 0x100000000 ≡ length site * 0x100000000 + sourceNowhere * 0x10000 + 0 = omega arith in
+          z ∙ word-is sourceNowhere _ (source-neither tag site defaults n e) (no-place tag site defaults n e)

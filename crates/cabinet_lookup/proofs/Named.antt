@@ -15,57 +15,57 @@ use Rattle.tlv.proofs.Laws.{Bytes}
 use Rattle.cabinet_lookup.specs.declared.LookupSpan.{LookupSpan}
 use Rattle.cabinet_lookup.specs.declared.LookupFound.{LookupFound}
 use Rattle.cabinet_lookup.specs.declared.LookupFound.the-variants.{At, Absent}
-use Rattle.cabinet_lookup.specs.Value.{heldObjects, firstValue, lookupValue}
-use Rattle.cabinet_lookup.specs.Place.{lookupSpan, spanBytes, lookupFirst, lookupInBoth, lookupPlace}
-use Rattle.cabinet_lookup.specs.Address.{addressAfter, addressInPlace, addressOf}
-use Rattle.cabinet_lookup.specs.Word.{fromSite, sourceBy, sourceOf, spanWord, placeWord}
-use Rattle.cabinet_lookup.specs.Word.{placeStart, wordSource, lengthIn}
-use Rattle.cabinet_lookup.specs.Named.{addressNamed, Names, Named}
+use Rattle.cabinet_lookup.specs.Value.{leadingPrimitiveObjects, firstValueOfTag, lookupValue}
+use Rattle.cabinet_lookup.specs.Place.{lookupSpan, spanBytes, lookupFirst, spanBySiteOrDefaults, spanInSiteThenDefaults}
+use Rattle.cabinet_lookup.specs.Address.{addressAfter, addressInSiteOrDefaults, addressOfValue}
+use Rattle.cabinet_lookup.specs.Word.{sourceSite, sourceByValues, lookupSource, lookupWordOfSpan, lookupWord}
+use Rattle.cabinet_lookup.specs.Word.{lookupWordStart, lookupWordSource, lookupWordLength}
+use Rattle.cabinet_lookup.specs.Named.{addressFromWord, WordDescribesPart, LookupWordDescribesPart}
 use Rattle.cabinet_lookup.proofs.Laws.{Stands, stands, place-inside, Handed, source-few, word-is}
 use Rattle.cabinet_lookup.proofs.Small.{place-small}
 
 -- ---- the word has its parts back
 
 module _ (a k n : ℕ) (few : k ≤ 2) (small : n < 0x10000) where
-  start-back : placeStart (a * 0x100000000 + k * 0x10000 + n) ≡ a
+  start-back : lookupWordStart (a * 0x100000000 + k * 0x10000 + n) ≡ a
   start-back = omega arith
 
-  source-back : wordSource (a * 0x100000000 + k * 0x10000 + n) ≡ k
+  source-back : lookupWordSource (a * 0x100000000 + k * 0x10000 + n) ≡ k
   source-back = omega arith
 
-  length-back : lengthIn (a * 0x100000000 + k * 0x10000 + n) ≡ n
+  length-back : lookupWordLength (a * 0x100000000 + k * 0x10000 + n) ≡ n
   length-back = omega arith
 
 module _ (tag : ℕ) (site defaults : List ℕ) where
   abbrev word : ℕ
-  word = placeWord tag site defaults
+  word = lookupWord tag site defaults
 
   abbrev place : LookupSpan
-  place = lookupPlace tag site defaults
+  place = spanInSiteThenDefaults tag site defaults
 
   module _ (b : Bytes site) (d : Bytes defaults) (short : length site + length defaults < 0x100000000) where
-    of-word : (f : ℕ → ℕ) (n : ℕ) → f (spanWord (sourceOf tag site defaults) place) ≡ n → f word ≡ n
+    of-word : (f : ℕ → ℕ) (n : ℕ) → f (lookupWordOfSpan (lookupSource tag site defaults) place) ≡ n → f word ≡ n
     of-word f n e = ap f (sym (word-is tag site defaults short _ _ refl refl)) ∙ e
 
-    pub word-start : placeStart word ≡ place .start
-    word-start = of-word placeStart _ (start-back _ _ _ (source-few _ _) (place-small tag site defaults b d))
+    pub word-start : lookupWordStart word ≡ place .start
+    word-start = of-word lookupWordStart _ (start-back _ _ _ (source-few _ _) (place-small tag site defaults b d))
 
-    pub word-source : wordSource word ≡ sourceOf tag site defaults
-    word-source = of-word wordSource _ (source-back _ _ _ (source-few _ _) (place-small tag site defaults b d))
+    pub word-source : lookupWordSource word ≡ lookupSource tag site defaults
+    word-source = of-word lookupWordSource _ (source-back _ _ _ (source-few _ _) (place-small tag site defaults b d))
 
-    pub word-length : lengthIn word ≡ place .len
-    word-length = of-word lengthIn _ (length-back _ _ _ (source-few _ _) (place-small tag site defaults b d))
+    pub word-length : lookupWordLength word ≡ place .len
+    word-length = of-word lookupWordLength _ (length-back _ _ _ (source-few _ _) (place-small tag site defaults b d))
 
 -- ---- the address, by what is found in each list
 
 -- an address by the source and the start, of a site's list of n bytes
 abbrev addressBy : ℕ → ℕ × ℕ → ℕ × ℕ → ℕ → ℕ → ℕ × ℕ
-addressBy n s d k a = if (eqb k fromSite) (addressAfter a s) (addressAfter (a - n) d)
+addressBy n s d k a = if (eqb k sourceSite) (addressAfter a s) (addressAfter (a - n) d)
 
 module _ (site defaults : List ℕ) (s d : ℕ × ℕ) where
   address-both : (x y : LookupFound) (v w : Option (List ℕ)) → Stands site x v → Stands defaults y w
-      → addressInPlace s d x y ≡ addressBy (length site) s d (sourceBy v w) (lookupInBoth (length site) x y .start)
-  unfolding addressInPlace lookupInBoth sourceBy if
+      → addressInSiteOrDefaults s d x y ≡ addressBy (length site) s d (sourceByValues v w) (spanBySiteOrDefaults (length site) x y .start)
+  unfolding addressInSiteOrDefaults spanBySiteOrDefaults sourceByValues if
   address-both (At p) y v w f g = rw (f .1)
   address-both Absent (At p) v w f g =
       let z : p .start ≡ length site + p .start - length site = omega arith in
@@ -87,12 +87,12 @@ module _ (tag : ℕ) (site defaults part : RefT (List ℕ)) (b : Bytes (site .no
   Part = Handed tag (site .now) (defaults .now) (part .now)
 
   -- a part with the bytes and the address of the tag's value is the one that the word names
-  named : Part → part .ptr ≡ addressOf tag site defaults → Named tag site defaults part
+  named : Part → part .ptr ≡ addressOfValue tag site defaults → LookupWordDescribesPart tag site defaults part
   named h a short =
       let start = word-start tag (site .now) (defaults .now) b d short in
       let source = word-source tag (site .now) (defaults .now) b d short in
       let len = word-length tag (site .now) (defaults .now) b d short in
-      let i = place-inside (site .now) (defaults .now) tag (lookupPlace tag (site .now) (defaults .now)) refl in
+      let i = place-inside (site .now) (defaults .now) tag (spanInSiteThenDefaults tag (site .now) (defaults .now)) refl in
       let l = length-append (site .now) (defaults .now) in
       record {
         source = source;
@@ -102,14 +102,14 @@ module _ (tag : ℕ) (site defaults part : RefT (List ℕ)) (b : Bytes (site .no
             ∙ sym (ap₂ (addressBy (length (site .now)) (site .ptr) (defaults .ptr)) source start);
         len =
             ap length (h .1)
-            ∙ part-length (site .now ++ defaults .now) (lookupPlace tag (site .now) (defaults .now)) (omega arith)
+            ∙ part-length (site .now ++ defaults .now) (spanInSiteThenDefaults tag (site .now) (defaults .now)) (omega arith)
             ∙ sym len;
         bytes = h .1 ∙ sym (ap₂ (λ (m n : ℕ). spanBytes (site .now ++ defaults .now) (lookupSpan m n)) start len);
       }
 
   -- the promises of a lookup, by the bytes and the address that it returns
-  pub returned : Part → part .ptr ≡ addressOf tag site defaults
+  pub returned : Part → part .ptr ≡ addressOfValue tag site defaults
       → (part .now ≡ lookupValue tag (site .now) (defaults .now))
-      × ((part .now ≡ spanBytes (site .now ++ defaults .now) (lookupPlace tag (site .now) (defaults .now)))
-      × ((part .ptr ≡ addressOf tag site defaults) × Named tag site defaults part))
+      × ((part .now ≡ spanBytes (site .now ++ defaults .now) (spanInSiteThenDefaults tag (site .now) (defaults .now)))
+      × ((part .ptr ≡ addressOfValue tag site defaults) × LookupWordDescribesPart tag site defaults part))
   returned h a = (h .0, (h .1, (a, named h a)))

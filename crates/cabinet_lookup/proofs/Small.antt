@@ -22,13 +22,13 @@ use Rattle.tlv.specs.declared.ObjectFront.the-variants as front
 use Rattle.tlv.specs.Tag.{tagAt}
 use Rattle.tlv.specs.Length.{lengthAt}
 use Rattle.tlv.specs.Object.{headerWithLength, headerWithTag, headerOf, behindObject}
-use Rattle.tlv.specs.Primitives.{primitiveOf}
+use Rattle.tlv.specs.Primitives.{primitiveAtFront}
 use Rattle.tlv.proofs.Laws.{Bytes, length-small}
 use Rattle.tlv.proofs.Primitives.{primitive-is, primitive-fits}
 use Rattle.tlv.proofs.Tree.{shorter-behind}
 use Rattle.cabinet_lookup.specs.declared.LookupFound.{LookupFound}
 use Rattle.cabinet_lookup.specs.declared.LookupFound.the-variants.{At, Absent}
-use Rattle.cabinet_lookup.specs.Place.{lookupShifted, lookupFirst, lookupInBoth, lookupPlace}
+use Rattle.cabinet_lookup.specs.Place.{lookupShifted, lookupFirst, spanBySiteOrDefaults, spanInSiteThenDefaults}
 use Rattle.cabinet_lookup.proofs.Laws.{at-broken, at-here, at-behind}
 
 bytes-drop : (n : ℕ) (s : List ℕ) → Bytes s → Bytes (drop n s)
@@ -70,9 +70,9 @@ found-small tag = shorter-first (λ s. Bytes s → Small (lookupFirst tag s)) st
   where
     step : (s : List ℕ) → ((v : List ℕ) → length v < length s → Bytes v → Small (lookupFirst tag v))
         → Bytes s → Small (lookupFirst tag s)
-    step s ih b = go (primitiveOf s) refl
+    step s ih b = go (primitiveAtFront s) refl
       where
-        go : (x : ObjectFront) → primitiveOf s ≡ x → Small (lookupFirst tag s)
+        go : (x : ObjectFront) → primitiveAtFront s ≡ x → Small (lookupFirst tag s)
         go front.Broken e = rw (at-broken tag s e) tt
         go (front.Object h) e = elim (equal-or-not (h .tag) tag) [
           | inl t ↦ rw (at-here tag s h e t) (header-small s h b (primitive-is s h e))
@@ -83,14 +83,14 @@ found-small tag = shorter-first (λ s. Bytes s → Small (lookupFirst tag s)) st
 
 -- ---- both lists
 
-small-both : (n : ℕ) (x y : LookupFound) → Small x → Small y → lookupInBoth n x y .len < 0x10000
-unfolding lookupInBoth
+small-both : (n : ℕ) (x y : LookupFound) → Small x → Small y → spanBySiteOrDefaults n x y .len < 0x10000
+unfolding spanBySiteOrDefaults
 small-both n (At p) y f g = f
 small-both n Absent (At p) f g = g
 small-both n Absent Absent f g = omega arith
 
 pub place-small : (tag : ℕ) (site defaults : List ℕ) → Bytes site → Bytes defaults
-    → lookupPlace tag site defaults .len < 0x10000
+    → spanInSiteThenDefaults tag site defaults .len < 0x10000
 place-small tag site defaults b d =
     small-both (length site) (lookupFirst tag site) (lookupFirst tag defaults)
     (found-small tag site b) (found-small tag defaults d)

@@ -13,12 +13,12 @@ abbrev pub addressAfter : Length → ℕ × ℕ → ℕ × ℕ
 addressAfter n a = (a .0, n + a .1)
 
 -- by the addresses of the two lists and what each has: in neither, the front of the defaults
-unfoldable pub addressInPlace : ℕ × ℕ → ℕ × ℕ → LookupFound → LookupFound → ℕ × ℕ
-addressInPlace s d (At p) r = addressAfter (p .start) s
-addressInPlace s d Absent (At p) = addressAfter (p .start) d
-addressInPlace s d Absent Absent = addressAfter 0 d
+unfoldable pub addressInSiteOrDefaults : ℕ × ℕ → ℕ × ℕ → LookupFound → LookupFound → ℕ × ℕ
+addressInSiteOrDefaults s d (At p) r = addressAfter (p .start) s
+addressInSiteOrDefaults s d Absent (At p) = addressAfter (p .start) d
+addressInSiteOrDefaults s d Absent Absent = addressAfter 0 d
 
 -- the address of the value of the tag, of two lists passed in
-abbrev pub addressOf : Tag → RefT StartBytes → RefT StartBytes → ℕ × ℕ
-addressOf tag site defaults =
-    addressInPlace (site .ptr) (defaults .ptr) (lookupFirst tag (site .now)) (lookupFirst tag (defaults .now))
+abbrev pub addressOfValue : Tag → RefT StartBytes → RefT StartBytes → ℕ × ℕ
+addressOfValue tag site defaults =
+    addressInSiteOrDefaults (site .ptr) (defaults .ptr) (lookupFirst tag (site .now)) (lookupFirst tag (defaults .now))

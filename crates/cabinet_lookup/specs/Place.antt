@@ -5,11 +5,11 @@ use Prim.Native.Nat.{_+_}
 use lib.ListN.{length, take, drop}
 use Rattle.basics.specs.Types.{Bytes, Length, Offset, StartBytes, Tag, Value}
 use Rattle.basics.specs.Choice.{if_then_else_, _=?_}
-use Rattle.basics.specs.Recursion.{recurse}
+use Rattle.basics.specs.Recursion.{recurseWithFuelFromLength}
 use Rattle.tlv.specs.declared.ObjectFront.{ObjectFront}
 use Rattle.tlv.specs.declared.ObjectFront.the-variants as front
 use Rattle.tlv.specs.Object.{behindObject}
-use Rattle.tlv.specs.Primitives.{primitiveOf}
+use Rattle.tlv.specs.Primitives.{primitiveAtFront}
 use Rattle.cabinet_lookup.specs.declared.LookupSpan.{LookupSpan}
 use Rattle.cabinet_lookup.specs.declared.LookupFound.{LookupFound}
 use Rattle.cabinet_lookup.specs.declared.LookupFound.the-variants.{At, Absent}
@@ -37,24 +37,25 @@ lookupAtFront tag k s (front.Object h) =
     else lookupShifted (h .start + h .len) (k (behindObject s h))
 
 -- one step, by what k finds in fewer bytes
-abbrev pub lookupNext : Tag → (StartBytes → LookupFound) → StartBytes → LookupFound
-lookupNext tag k s = lookupAtFront tag k s (primitiveOf s)
+abbrev pub lookupStep : Tag → (StartBytes → LookupFound) → StartBytes → LookupFound
+lookupStep tag k s = lookupAtFront tag k s (primitiveAtFront s)
 
 -- where the first object of the tag lies; absent where the list holds none
 unfoldable pub lookupFirst : Tag → StartBytes → LookupFound
-lookupFirst tag s = recurse Absent (lookupNext tag) s
+lookupFirst tag s = recurseWithFuelFromLength Absent (lookupStep tag) s
 
 -- ---- two lists
 
 -- by what each has, of a site's list of n bytes: in neither, no bytes at the front of the defaults
-unfoldable pub lookupInBoth : Length → LookupFound → LookupFound → LookupSpan
-lookupInBoth n (At p) r = p
-lookupInBoth n Absent (At p) = lookupSpan (n + p .start) (p .len)
-lookupInBoth n Absent Absent = lookupSpan n 0
+unfoldable pub spanBySiteOrDefaults : Length → LookupFound → LookupFound → LookupSpan
+spanBySiteOrDefaults n (At p) r = p
+spanBySiteOrDefaults n Absent (At p) = lookupSpan (n + p .start) (p .len)
+spanBySiteOrDefaults n Absent Absent = lookupSpan n 0
 
 -- where the value of the tag lies in the site's bytes and the defaults' after them
-abbrev pub lookupPlace : Tag → StartBytes → StartBytes → LookupSpan
-lookupPlace tag site defaults = lookupInBoth (length site) (lookupFirst tag site) (lookupFirst tag defaults)
+abbrev pub spanInSiteThenDefaults : Tag → StartBytes → StartBytes → LookupSpan
+spanInSiteThenDefaults tag site defaults =
+    spanBySiteOrDefaults (length site) (lookupFirst tag site) (lookupFirst tag defaults)
 
 -- ---- what holds of it, proved in proofs/Laws for all lists
 --   place-unroll    firstAt tag s ≡ nextPlace tag (firstAt tag) s: the steps allowed do not matter

@@ -1,16 +1,16 @@
 // The value of a tag in a site's list of start objects, or else in the maker's list of defaults.
 //
-// `lookup_value` returns the value in place: a part of one of the two lists. `value_place` states which list has the
+// `lookup_value` returns the value in place: a part of one of the two lists. `lookup_word` states which list has the
 // tag and where that part lies, as one word, for a host in C. A list is read from its front up to the first bytes that
 // are no whole primitive object.
 use tlv::ObjectFront;
 ghost use mathlib.Core.Path.{_≡_};
 ghost use mathlib.Core.List.{_++_};
 ghost use Rattle.cabinet_lookup.specs.Value.{lookupValue};
-ghost use Rattle.cabinet_lookup.specs.Place.{lookupFirst, lookupPlace, spanBytes};
-ghost use Rattle.cabinet_lookup.specs.Address.{addressOf};
-ghost use Rattle.cabinet_lookup.specs.Word.{placeWord};
-ghost use Rattle.cabinet_lookup.specs.Named.{Named};
+ghost use Rattle.cabinet_lookup.specs.Place.{lookupFirst, spanInSiteThenDefaults, spanBytes};
+ghost use Rattle.cabinet_lookup.specs.Address.{addressOfValue};
+ghost use Rattle.cabinet_lookup.specs.Word.{lookupWord};
+ghost use Rattle.cabinet_lookup.specs.Named.{LookupWordDescribesPart};
 
 // The most bytes that both lists together may have for a place to be a word.
 pub const MOST: usize = 0xFFFFFFFF;
@@ -39,9 +39,9 @@ pub enum LookupFound {
 // The value of the tag: a part of the site's list where that has the tag, else a part of the defaults.
 pub fn lookup_value<'a>(site: &'a [u8], defaults: &'a [u8], tag: u32) -> &'a [u8]
     ensures value { λ r. ⌜ now r ≡ lookupValue tag (now (site .entry)) (now (defaults .entry)) ⌝ }
-    ensures place { λ r. ⌜ now r ≡ spanBytes (now (site .entry) ++ now (defaults .entry)) (lookupPlace tag (now (site .entry)) (now (defaults .entry))) ⌝ }
-    ensures in_place { λ r. ⌜ r .ptr ≡ addressOf tag (site .entry) (defaults .entry) ⌝ }
-    ensures named { λ r. ⌜ Named tag (site .entry) (defaults .entry) r ⌝ }
+    ensures place { λ r. ⌜ now r ≡ spanBytes (now (site .entry) ++ now (defaults .entry)) (spanInSiteThenDefaults tag (now (site .entry)) (now (defaults .entry))) ⌝ }
+    ensures in_place { λ r. ⌜ r .ptr ≡ addressOfValue tag (site .entry) (defaults .entry) ⌝ }
+    ensures named { λ r. ⌜ LookupWordDescribesPart tag (site .entry) (defaults .entry) r ⌝ }
 {
     let own = first(site, tag);
     if let LookupFound::At(p) = own {
@@ -60,8 +60,8 @@ pub fn lookup_value<'a>(site: &'a [u8], defaults: &'a [u8], tag: u32) -> &'a [u8
 
 // Where that part lies, counted over the site's bytes and then the defaults': the start in bits 32 to 63, the source in
 // bits 16 and 17, the length in bits 0 to 15.
-pub fn value_place(site: &[u8], defaults: &[u8], tag: u32) -> u64
-    ensures { λ r. ⌜ r ≡ placeWord tag (now (site .entry)) (now (defaults .entry)) ⌝ }
+pub fn lookup_word(site: &[u8], defaults: &[u8], tag: u32) -> u64
+    ensures { λ r. ⌜ r ≡ lookupWord tag (now (site .entry)) (now (defaults .entry)) ⌝ }
 {
     let count = site.len();
     if MOST < count {
@@ -88,7 +88,7 @@ fn first(bytes: &[u8], tag: u32) -> LookupFound
 {
     let mut at = 0;
     loop {
-        let front = tlv::primitive(&bytes[at..]);
+        let front = tlv::primitive_at_front(&bytes[at..]);
         let ObjectFront::Object(h) = front else {
             return LookupFound::Absent;
         };

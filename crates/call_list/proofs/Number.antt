@@ -6,16 +6,16 @@ use Prim.Native.Nat.{ℕ, zero, suc, _+_, _*_, _/_, _%_, _<_, _^_}
 use native.Mathlib.Omega.{arith}
 use native.Mathlib.Nat.{pow-zero, pow-suc}
 use lib.ListN.{length, getD, take, drop, length-append, length-drop, take-append-drop}
-use Rattle.basics.specs.Number.{bigEndianFrom, bigEndian}
+use Rattle.basics.specs.Number.{appendBigEndianBytes, bigEndianNumber}
 use Rattle.call_list.specs.Encoding.{bigEndianBytes}
 
-number-append : (n : ℕ) (s t : List ℕ) → bigEndianFrom n (s ++ t) ≡ bigEndianFrom (bigEndianFrom n s) t
-unfolding bigEndianFrom
+number-append : (n : ℕ) (s t : List ℕ) → appendBigEndianBytes n (s ++ t) ≡ appendBigEndianBytes (appendBigEndianBytes n s) t
+unfolding appendBigEndianBytes
 number-append n [] t = refl
 number-append n (a ∷ s) t = number-append (n * 256 + a) s t
 
-pub four-from : (n : ℕ) (s : List ℕ) → length s ≡ 4 → bigEndianFrom n s ≡ (((n * 256 + getD s 0 0) * 256 + getD s 1 0) * 256 + getD s 2 0) * 256 + getD s 3 0
-unfolding bigEndianFrom
+pub four-from : (n : ℕ) (s : List ℕ) → length s ≡ 4 → appendBigEndianBytes n s ≡ (((n * 256 + getD s 0 0) * 256 + getD s 1 0) * 256 + getD s 2 0) * 256 + getD s 3 0
+unfolding appendBigEndianBytes
 four-from n [] h = absurd (omega arith)
 four-from n (a ∷ []) h = absurd (omega arith)
 four-from n (a ∷ b ∷ []) h = absurd (omega arith)
@@ -23,11 +23,11 @@ four-from n (a ∷ b ∷ c ∷ []) h = absurd (omega arith)
 four-from n (a ∷ b ∷ c ∷ d ∷ []) h = refl
 four-from n (a ∷ b ∷ c ∷ d ∷ e ∷ s) h = absurd (omega arith)
 
-pub eight-number : (s : List ℕ) → length s ≡ 8 → bigEndian s ≡ bigEndian (take 4 s) * 4294967296 + bigEndian (drop 4 s)
+pub eight-number : (s : List ℕ) → length s ≡ 8 → bigEndianNumber s ≡ bigEndianNumber (take 4 s) * 4294967296 + bigEndianNumber (drop 4 s)
 eight-number s h =
     let l : length (drop 4 s) ≡ 4 = length-drop 4 s ∙ omega arith in
-    ap bigEndian (sym (take-append-drop 4 s)) ∙ number-append 0 (take 4 s) (drop 4 s)
-    ∙ omega (arith, four-from (bigEndian (take 4 s)) (drop 4 s) l, four-from 0 (drop 4 s) l)
+    ap bigEndianNumber (sym (take-append-drop 4 s)) ∙ number-append 0 (take 4 s) (drop 4 s)
+    ∙ omega (arith, four-from (bigEndianNumber (take 4 s)) (drop 4 s) l, four-from 0 (drop 4 s) l)
 
 -- ---- a number is read back from its bytes
 
@@ -38,8 +38,8 @@ high-length (suc zero) n = refl
 high-length (suc (suc w)) n =
     length-append (bigEndianBytes (suc w) (n / 256)) (n % 256 ∷ []) ∙ omega (arith, high-length (suc w) (n / 256))
 
-pub high-number : (w n : ℕ) → bigEndian (bigEndianBytes (suc w) n) ≡ n
-unfolding bigEndianBytes bigEndianFrom
+pub high-number : (w n : ℕ) → bigEndianNumber (bigEndianBytes (suc w) n) ≡ n
+unfolding bigEndianBytes appendBigEndianBytes
 high-number zero n = omega arith
 high-number (suc w) n =
     number-append 0 (bigEndianBytes (suc w) (n / 256)) (n % 256 ∷ []) ∙ omega (arith, high-number w (n / 256))

@@ -13,11 +13,11 @@ use Rattle.session_record.specs.declared.Reply.{Reply}
 use Rattle.session_record.specs.Numbers.{outcomeNumber}
 use Rattle.session_record.specs.Session.{freshSession}
 use Rattle.session.specs.Calls.{Call, CallMade, playCalls, finalSession}
-use Rattle.session_claim.specs.Claim.{SessionProper}
+use Rattle.session_claim.specs.Claim.{CallsAndSessionAfterInPublishedOrder}
 use Rattle.call_list.specs.declared.CallHeader.{CallHeader}
 use Rattle.call_list.specs.declared.PlayResult.{PlayResult}
 use Rattle.call_list.specs.declared.ListPlayed.{ListPlayed}
-use Rattle.call_list.specs.Encoding.{callHeaderIn, callBufferAt, callEnd, callsOf}
+use Rattle.call_list.specs.Encoding.{callHeaderIn, callBufferOffset, callEndOffset, parsedCalls}
 
 -- ---- the replies
 
@@ -32,9 +32,9 @@ abbrev pub replyBytes : Reply → Bytes
 replyBytes r = resultBytes (r .answer) ++ (r .session .count ∷ [])
 
 -- the replies of all calls, in order
-unfoldable pub repliesOf : List CallMade → Bytes
-repliesOf [] = []
-repliesOf (m ∷ ms) = replyBytes (m .step .reply) ++ repliesOf ms
+unfoldable pub replyBytesOfCalls : List CallMade → Bytes
+replyBytesOfCalls [] = []
+replyBytesOfCalls (m ∷ ms) = replyBytes (m .step .reply) ++ replyBytesOfCalls ms
 
 -- the length of a reply
 abbrev pub replySize : Length
@@ -43,22 +43,22 @@ replySize = 4
 -- ---- the slice of calls afterwards
 
 -- a call's header and the bytes that came in as they were, its buffer as its step left it, and then the rest
-abbrev pub behindBuffer : Bytes → CallHeader → Buffer → Bytes → Bytes
-behindBuffer s h buf rest = take (callBufferAt h) s ++ (buf ++ rest)
+abbrev pub callBytesWithBuffer : Bytes → CallHeader → Buffer → Bytes → Bytes
+callBytesWithBuffer s h buf rest = take (callBufferOffset h) s ++ (buf ++ rest)
 
 -- the same of every call in turn
-unfoldable pub callsAfterPlay : Bytes → List CallMade → Bytes
-callsAfterPlay s [] = s
-callsAfterPlay s (m ∷ ms) =
+unfoldable pub callBytesAfterPlay : Bytes → List CallMade → Bytes
+callBytesAfterPlay s [] = s
+callBytesAfterPlay s (m ∷ ms) =
     let h = callHeaderIn s in
-    behindBuffer s h (m .step .buffer) (callsAfterPlay (drop (callEnd h) s) ms)
+    callBytesWithBuffer s h (m .step .buffer) (callBytesAfterPlay (drop (callEndOffset h) s) ms)
 
 -- ---- a run
 
 -- the calls that are played: those that the bytes are read as, where there is room for their replies; else none
-abbrev pub callsPlayed : Option (List Call) → Bytes → List Call
-callsPlayed none replies = []
-callsPlayed (some cs) replies =
+abbrev pub callsIfRoomForReplies : Option (List Call) → Bytes → List Call
+callsIfRoomForReplies none replies = []
+callsIfRoomForReplies (some cs) replies =
     if replySize * length cs ≤? length replies then cs
     else []
 
@@ -76,18 +76,18 @@ playResultOf (some cs) replies =
     else PlayResult.TooShort
 
 -- the calls cs are played on a fresh session: the session s at the end, and both slices
-pub record PlaysCalls (s : Session) (calls′ replies′ calls replies : Bytes) (cs : List Call) : Type 0 where
-  pub session : s ≡ finalSession freshSession cs
-  pub calls-after : calls′ ≡ callsAfterPlay calls (playCalls freshSession cs)
-  pub replies-after : replies′ ≡ repliesOf (playCalls freshSession cs) ++ drop (replySize * length cs) replies
+pub record PlaysCalls (sessionAfter : Session) (callsAfter repliesAfter callsBefore repliesBefore : Bytes) (callsToPlay : List Call) : Type 0 where
+  pub session : sessionAfter ≡ finalSession freshSession callsToPlay
+  pub calls-after : callsAfter ≡ callBytesAfterPlay callsBefore (playCalls freshSession callsToPlay)
+  pub replies-after : repliesAfter ≡ replyBytesOfCalls (playCalls freshSession callsToPlay) ++ drop (replySize * length callsToPlay) repliesBefore
 
 -- what a run returns and leaves, where cs are the calls that are played, and the claim over them
-pub record PlaysList (r : ListPlayed) (calls′ replies′ calls replies : Bytes) (cs : List Call) : Type 0 where
-  pub said : r .said ≡ playResultOf (callsOf calls) replies
-  pub played : PlaysCalls (r .session) calls′ replies′ calls replies cs
-  pub claim : SessionProper (playCalls freshSession cs) (r .session)
+pub record PlaysListInPublishedOrder (listPlayed : ListPlayed) (callsAfter repliesAfter callsBefore repliesBefore : Bytes) (callsToPlay : List Call) : Type 0 where
+  pub said : listPlayed .said ≡ playResultOf (parsedCalls callsBefore) repliesBefore
+  pub played : PlaysCalls (listPlayed .session) callsAfter repliesAfter callsBefore repliesBefore callsToPlay
+  pub claim : CallsAndSessionAfterInPublishedOrder (playCalls freshSession callsToPlay) (listPlayed .session)
 
 -- the same where the calls and the room for replies are given: those that are there are played
-abbrev pub PlaysListOn : ListPlayed → Bytes → Bytes → Bytes → Bytes → Type 0
-PlaysListOn r calls′ replies′ calls replies =
-    PlaysList r calls′ replies′ calls replies (callsPlayed (callsOf calls) replies)
+abbrev pub PlaysListInBytes : ListPlayed → Bytes → Bytes → Bytes → Bytes → Type 0
+PlaysListInBytes r calls′ replies′ calls replies =
+    PlaysListInPublishedOrder r calls′ replies′ calls replies (callsIfRoomForReplies (parsedCalls calls) replies)

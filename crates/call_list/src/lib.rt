@@ -18,14 +18,14 @@ ghost use mathlib.Core.Option.{some};
 ghost use Prim.Native.Nat.{_+_, _≤_, _<_, min};
 ghost use lib.Dec.{leb};
 ghost use lib.ListN.{length, take, drop};
-ghost use Rattle.basics.specs.Number.{bigEndian};
+ghost use Rattle.basics.specs.Number.{bigEndianNumber};
 ghost use Rattle.session_record.specs.Session.{freshSession};
-ghost use Rattle.session.specs.Steps.{DidStep};
+ghost use Rattle.session.specs.Steps.{ReturnsStep};
 ghost use Rattle.session.specs.Calls.{Call, callStep as stepOf};
-ghost use Rattle.call_list.specs.Encoding.{callHeaderSize, callEnd, isCallKind, callHeaderIn, isWholeCall};
-ghost use Rattle.call_list.specs.Encoding.{callBy, callIn, callsOf, encodedCalls};
-ghost use Rattle.call_list.specs.Playing.{replyBytes, PlaysCalls, PlaysListOn, playResultNumber};
-ghost use Rattle.call_list.specs.Inner.{callFrontIn, callsCountedOf, overBuffer, PlaysOneCall, ReadyToPlay, callsRead};
+ghost use Rattle.call_list.specs.Encoding.{callHeaderSize, callEndOffset, isCallKindWithAllowedLength, callHeaderIn, beginsWithWholeCall};
+ghost use Rattle.call_list.specs.Encoding.{callOfKind, callByHeader, parsedCalls, encodedCalls};
+ghost use Rattle.call_list.specs.Playing.{replyBytes, PlaysCalls, PlaysListInBytes, playResultNumber};
+ghost use Rattle.call_list.specs.Inner.{callFrontIn, callsCountedIn, stepWithBufferInCallBytes, PlaysOneCall, CallsWithRoomForReplies, callsOrEmpty};
 
 // What a run reports: all calls were played, the bytes are no list of calls, or `replies` is too short for the replies.
 // In the last two cases nothing is played and nothing is written.
@@ -81,8 +81,8 @@ pub fn play_result_number(said: PlayResult) -> u8
 
 // Plays the calls that are in `calls`.
 pub fn play_list(calls: &mut [u8], replies: &mut [u8]) -> ListPlayed
-    ensures { λ r. ⌜ PlaysListOn r (now (calls .exit)) (now (replies .exit)) (now (calls .entry)) (now (replies .entry)) ⌝ }
-    ensures every_list { λ _. ⌜ ((cs : List Call) → callsOf (encodedCalls cs) ≡ some cs) ⌝ }
+    ensures { λ r. ⌜ PlaysListInBytes r (now (calls .exit)) (now (replies .exit)) (now (calls .entry)) (now (replies .entry)) ⌝ }
+    ensures every_list { λ _. ⌜ ((cs : List Call) → parsedCalls (encodedCalls cs) ≡ some cs) ⌝ }
 {
     let CallsCounted::Calls(n) = count_calls(calls) else {
         return unplayed(PlayResult::Malformed);
@@ -104,7 +104,7 @@ fn unplayed(said: PlayResult) -> ListPlayed
 
 // How many calls are in some bytes.
 fn count_calls(calls: &[u8]) -> CallsCounted
-    ensures { λ r. ⌜ r ≡ callsCountedOf (callsOf (now (calls .entry))) ⌝ }
+    ensures { λ r. ⌜ r ≡ callsCountedIn (parsedCalls (now (calls .entry))) ⌝ }
 {
     let mut rest = calls;
     let mut n = 0;
@@ -150,7 +150,7 @@ fn header_of(s: &[u8]) -> CallHeader
 
 // Start and answer bring bytes, link failed and stop none.
 fn is_kind(kind: u8, incoming: usize) -> bool
-    ensures { λ r. ⌜ r ≡ isCallKind kind incoming ⌝ }
+    ensures { λ r. ⌜ r ≡ isCallKindWithAllowedLength kind incoming ⌝ }
 {
     if kind == 1 {
         return true;
@@ -169,7 +169,7 @@ fn is_kind(kind: u8, incoming: usize) -> bool
 
 // A call ends inside so many bytes.
 fn is_inside(header: CallHeader, size: usize) -> bool
-    ensures { λ r. ⌜ r ≡ leb (callEnd header) size ⌝ }
+    ensures { λ r. ⌜ r ≡ leb (callEndOffset header) size ⌝ }
 {
     if size < HEADER {
         return false;
@@ -184,23 +184,23 @@ fn is_inside(header: CallHeader, size: usize) -> bool
 // Eight bytes as a number, high byte first.
 fn eight(s: &[u8]) -> usize
     requires { ⌜ length (now s) ≡ 8 ⌝ }
-    ensures { λ r. ⌜ r ≡ bigEndian (now (s .entry)) ⌝ }
+    ensures { λ r. ⌜ r ≡ bigEndianNumber (now (s .entry)) ⌝ }
 {
     four(&s[..4]) * 4294967296 + four(&s[4..])
 }
 
 fn four(s: &[u8]) -> usize
     requires { ⌜ length (now s) ≡ 4 ⌝ }
-    ensures { λ r. ⌜ (r ≡ bigEndian (now (s .entry))) × (r < 4294967296) ⌝ }
+    ensures { λ r. ⌜ (r ≡ bigEndianNumber (now (s .entry))) × (r < 4294967296) ⌝ }
 {
     ((basics::widen(s[0]) * 256 + basics::widen(s[1])) * 256 + basics::widen(s[2])) * 256 + basics::widen(s[3])
 }
 
 // Plays every call of a list of calls, on a fresh session.
 fn play_all(calls: &mut [u8], replies: &mut [u8]) -> Session
-    requires { ⌜ ReadyToPlay (callsOf (now calls)) (now replies) ⌝ }
+    requires { ⌜ CallsWithRoomForReplies (parsedCalls (now calls)) (now replies) ⌝ }
     ensures { λ r. ⌜ PlaysCalls r (now (calls .exit)) (now (replies .exit)) (now (calls .entry)) (now (replies .entry))
-        (callsRead (callsOf (now (calls .entry)))) ⌝ }
+        (callsOrEmpty (parsedCalls (now (calls .entry)))) ⌝ }
 {
     let mut session = session_record::fresh_session();
     let mut at = 0;
@@ -216,7 +216,7 @@ fn play_all(calls: &mut [u8], replies: &mut [u8]) -> Session
 
 // Plays the call at the front of `calls`, and writes what it returned to the front of `replies`.
 fn one_call(session: Session, calls: &mut [u8], replies: &mut [u8]) -> CallPlayed
-    requires { ⌜ (isWholeCall (now calls) ≡ true) × (4 ≤ length (now replies)) ⌝ }
+    requires { ⌜ (beginsWithWholeCall (now calls) ≡ true) × (4 ≤ length (now replies)) ⌝ }
     ensures { λ r. ⌜ PlaysOneCall r (now (calls .exit)) (now (replies .exit)) session (now (calls .entry)) (now (replies .entry)) ⌝ }
 {
     let header = header_of(calls);
@@ -232,8 +232,8 @@ fn one_call(session: Session, calls: &mut [u8], replies: &mut [u8]) -> CallPlaye
 // Makes the call at the front of `calls`, in place. The bytes that come in are copied, since the buffer is
 // a part of the same slice; more than 1,025 of them are like any other 1,025.
 fn call_in(session: Session, header: CallHeader, calls: &mut [u8]) -> Reply
-    requires { ⌜ callEnd header ≤ length (now calls) ⌝ }
-    ensures { λ r. ⌜ DidStep r (now (calls .exit)) (overBuffer (now (calls .entry)) header (stepOf session (callIn (now (calls .entry)) header))) ⌝ }
+    requires { ⌜ callEndOffset header ≤ length (now calls) ⌝ }
+    ensures { λ r. ⌜ ReturnsStep r (now (calls .exit)) (stepWithBufferInCallBytes (now (calls .entry)) header (stepOf session (callByHeader (now (calls .entry)) header))) ⌝ }
 {
     let from = HEADER + header.incoming;
     let end = from + header.capacity;
@@ -260,7 +260,7 @@ fn no_bytes() -> [u8; 1025] {
 
 // Makes a call, by its kind.
 fn make(session: Session, kind: u8, incoming: &[u8], command: &mut [u8]) -> Reply
-    ensures { λ r. ⌜ DidStep r (now (command .exit)) (stepOf session (callBy kind (now (incoming .entry)) (now (command .entry)))) ⌝ }
+    ensures { λ r. ⌜ ReturnsStep r (now (command .exit)) (stepOf session (callOfKind kind (now (incoming .entry)) (now (command .entry)))) ⌝ }
 {
     if kind == 1 {
         return session::start(session, incoming, command);
@@ -288,7 +288,7 @@ fn least(a: usize, b: usize) -> usize
 fn reply_bytes(reply: Reply) -> [u8; 4]
     ensures { λ r. ⌜ r ≡ replyBytes reply ⌝ }
 {
-    let count = session_record::count(reply.session);
+    let count = session_record::command_count(reply.session);
     let answer = reply.answer;
     match answer {
         CallResult::Command(issued) => {

@@ -11,7 +11,7 @@ use session_record::{CallResult, CommandLength, Outcome};
 
 // The words that the program is called with: whether the exit status is reported, which argument names the file (0:
 // none does), and whether there is one name too many or an unknown option.
-struct CheckArguments {
+struct CheckJournalArguments {
     tell: bool,
     file: usize,
     wrong: bool,
@@ -56,8 +56,8 @@ fn send(fd: i32, words: &[u8]) {
 
 // ---- the arguments
 
-fn asked_for() -> CheckArguments {
-    let mut out = CheckArguments {
+fn asked_for() -> CheckJournalArguments {
+    let mut out = CheckJournalArguments {
         tell: false,
         file: 0,
         wrong: false,
@@ -72,12 +72,12 @@ fn asked_for() -> CheckArguments {
 }
 
 // One more argument.
-fn with_argument(arguments: CheckArguments, i: usize) -> CheckArguments {
+fn with_argument(arguments: CheckJournalArguments, i: usize) -> CheckJournalArguments {
     let mut space = io::buffer();
     let n = os::arg(i, &mut space);
     let word = &space[..n];
     let mut out = arguments;
-    if basics::same(word, b"--tell") {
+    if basics::bytes_equal(word, b"--tell") {
         out.tell = true;
         return out;
     }
@@ -91,7 +91,7 @@ fn with_argument(arguments: CheckArguments, i: usize) -> CheckArguments {
     out
 }
 
-fn not_understood(arguments: CheckArguments, words: &[u8]) -> CheckArguments {
+fn not_understood(arguments: CheckJournalArguments, words: &[u8]) -> CheckJournalArguments {
     send(STDERR_FILENO, b"journal: ");
     send(STDERR_FILENO, words);
     send(STDERR_FILENO, b"\n");
@@ -103,7 +103,7 @@ fn not_understood(arguments: CheckArguments, words: &[u8]) -> CheckArguments {
 // ---- the file
 
 // Shows the verdict on the file, and returns the exit status.
-fn judged(asked: CheckArguments) -> u8 {
+fn judged(asked: CheckJournalArguments) -> u8 {
     if asked.wrong {
         return NO_VERDICT;
     }
@@ -186,9 +186,9 @@ fn shown(state: CheckProgress) -> u8 {
     let verdict = journal::finish(checker);
     match verdict {
         JournalVerdict::Accepted(n) => {
-            print::text(b"accepted, ");
+            print::print_text(b"accepted, ");
             print::print_number(n);
-            print::text(b" records\n");
+            print::print_text(b" records\n");
             ACCEPTED
         }
         JournalVerdict::Mismatch(n) => {
@@ -205,28 +205,28 @@ fn shown(state: CheckProgress) -> u8 {
 
 // A record by its number, and what it is.
 fn named(n: usize, words: &[u8]) {
-    print::text(b"record ");
+    print::print_text(b"record ");
     print::print_number(n);
-    print::text(words);
+    print::print_text(words);
 }
 
 // ---- the conforming record in place of a mismatching one
 
 // A line with the reply that was expected, where one was.
 fn right_record(checker: JournalChecker) {
-    let wanted = journal::expected_record(checker);
+    let wanted = journal::expected_reply_record(checker);
     if wanted.size == 0 {
         return;
     }
     let bytes = wanted.bytes;
-    print::text(b"a right kernel has there: ");
+    print::print_text(b"a right kernel has there: ");
     if is_command(&bytes) {
-        print::answer_in_words(command_in(&bytes), body_in(&bytes));
-        print::text(b", zeros behind");
+        print::print_result_in_words(command_in(&bytes), body_in(&bytes));
+        print::print_text(b", zeros behind");
     } else {
-        print::outcome_in_words(outcome_of(basics::byte_at(&bytes, 1)), basics::byte_at(&bytes, 2));
+        print::print_outcome_in_words(outcome_of(basics::byte_at(&bytes, 1)), basics::byte_at(&bytes, 2));
     }
-    print::text(b"\n");
+    print::print_text(b"\n");
 }
 
 // The bytes of a record after its kind and length.

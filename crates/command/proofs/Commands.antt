@@ -16,9 +16,9 @@ use Rattle.basics.proofs.Order.{le-or-gt}
 use Rattle.tlv.specs.Encoding.{lengthBytes}
 use Rattle.tlv.proofs.Laws.{Bytes}
 use Rattle.dictionary.specs.Rows.{dictionaryRows}
-use Rattle.store.specs.Place.{absent, bytesOfValue, objectValue}
+use Rattle.store.specs.Place.{absent, bytesOrEmptyIfAbsent, objectValue}
 use Rattle.dol.specs.Filling.{dolFilled}
-use Rattle.command.specs.WithList.{commandWith, carriedIn, generateAc, computeCryptographicChecksum, gpoDataHead, gpoData, gpoCommandOf, getProcessingOptions}
+use Rattle.command.specs.WithList.{proprietaryCommand, commandIfDataIs1To255Bytes, generateAc, computeCryptographicChecksum, gpoDataTagAndLength, gpoDataOfFilledPdol, gpoCommandOfFilled, getProcessingOptions}
 use Rattle.dol.proofs.Filling.{filled-nothing}
 use Rattle.dol.proofs.Bytes.{bytes-nil, bytes-cons, bytes-append, filled-bytes}
 use Rattle.command.proofs.Parts.{head-short, head-long, head-length}
@@ -30,29 +30,29 @@ no-command c p = let z : _≡_ {A = ℕ} 0 1 = cc in absurd (omega arith)
 pub record Carried (ins p1 p2 : ℕ) (body : List ℕ → List ℕ) (x : Option (List ℕ)) (c : List ℕ) : Type 0 where
   pub bytes : List ℕ
   pub is : x ≡ some bytes
-  pub sent : c ≡ commandWith ins p1 p2 (body bytes)
+  pub sent : c ≡ proprietaryCommand ins p1 p2 (body bytes)
   pub few : length bytes ≤ 255
   pub fits : length (body bytes) ≤ 255
 
-gpo-carried : (x : Option (List ℕ)) (c : List ℕ) → gpoCommandOf x ≡ some c → Carried 0xA8 0 0 gpoData x c
-unfolding gpoCommandOf
+gpo-carried : (x : Option (List ℕ)) (c : List ℕ) → gpoCommandOfFilled x ≡ some c → Carried 0xA8 0 0 gpoDataOfFilledPdol x c
+unfolding gpoCommandOfFilled
 gpo-carried none c p = no-command c p
 gpo-carried (some v) c p = elim (bool-cases (leb (length v) 252)) [
   | inl t ↦
       let h = leb-true (length v) 252 t in
-      let i : some (commandWith 0xA8 0 0 (gpoData v)) ≡ some c = sym (if-yes _ _ t) ∙ p in
+      let i : some (proprietaryCommand 0xA8 0 0 (gpoDataOfFilledPdol v)) ≡ some c = sym (if-yes _ _ t) ∙ p in
       let k = head-length (length v) (omega arith) in
-      record { bytes = v; is = refl; sent = cc; few = omega arith; fits = omega (arith, length-append (gpoDataHead (length v)) v) }
+      record { bytes = v; is = refl; sent = cc; few = omega arith; fits = omega (arith, length-append (gpoDataTagAndLength (length v)) v) }
   | inr t ↦ no-command c (sym (if-no _ _ t) ∙ p)
 ]
 
-dol-carried : (ins p1 p2 : ℕ) (x : Option (List ℕ)) (c : List ℕ) → carriedIn (commandWith ins p1 p2) x ≡ some c → Carried ins p1 p2 (λ v. v) x c
-unfolding carriedIn
+dol-carried : (ins p1 p2 : ℕ) (x : Option (List ℕ)) (c : List ℕ) → commandIfDataIs1To255Bytes (proprietaryCommand ins p1 p2) x ≡ some c → Carried ins p1 p2 (λ v. v) x c
+unfolding commandIfDataIs1To255Bytes
 dol-carried ins p1 p2 none c p = no-command c p
 dol-carried ins p1 p2 (some v) c p = elim (bool-cases (both (leb 1 (length v)) (leb (length v) 255))) [
   | inl t ↦
       let h = leb-true (length v) 255 (both-right _ _ t) in
-      let i : some (commandWith ins p1 p2 v) ≡ some c = sym (if-yes _ _ t) ∙ p in
+      let i : some (proprietaryCommand ins p1 p2 v) ≡ some c = sym (if-yes _ _ t) ∙ p in
       record { bytes = v; is = refl; sent = cc; few = h; fits = h }
   | inr t ↦ no-command c (sym (if-no _ _ t) ∙ p)
 ]
@@ -66,11 +66,11 @@ pub record Proper (ins : ℕ) (c : List ℕ) : Type 0 where
 carried-proper : (ins p1 p2 : ℕ) (body : List ℕ → List ℕ) (x : Option (List ℕ)) (c : List ℕ) → Carried ins p1 p2 body x c → Proper ins c
 carried-proper ins p1 p2 body x c d =
     let f = d .fits in
-    let l : length (commandWith ins p1 p2 (body (d .bytes))) ≡ length (body (d .bytes)) + 6 = simp length-append (omega arith) in
+    let l : length (proprietaryCommand ins p1 p2 (body (d .bytes))) ≡ length (body (d .bytes)) + 6 = simp length-append (omega arith) in
     let e = ap length (d .sent) in
     record { starts = ap (take 2) (d .sent); least = omega arith; most = omega arith }
 
-head-bytes : (n : ℕ) → n < 256 → Bytes (gpoDataHead n)
+head-bytes : (n : ℕ) → n < 256 → Bytes (gpoDataTagAndLength n)
 head-bytes n h =
     let one = bytes-cons n [] h bytes-nil in
     elim (le-or-gt 128 n) [
@@ -78,7 +78,7 @@ head-bytes n h =
       | inr k ↦ subst⁻¹ Bytes (head-short n k) (bytes-cons 0x83 (n ∷ []) (omega arith) one)
     ]
 
-command-bytes : (ins p1 p2 : ℕ) (w : List ℕ) → ins < 256 → p1 < 256 → p2 < 256 → length w < 256 → Bytes w → Bytes (commandWith ins p1 p2 w)
+command-bytes : (ins p1 p2 : ℕ) (w : List ℕ) → ins < 256 → p1 < 256 → p2 < 256 → length w < 256 → Bytes w → Bytes (proprietaryCommand ins p1 p2 w)
 command-bytes ins p1 p2 w h k m l b zero = omega arith
 command-bytes ins p1 p2 w h k m l b (suc zero) = h
 command-bytes ins p1 p2 w h k m l b (suc (suc zero)) = k
@@ -93,7 +93,7 @@ carried-bytes ins p1 p2 body x c d h k m b = subst⁻¹ Bytes (d .sent) (command
 module _ (store c : List ℕ) where
   pub gpo-proper : getProcessingOptions store ≡ some c → Proper 0xA8 c
   unfolding getProcessingOptions
-  gpo-proper p = carried-proper 0xA8 0 0 gpoData _ c (gpo-carried _ c p)
+  gpo-proper p = carried-proper 0xA8 0 0 gpoDataOfFilledPdol _ c (gpo-carried _ c p)
 
   pub cryptogram-proper : (p1 : ℕ) → generateAc p1 store ≡ some c → Proper 0xAE c
   unfolding generateAc
@@ -109,7 +109,7 @@ module _ (store c : List ℕ) where
   gpo-bytes b p =
       let d = gpo-carried _ c p in
       let h = head-bytes (length (d .bytes)) (omega (arith, d .few)) in
-      carried-bytes 0xA8 0 0 gpoData _ c d (omega arith) (omega arith) (omega arith) (bytes-append (gpoDataHead (length (d .bytes))) (d .bytes) h (filled-bytes dictionaryRows store b _ (d .bytes) (d .is)))
+      carried-bytes 0xA8 0 0 gpoDataOfFilledPdol _ c d (omega arith) (omega arith) (omega arith) (bytes-append (gpoDataTagAndLength (length (d .bytes))) (d .bytes) h (filled-bytes dictionaryRows store b _ (d .bytes) (d .is)))
 
   pub cryptogram-bytes : Bytes store → (p1 : ℕ) → p1 < 256 → generateAc p1 store ≡ some c → Bytes c
   unfolding generateAc
@@ -124,13 +124,13 @@ module _ (store c : List ℕ) where
       carried-bytes 0x2A 0x8E 0x80 (λ v. v) _ c d (omega arith) (omega arith) (omega arith) (filled-bytes dictionaryRows store b _ (d .bytes) (d .is))
 
 -- with no list, or an empty one, GPO has the data 83 00
-pub gpo-empty : (store : List ℕ) → bytesOfValue (objectValue store 0x9F38) ≡ []
+pub gpo-empty : (store : List ℕ) → bytesOrEmptyIfAbsent (objectValue store 0x9F38) ≡ []
     → getProcessingOptions store ≡ some (0x80 ∷ 0xA8 ∷ 0 ∷ 0 ∷ 2 ∷ 0x83 ∷ 0 ∷ 0 ∷ [])
-unfolding getProcessingOptions gpoCommandOf lengthBytes if
-gpo-empty store e = ap (λ (l : List ℕ). gpoCommandOf (dolFilled dictionaryRows store l)) e ∙ ap gpoCommandOf (filled-nothing dictionaryRows store) ∙ gpo-nothing
+unfolding getProcessingOptions gpoCommandOfFilled lengthBytes if
+gpo-empty store e = ap (λ (l : List ℕ). gpoCommandOfFilled (dolFilled dictionaryRows store l)) e ∙ ap gpoCommandOfFilled (filled-nothing dictionaryRows store) ∙ gpo-nothing
   where
-    gpo-nothing : gpoCommandOf (some []) ≡ some (0x80 ∷ 0xA8 ∷ 0 ∷ 0 ∷ 2 ∷ 0x83 ∷ 0 ∷ 0 ∷ [])
+    gpo-nothing : gpoCommandOfFilled (some []) ≡ some (0x80 ∷ 0xA8 ∷ 0 ∷ 0 ∷ 2 ∷ 0x83 ∷ 0 ∷ 0 ∷ [])
     gpo-nothing = refl
 
 pub gpo-absent : (store : List ℕ) → objectValue store 0x9F38 ≡ absent → getProcessingOptions store ≡ some (0x80 ∷ 0xA8 ∷ 0 ∷ 0 ∷ 2 ∷ 0x83 ∷ 0 ∷ 0 ∷ [])
-gpo-absent store e = gpo-empty store (ap bytesOfValue e)
+gpo-absent store e = gpo-empty store (ap bytesOrEmptyIfAbsent e)

@@ -6,15 +6,15 @@ use Prim.Native.Nat.{ℕ}
 use lib.ListN.{length, take, replicate}
 use Rattle.basics.specs.Choice.{if, both}
 use Rattle.tlv.specs.Encoding.{lengthBytes}
-use Rattle.afl.specs.Records.{aflEntries, consecutiveRecords, entriesRecords, aflRecords}
+use Rattle.afl.specs.Records.{aflEntries, consecutiveRecords, recordsOfEntries, aflRecords}
 use Rattle.command.specs.ReadRecord.{readRecordCommand}
-use Rattle.command.specs.WithList.{commandWith, carriedIn, udolOrDefault, gpoCommandOf}
+use Rattle.command.specs.WithList.{proprietaryCommand, commandIfDataIs1To255Bytes, udolOrDefault, gpoCommandOfFilled}
 
 -- ---- a record
 
 -- 08 01 01 00: record 1 of file 1, read by 00 B2 01 0C 00
 bench : map readRecordCommand (aflRecords (0x08 ∷ 1 ∷ 1 ∷ 0 ∷ [])) ≡ (0x00 ∷ 0xB2 ∷ 0x01 ∷ 0x0C ∷ 0x00 ∷ []) ∷ []
-unfolding aflEntries entriesRecords consecutiveRecords
+unfolding aflEntries recordsOfEntries consecutiveRecords
 bench = refl
 
 -- ---- the limits of the three commands, each on both sides of its edge
@@ -25,10 +25,10 @@ edge none = []
 edge (some c) = length c ∷ take 8 c
 
 gpo-edge : ℕ → List ℕ
-gpo-edge n = edge (gpoCommandOf (some (replicate n 0xAA)))
+gpo-edge n = edge (gpoCommandOfFilled (some (replicate n 0xAA)))
 
 cryptogram-edge : ℕ → List ℕ
-cryptogram-edge n = edge (carriedIn (commandWith 0xAE 0x40 0) (some (replicate n 0xAA)))
+cryptogram-edge n = edge (commandIfDataIs1To255Bytes (proprietaryCommand 0xAE 0x40 0) (some (replicate n 0xAA)))
 
 -- GPO: a length of 127 is in one byte, 128 after 81; 252 filled bytes are carried, 253 are not
 gpo-edges : map gpo-edge (0 ∷ 127 ∷ 128 ∷ 252 ∷ 253 ∷ [])
@@ -38,7 +38,7 @@ gpo-edges : map gpo-edge (0 ∷ 127 ∷ 128 ∷ 252 ∷ 253 ∷ [])
     ∷ (261 ∷ 0x80 ∷ 0xA8 ∷ 0 ∷ 0 ∷ 255 ∷ 0x83 ∷ 0x81 ∷ 252 ∷ [])
     ∷ []
     ∷ []
-unfolding gpo-edge gpoCommandOf lengthBytes if
+unfolding gpo-edge gpoCommandOfFilled lengthBytes if
 gpo-edges = refl
 
 -- GENERATE AC: 1 to 255 filled bytes are carried
@@ -48,12 +48,12 @@ cryptogram-edges : map cryptogram-edge (0 ∷ 1 ∷ 255 ∷ 256 ∷ [])
     ∷ (261 ∷ 0x80 ∷ 0xAE ∷ 0x40 ∷ 0 ∷ 255 ∷ 0xAA ∷ 0xAA ∷ 0xAA ∷ [])
     ∷ []
     ∷ []
-unfolding cryptogram-edge carriedIn both if
+unfolding cryptogram-edge commandIfDataIs1To255Bytes both if
 cryptogram-edges = refl
 
 -- COMPUTE CRYPTOGRAPHIC CHECKSUM: the same
 checksum-edge : ℕ → List ℕ
-checksum-edge n = edge (carriedIn (commandWith 0x2A 0x8E 0x80) (some (replicate n 0xAA)))
+checksum-edge n = edge (commandIfDataIs1To255Bytes (proprietaryCommand 0x2A 0x8E 0x80) (some (replicate n 0xAA)))
 
 checksum-edges : map checksum-edge (0 ∷ 1 ∷ 255 ∷ 256 ∷ [])
     ≡ []
@@ -61,7 +61,7 @@ checksum-edges : map checksum-edge (0 ∷ 1 ∷ 255 ∷ 256 ∷ [])
     ∷ (261 ∷ 0x80 ∷ 0x2A ∷ 0x8E ∷ 0x80 ∷ 255 ∷ 0xAA ∷ 0xAA ∷ 0xAA ∷ [])
     ∷ []
     ∷ []
-unfolding checksum-edge carriedIn if both
+unfolding checksum-edge commandIfDataIs1To255Bytes if both
 checksum-edges = refl
 
 -- no list and an empty one are the default; one that has bytes is itself, broken or not

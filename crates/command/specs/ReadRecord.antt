@@ -20,10 +20,10 @@ abbrev pub readRecordCommand : CardRecord → CommandBytes
 readRecordCommand r = claInterindustry ∷ insReadRecord ∷ r .number ∷ (r .sfi * 8 + 4) ∷ 0 ∷ []
 
 -- the command where it can be written: its five bytes fit the buffer, and its file number fits five bits
-unfoldable pub readRecordIn : Buffer → CardRecord → Option CommandBytes
-readRecordIn buffer r = if 5 ≤? length buffer and r .sfi <? 32 then some (readRecordCommand r) else none
+unfoldable pub readRecordCommandIfFits : Buffer → CardRecord → Option CommandBytes
+readRecordCommandIfFits buffer r = if 5 ≤? length buffer and r .sfi <? 32 then some (readRecordCommand r) else none
 
 -- the length that is returned: 0 where there is no command
-abbrev pub commandLength : Option CommandBytes → Length
-commandLength none = 0
-commandLength (some c) = length c
+abbrev pub commandLengthOrZero : Option CommandBytes → Length
+commandLengthOrZero none = 0
+commandLengthOrZero (some c) = length c

@@ -7,11 +7,11 @@ use lib.ListN.{length}
 use Rattle.basics.specs.Types.{Buffer, Byte, Bytes, CommandBytes, DolBytes, Length, Reason, StoreBytes, Tag}
 use Rattle.basics.specs.Choice.{if_then_else_, _≤?_}
 use Rattle.basics.specs.Number.{between}
-use Rattle.basics.specs.Front.{withPrefix}
-use Rattle.basics.specs.Reason.{reasonNone, reasonDol}
+use Rattle.basics.specs.Front.{writtenOverFront}
+use Rattle.basics.specs.Reason.{reasonNone, reasonDolBrokenOrBadLength}
 use Rattle.tlv.specs.Encoding.{lengthBytes}
 use Rattle.dictionary.specs.Rows.{dictionaryRows}
-use Rattle.store.specs.Place.{bytesOfValue, objectValue}
+use Rattle.store.specs.Place.{bytesOrEmptyIfAbsent, objectValue}
 use Rattle.command.specs.declared.DolCommand.{DolCommand}
 use Rattle.command.specs.declared.DolCommand.the-variants.{Command, NoCommand}
 use Rattle.dol.specs.Filling.{dolFilled}
@@ -40,35 +40,36 @@ abbrev pub p2ComputeChecksum : Byte
 p2ComputeChecksum = 0x80
 
 -- the tag of the command template, which the filled PDOL is in
-abbrev pub commandTemplate : Tag
-commandTemplate = 0x83
+abbrev pub tagCommandTemplate : Tag
+tagCommandTemplate = 0x83
 
 -- the most bytes that a command carries, and the most of a filled PDOL: tag and length of its template take three
-abbrev pub mostData : Length
-mostData = 255
+abbrev pub mostCommandData : Length
+mostCommandData = 255
 
-abbrev pub mostPdolBytes : Length
-mostPdolBytes = 252
+abbrev pub mostFilledPdolBytes : Length
+mostFilledPdolBytes = 252
 
 -- ---- a filled list in a command
 
 -- class 80, instruction, P1, P2, Lc, data, Le of 00
-abbrev pub commandWith : Byte → Byte → Byte → Bytes → CommandBytes
-commandWith ins p1 p2 body = claProprietary ∷ ins ∷ p1 ∷ p2 ∷ length body ∷ (body ++ (0 ∷ []))
+abbrev pub proprietaryCommand : Byte → Byte → Byte → Bytes → CommandBytes
+proprietaryCommand ins p1 p2 body = claProprietary ∷ ins ∷ p1 ∷ p2 ∷ length body ∷ (body ++ (0 ∷ []))
 
 -- what a list fills to, carried in a command; none, which is reason 7, where it is broken, or fills to no byte or to
 -- more than 255
-unfoldable pub carriedIn : (Bytes → CommandBytes) → Option Bytes → Option CommandBytes
-carriedIn command none = none
-carriedIn command (some v) = if between 1 (length v) mostData then some (command v) else none
+unfoldable pub commandIfDataIs1To255Bytes : (Bytes → CommandBytes) → Option Bytes → Option CommandBytes
+commandIfDataIs1To255Bytes command none = none
+commandIfDataIs1To255Bytes command (some v) = if between 1 (length v) mostCommandData then some (command v) else none
 
 -- a list filled from a store, and carried so
 abbrev pub commandWithDol : (Bytes → CommandBytes) → DolBytes → StoreBytes → Option CommandBytes
-commandWithDol command list store = carriedIn command (dolFilled dictionaryRows store list)
+commandWithDol command list store = commandIfDataIs1To255Bytes command (dolFilled dictionaryRows store list)
 
 -- GENERATE AC, with CDOL1 (8C) and the type requested in P1
 unfoldable pub generateAc : Byte → StoreBytes → Option CommandBytes
-generateAc p1 store = commandWithDol (commandWith insGenerateAc p1 0) (bytesOfValue (objectValue store 0x8C)) store
+generateAc p1 store =
+    commandWithDol (proprietaryCommand insGenerateAc p1 0) (bytesOrEmptyIfAbsent (objectValue store 0x8C)) store
 
 -- the UDOL (9F69), or the default one where it is absent or empty: 9F6A in four bytes (Book C-2, Default UDOL)
 unfoldable pub udolOrDefault : DolBytes → DolBytes
@@ -78,27 +79,29 @@ udolOrDefault (x ∷ l) = x ∷ l
 -- COMPUTE CRYPTOGRAPHIC CHECKSUM, with that list
 unfoldable pub computeCryptographicChecksum : StoreBytes → Option CommandBytes
 computeCryptographicChecksum store =
-    commandWithDol (commandWith insComputeChecksum p1ComputeChecksum p2ComputeChecksum)
-    (udolOrDefault (bytesOfValue (objectValue store 0x9F69))) store
+    commandWithDol (proprietaryCommand insComputeChecksum p1ComputeChecksum p2ComputeChecksum)
+    (udolOrDefault (bytesOrEmptyIfAbsent (objectValue store 0x9F69))) store
 
 -- ---- GPO
 
 -- tag 83, and the length in one byte to 127, in 81 and a byte above
-abbrev pub gpoDataHead : Length → Bytes
-gpoDataHead n = commandTemplate ∷ lengthBytes n
+abbrev pub gpoDataTagAndLength : Length → Bytes
+gpoDataTagAndLength n = tagCommandTemplate ∷ lengthBytes n
 
 -- then the filled list
-abbrev pub gpoData : Bytes → Bytes
-gpoData v = gpoDataHead (length v) ++ v
+abbrev pub gpoDataOfFilledPdol : Bytes → Bytes
+gpoDataOfFilledPdol v = gpoDataTagAndLength (length v) ++ v
 
 -- no command, which is reason 7, for a broken list or over 252 filled bytes; a list may fill to no byte
-unfoldable pub gpoCommandOf : Option Bytes → Option CommandBytes
-gpoCommandOf none = none
-gpoCommandOf (some v) = if length v ≤? mostPdolBytes then some (commandWith insGpo 0 0 (gpoData v)) else none
+unfoldable pub gpoCommandOfFilled : Option Bytes → Option CommandBytes
+gpoCommandOfFilled none = none
+gpoCommandOfFilled (some v) =
+    if length v ≤? mostFilledPdolBytes then some (proprietaryCommand insGpo 0 0 (gpoDataOfFilledPdol v)) else none
 
 -- with the PDOL (9F38); an absent one counts as empty
 unfoldable pub getProcessingOptions : StoreBytes → Option CommandBytes
-getProcessingOptions store = gpoCommandOf (dolFilled dictionaryRows store (bytesOfValue (objectValue store 0x9F38)))
+getProcessingOptions store =
+    gpoCommandOfFilled (dolFilled dictionaryRows store (bytesOrEmptyIfAbsent (objectValue store 0x9F38)))
 
 -- ---- returned
 
@@ -115,17 +118,17 @@ dolCommandOf (some c) = commandOfLength (length c)
 -- broken or fills to no command
 abbrev pub dolCommandReason : DolCommand → Reason
 dolCommandReason (Command c) = reasonNone
-dolCommandReason NoCommand = reasonDol
+dolCommandReason NoCommand = reasonDolBrokenOrBadLength
 
 -- the reason that a list gives: none where it makes a command
-abbrev pub dolReason : Option CommandBytes → Reason
-dolReason none = reasonDol
-dolReason (some c) = reasonNone
+abbrev pub reasonDolIfNoCommand : Option CommandBytes → Reason
+reasonDolIfNoCommand none = reasonDolBrokenOrBadLength
+reasonDolIfNoCommand (some c) = reasonNone
 
 -- the buffer with the command in its front, or as it was where there is none
 abbrev pub bufferWithCommand : Option CommandBytes → Buffer → Buffer
 bufferWithCommand none b = b
-bufferWithCommand (some c) b = withPrefix c b
+bufferWithCommand (some c) b = writtenOverFront c b
 
 -- ---- what holds of it, proved in proofs/Commands for all stores
 --   gpo-proper, cryptogram-proper        a command has 5 to 261 bytes and begins with 80 A8, or 80 AE;

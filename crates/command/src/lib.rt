@@ -8,9 +8,9 @@ use afl::CardRecord;
 ghost use mathlib.Core.Path.{_≡_};
 ghost use Prim.Native.Nat.{_+_, _-_, _≤_, _<_};
 ghost use lib.ListN.{length, take, drop};
-ghost use Rattle.dol.specs.Measure.{writtenOver};
-ghost use Rattle.command.specs.WithList.{commandWith, commandWithDol, gpoDataHead, getProcessingOptions, generateAc, computeCryptographicChecksum, commandOfLength, dolCommandOf, dolCommandReason, dolReason, bufferWithCommand};
-ghost use Rattle.command.specs.ReadRecord.{readRecordIn, commandLength};
+ghost use Rattle.dol.specs.Measure.{bufferWithBytesAt};
+ghost use Rattle.command.specs.WithList.{proprietaryCommand, commandWithDol, gpoDataTagAndLength, getProcessingOptions, generateAc, computeCryptographicChecksum, commandOfLength, dolCommandOf, dolCommandReason, reasonDolIfNoCommand, bufferWithCommand};
+ghost use Rattle.command.specs.ReadRecord.{readRecordCommandIfFits, commandLengthOrZero};
 
 // Class bytes, instruction bytes and parameters (Book C-2, 5.2, 5.4, 5.5 and 5.8). P2 of READ RECORD is the SFI
 // times 8, and 4.
@@ -46,7 +46,7 @@ pub fn get_processing_options(store: &[u8], buffer: &mut [u8]) -> DolCommand
     requires { ⌜ 261 ≤ length (now buffer) ⌝ }
     ensures said { λ r. ⌜ r ≡ dolCommandOf (getProcessingOptions (now (store .entry))) ⌝ }
     ensures kept { λ _. ⌜ now (buffer .exit) ≡ bufferWithCommand (getProcessingOptions (now (store .entry))) (now (buffer .entry)) ⌝ }
-    ensures reason { λ r. ⌜ dolCommandReason r ≡ dolReason (getProcessingOptions (now (store .entry))) ⌝ }
+    ensures reason { λ r. ⌜ dolCommandReason r ≡ reasonDolIfNoCommand (getProcessingOptions (now (store .entry))) ⌝ }
 {
     let list = store::value(store, dictionary::ROW_PDOL);
     let measured = dol::measure(list);
@@ -66,7 +66,7 @@ pub fn generate_ac(store: &[u8], p1: u8, buffer: &mut [u8]) -> DolCommand
     requires { ⌜ 261 ≤ length (now buffer) ⌝ }
     ensures said { λ r. ⌜ r ≡ dolCommandOf (generateAc p1 (now (store .entry))) ⌝ }
     ensures kept { λ _. ⌜ now (buffer .exit) ≡ bufferWithCommand (generateAc p1 (now (store .entry))) (now (buffer .entry)) ⌝ }
-    ensures reason { λ r. ⌜ dolCommandReason r ≡ dolReason (generateAc p1 (now (store .entry))) ⌝ }
+    ensures reason { λ r. ⌜ dolCommandReason r ≡ reasonDolIfNoCommand (generateAc p1 (now (store .entry))) ⌝ }
 {
     let list = store::value(store, dictionary::ROW_CDOL1);
     with_dol(INS_GENERATE_AC, p1, P2_ZERO, list, store, buffer)
@@ -78,7 +78,7 @@ pub fn compute_cryptographic_checksum(store: &[u8], buffer: &mut [u8]) -> DolCom
     requires { ⌜ 261 ≤ length (now buffer) ⌝ }
     ensures said { λ r. ⌜ r ≡ dolCommandOf (computeCryptographicChecksum (now (store .entry))) ⌝ }
     ensures kept { λ _. ⌜ now (buffer .exit) ≡ bufferWithCommand (computeCryptographicChecksum (now (store .entry))) (now (buffer .entry)) ⌝ }
-    ensures reason { λ r. ⌜ dolCommandReason r ≡ dolReason (computeCryptographicChecksum (now (store .entry))) ⌝ }
+    ensures reason { λ r. ⌜ dolCommandReason r ≡ reasonDolIfNoCommand (computeCryptographicChecksum (now (store .entry))) ⌝ }
 {
     let list = store::value(store, dictionary::ROW_UDOL);
     if list.len() != 0 {
@@ -91,10 +91,10 @@ pub fn compute_cryptographic_checksum(store: &[u8], buffer: &mut [u8]) -> DolCom
 // The command of these header bytes, with a list filled from the store.
 fn with_dol(ins: u8, p1: u8, p2: u8, list: &[u8], store: &[u8], buffer: &mut [u8]) -> DolCommand
     requires { ⌜ 261 ≤ length (now buffer) ⌝ }
-    ensures said { λ r. ⌜ r ≡ dolCommandOf (commandWithDol (commandWith ins p1 p2) (now (list .entry)) (now (store .entry))) ⌝ }
+    ensures said { λ r. ⌜ r ≡ dolCommandOf (commandWithDol (proprietaryCommand ins p1 p2) (now (list .entry)) (now (store .entry))) ⌝ }
     ensures kept { λ _. ⌜ now (buffer .exit) ≡ bufferWithCommand
-        (commandWithDol (commandWith ins p1 p2) (now (list .entry)) (now (store .entry))) (now (buffer .entry)) ⌝ }
-    ensures reason { λ r. ⌜ dolCommandReason r ≡ dolReason (commandWithDol (commandWith ins p1 p2) (now (list .entry)) (now (store .entry))) ⌝ }
+        (commandWithDol (proprietaryCommand ins p1 p2) (now (list .entry)) (now (store .entry))) (now (buffer .entry)) ⌝ }
+    ensures reason { λ r. ⌜ dolCommandReason r ≡ reasonDolIfNoCommand (commandWithDol (proprietaryCommand ins p1 p2) (now (list .entry)) (now (store .entry))) ⌝ }
 {
     let measured = dol::measure(list);
     let DolTotal::Total(n) = measured else {
@@ -110,8 +110,8 @@ fn with_dol(ins: u8, p1: u8, p2: u8, list: &[u8], store: &[u8], buffer: &mut [u8
 // Writes the tag 83 and the length of n filled bytes at place 5; the place after them.
 fn gpo_head(n: usize, buffer: &mut [u8]) -> usize
     requires { ⌜ (n < 256) × (261 ≤ length (now buffer)) ⌝ }
-    ensures next { λ r. ⌜ r ≡ 5 + length (gpoDataHead n) ⌝ }
-    ensures kept { λ _. ⌜ now (buffer .exit) ≡ writtenOver (now (buffer .entry)) 5 (gpoDataHead n) ⌝ }
+    ensures next { λ r. ⌜ r ≡ 5 + length (gpoDataTagAndLength n) ⌝ }
+    ensures kept { λ _. ⌜ now (buffer .exit) ≡ bufferWithBytesAt (now (buffer .entry)) 5 (gpoDataTagAndLength n) ⌝ }
 {
     buffer[5] = COMMAND_TEMPLATE;
     if n < 128 {
@@ -127,7 +127,7 @@ fn gpo_head(n: usize, buffer: &mut [u8]) -> usize
 fn close(ins: u8, p1: u8, p2: u8, buffer: &mut [u8], end: usize) -> DolCommand
     requires { ⌜ (5 ≤ end) × (end ≤ 260) × (261 ≤ length (now buffer)) ⌝ }
     ensures said { λ r. ⌜ r ≡ commandOfLength (end + 1) ⌝ }
-    ensures kept { λ _. ⌜ now (buffer .exit) ≡ writtenOver (now (buffer .entry)) 0 (commandWith ins p1 p2 (take (end - 5) (drop 5 (now (buffer .entry))))) ⌝ }
+    ensures kept { λ _. ⌜ now (buffer .exit) ≡ bufferWithBytesAt (now (buffer .entry)) 0 (proprietaryCommand ins p1 p2 (take (end - 5) (drop 5 (now (buffer .entry))))) ⌝ }
 {
     buffer[0] = CLA_PROPRIETARY;
     buffer[1] = ins;
@@ -141,8 +141,8 @@ fn close(ins: u8, p1: u8, p2: u8, buffer: &mut [u8], end: usize) -> DolCommand
 // Writes the command that reads a record at the front of `command`, and returns its length, 5.
 // A buffer under 5 bytes or a file number over 31 gets no command: the length is 0 and the buffer stays.
 pub fn read_record(wanted: CardRecord, command: &mut [u8]) -> usize
-    ensures said { λ n. ⌜ n ≡ commandLength (readRecordIn (now (command .entry)) wanted) ⌝ }
-    ensures kept { λ _. ⌜ now (command .exit) ≡ bufferWithCommand (readRecordIn (now (command .entry)) wanted) (now (command .entry)) ⌝ }
+    ensures said { λ n. ⌜ n ≡ commandLengthOrZero (readRecordCommandIfFits (now (command .entry)) wanted) ⌝ }
+    ensures kept { λ _. ⌜ now (command .exit) ≡ bufferWithCommand (readRecordCommandIfFits (now (command .entry)) wanted) (now (command .entry)) ⌝ }
 {
     if command.len() < 5 {
         return 0;

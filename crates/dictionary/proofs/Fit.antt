@@ -6,44 +6,44 @@ use Prim.Native.Nat.{ℕ, _≤_, _<_}
 use lib.ListN.{length}
 use borrow.Author.Tests.{le-leb, lt-leb, eq-eqb, ne-eqb, leb-true}
 use Rattle.basics.proofs.Laws.{if-yes, if-no, both-true, both-left, both-right, both-no-left}
-use Rattle.dictionary.specs.declared.Attributes.{Attributes}
+use Rattle.dictionary.specs.declared.RowAttributes.{RowAttributes}
 use Rattle.dictionary.specs.Rows.{Row, formN, formCn}
-use Rattle.dictionary.specs.Packing.{attributesOf, rowWithAttributes}
-use Rattle.dictionary.specs.Form.{fitsRow, digitsFit, numeric, compressed}
+use Rattle.dictionary.specs.Packing.{attributesOf, rowWithAttributesAndTagZero}
+use Rattle.dictionary.specs.Form.{lengthAndDigitsFitRow, digitsMatchForm, isNumeric, isCompressedNumeric}
 
 -- a value that fits is neither too short nor too long
-pub fits-length : (r : Row) (v : List ℕ) → fitsRow r v ≡ true → (r .least ≤ length v) × (length v ≤ r .greatest)
-unfolding fitsRow
+pub fits-length : (r : Row) (v : List ℕ) → lengthAndDigitsFitRow r v ≡ true → (r .least ≤ length v) × (length v ≤ r .greatest)
+unfolding lengthAndDigitsFitRow
 fits-length r v e = (leb-true _ _ (both-left _ _ e), leb-true _ _ (both-left _ _ (both-right _ _ e)))
 
 -- what fits a row's attributes fits the row
-pub row-fits : (x : Row) (v : List ℕ) {r : Bool} {a : Attributes} → r ≡ fitsRow (rowWithAttributes a) v → a ≡ attributesOf x → r ≡ fitsRow x v
-unfolding fitsRow
-row-fits x v e f = e ∙ ap (λ (z : Attributes). fitsRow (rowWithAttributes z) v) f
+pub row-fits : (x : Row) (v : List ℕ) {r : Bool} {a : RowAttributes} → r ≡ lengthAndDigitsFitRow (rowWithAttributesAndTagZero a) v → a ≡ attributesOf x → r ≡ lengthAndDigitsFitRow x v
+unfolding lengthAndDigitsFitRow
+row-fits x v e f = e ∙ ap (λ (z : RowAttributes). lengthAndDigitsFitRow (rowWithAttributesAndTagZero z) v) f
 
 module _ (r : Row) (v : List ℕ) where
-  pub too-short : length v < r .least → fitsRow r v ≡ false
-  unfolding fitsRow
+  pub too-short : length v < r .least → lengthAndDigitsFitRow r v ≡ false
+  unfolding lengthAndDigitsFitRow
   too-short h = both-no-left _ _ (lt-leb _ _ h)
 
-  pub too-long : r .least ≤ length v → r .greatest < length v → fitsRow r v ≡ false
-  unfolding fitsRow
+  pub too-long : r .least ≤ length v → r .greatest < length v → lengthAndDigitsFitRow r v ≡ false
+  unfolding lengthAndDigitsFitRow
   too-long a h = both-true _ (le-leb _ _ a) ∙ both-no-left _ _ (lt-leb _ _ h)
 
   -- where the length is in range, the form decides
-  pub by-form : r .least ≤ length v → length v ≤ r .greatest → fitsRow r v ≡ digitsFit (r .form) v
-  unfolding fitsRow
+  pub by-form : r .least ≤ length v → length v ≤ r .greatest → lengthAndDigitsFitRow r v ≡ digitsMatchForm (r .form) v
+  unfolding lengthAndDigitsFitRow
   by-form a h = both-true _ (le-leb _ _ a) ∙ both-true _ (le-leb _ _ h)
 
 module _ {f : ℕ} (v : List ℕ) where
-  pub form-n : f ≡ formN → digitsFit f v ≡ numeric v
-  unfolding digitsFit
+  pub form-n : f ≡ formN → digitsMatchForm f v ≡ isNumeric v
+  unfolding digitsMatchForm
   form-n e = if-yes _ _ (eq-eqb _ _ e)
 
-  pub form-cn : (f ≡ formN → ⊥) → f ≡ formCn → digitsFit f v ≡ compressed v
-  unfolding digitsFit
+  pub form-cn : (f ≡ formN → ⊥) → f ≡ formCn → digitsMatchForm f v ≡ isCompressedNumeric v
+  unfolding digitsMatchForm
   form-cn a e = if-no _ _ (ne-eqb _ _ a) ∙ if-yes _ _ (eq-eqb _ _ e)
 
-  pub form-b : (f ≡ formN → ⊥) → (f ≡ formCn → ⊥) → digitsFit f v ≡ true
-  unfolding digitsFit
+  pub form-b : (f ≡ formN → ⊥) → (f ≡ formCn → ⊥) → digitsMatchForm f v ≡ true
+  unfolding digitsMatchForm
   form-b a b = if-no _ _ (ne-eqb _ _ a) ∙ if-no _ _ (ne-eqb _ _ b)

@@ -9,15 +9,15 @@ use Rattle.dictionary.specs.declared.RowFound.{RowFound}
 use Rattle.dictionary.specs.declared.RowFound.the-variants.{At}
 use Rattle.dictionary.specs.Rows.{Row, dictionaryRows, rowAt, rowCount, findRow}
 use Rattle.dictionary.specs.Rule.{risingTags}
-use Rattle.dictionary.specs.Packing.{attributesOf, packedRow, unpackedRow}
+use Rattle.dictionary.specs.Packing.{attributesOf, packedRowAttributes, unpackedRowAttributes}
 use Rattle.dictionary.specs.Search.{tagsOf}
-use Rattle.dictionary.specs.Tables.{packedRows}
+use Rattle.dictionary.specs.Tables.{packedAttributesOfRows}
 use Rattle.dictionary.proofs.Table.{column}
 use Rattle.dictionary.proofs.Find.{found}
 use Rattle.dictionary.proofs.Rule.{rows-proper, proper-rising}
 use Rattle.dictionary.proofs.Packing.{code-unpacks}
 
--- from what `search` promises of every rising table
+-- from what `search_tags` promises of every rising table
 pub lent-found : (t : ℕ) {tags : List ℕ} {x : RowFound} → tags ≡ tagsOf dictionaryRows
     → ((table : List Row) → tagsOf table ≡ tags → risingTags table ≡ true → x ≡ findRow table t) → x ≡ findRow dictionaryRows t
 lent-found t e h = h dictionaryRows (sym e) (proper-rising dictionaryRows rows-proper)
@@ -28,6 +28,6 @@ unfolding dictionaryRows
 row-found t {k} e = found dictionaryRows t k e .0
 
 -- a row's number, taken apart
-pub lent-row : {codes : List ℕ} {k : ℕ} → codes ≡ packedRows dictionaryRows → k < rowCount → unpackedRow (getD codes k 0) ≡ attributesOf (rowAt k)
+pub lent-row : {codes : List ℕ} {k : ℕ} → codes ≡ packedAttributesOfRows dictionaryRows → k < rowCount → unpackedRowAttributes (getD codes k 0) ≡ attributesOf (rowAt k)
 unfolding dictionaryRows
-lent-row {codes} {k} e h = ap (λ (cs : List ℕ). unpackedRow (getD cs k 0)) e ∙ ap unpackedRow (column packedRow dictionaryRows k) ∙ code-unpacks k h
+lent-row {codes} {k} e h = ap (λ (cs : List ℕ). unpackedRowAttributes (getD cs k 0)) e ∙ ap unpackedRowAttributes (column packedRowAttributes dictionaryRows k) ∙ code-unpacks k h

@@ -10,38 +10,38 @@ use Rattle.basics.specs.Types.{Value, Digits}
 use Rattle.dictionary.specs.Rows.{Row, formN, formCn}
 
 -- a four-bit digit is decimal
-abbrev pub isDigit : ℕ → Bool
-isDigit d = d <? 10
+abbrev pub isDecimalNibble : ℕ → Bool
+isDecimalNibble d = d <? 10
 
 -- a four-bit digit is F
-abbrev pub isF : ℕ → Bool
-isF d = d =? 15
+abbrev pub isNibbleF : ℕ → Bool
+isNibbleF d = d =? 15
 
 -- n: every digit is 0 to 9
-unfoldable pub numeric : Value → Bool
-numeric v = every isDigit (nibbles v)
+unfoldable pub isNumeric : Value → Bool
+isNumeric v = every isDecimalNibble (nibbles v)
 
 -- digits 0 to 9, and from the first that is none only Fs to the end
-unfoldable pub digitsThenFs : Digits → Bool
-digitsThenFs [] = true
-digitsThenFs (d ∷ s) =
-    if isDigit d then digitsThenFs s
-    else every isF (d ∷ s)
+unfoldable pub isDigitsThenFs : Digits → Bool
+isDigitsThenFs [] = true
+isDigitsThenFs (d ∷ s) =
+    if isDecimalNibble d then isDigitsThenFs s
+    else every isNibbleF (d ∷ s)
 
 -- cn: any digits and then any Fs
-unfoldable pub compressed : Value → Bool
-compressed v = digitsThenFs (nibbles v)
+unfoldable pub isCompressedNumeric : Value → Bool
+isCompressedNumeric v = isDigitsThenFs (nibbles v)
 
 -- what the form requires of the digits; b requires nothing
-unfoldable pub digitsFit : ℕ → Value → Bool
-digitsFit form v =
-    if form =? formN then numeric v
-    else if form =? formCn then compressed v
+unfoldable pub digitsMatchForm : ℕ → Value → Bool
+digitsMatchForm form v =
+    if form =? formN then isNumeric v
+    else if form =? formCn then isCompressedNumeric v
     else true
 
 -- the length is in range and the digits fit
-unfoldable pub fitsRow : Row → Value → Bool
-fitsRow r v =
+unfoldable pub lengthAndDigitsFitRow : Row → Value → Bool
+lengthAndDigitsFitRow r v =
     r .least ≤? length v
     and length v ≤? r .greatest
-    and digitsFit (r .form) v
+    and digitsMatchForm (r .form) v

@@ -1,12 +1,12 @@
 -- Written by bin/dictionary from dictionary.tsv: change that table, and run it again.
 -- Numbers of rows, counted from 0: of the tags that code uses, of what a start must bring, and of the first row of
 -- each part of the search. The proofs find each of them in the table: proofs/Named, proofs/Part, and
--- `required-numbers` in session_record/specs/Inner. The row of any tag, `rowNumberOf`, is passed on from specs/Rows.
--- Assumes nothing.
+-- `required-numbers` in session_record/specs/Inner. The row of any tag, `rowNumberOfTagOrZero`, is passed on from
+-- specs/Rows. Assumes nothing.
 use mathlib.Core.List.{List, [], _∷_}
 use Rattle.basics.specs.Types.{TagList, RowNumber, Count}
-pub use Rattle.dictionary.specs.Rows.{rowNumberFound}
-unfoldable pub use Rattle.dictionary.specs.Rows.{rowNumberOf}
+pub use Rattle.dictionary.specs.Rows.{rowNumberFoundOrZero}
+unfoldable pub use Rattle.dictionary.specs.Rows.{rowNumberOfTagOrZero}
 
 -- the tags that code uses, in the order of the constants
 unfoldable pub usedTags : TagList
@@ -209,17 +209,17 @@ rowCvmRequiredLimit = 136
 -- ---- what a start must bring
 
 -- how many objects
-abbrev pub requiredCount : Count
-requiredCount = 17
+abbrev pub requiredAtStartCount : Count
+requiredAtStartCount = 17
 
 -- their rows
-unfoldable pub requiredRows : List RowNumber
-requiredRows =
+unfoldable pub rowNumbersRequiredAtStart : List RowNumber
+rowNumbersRequiredAtStart =
     rowTransactionDate ∷ rowTransactionType ∷ rowAmount ∷ rowReaderVersion ∷ rowTerminalCountry ∷
     rowTerminalCapabilities ∷ rowTerminalType ∷ rowUn ∷ rowUnNumeric ∷ rowKernelConfiguration ∷ rowTacDefault ∷
     rowTacDenial ∷ rowTacOnline ∷ rowFloorLimit ∷ rowLimitNoOnDeviceCvm ∷ rowLimitOnDeviceCvm ∷ rowCvmRequiredLimit ∷ []
 
--- ---- the first row of each part of the search, after that of the tags of one byte (`partNumber`, specs/Search)
+-- ---- the first row of each part of the search, after that of the tags of one byte (`searchPartNumber`, specs/Search)
 
 -- tags of two bytes before 9F
 abbrev pub firstOf5F : RowNumber

@@ -60,26 +60,26 @@ setByStartOrCard = setByStart + setByCard
 abbrev pub inNoTemplate : ℕ
 inNoTemplate = 0
 
-abbrev pub in70 : ℕ
-in70 = 1
+abbrev pub inTemplate70 : ℕ
+inTemplate70 = 1
 
-abbrev pub in77 : ℕ
-in77 = 2
+abbrev pub inTemplate77 : ℕ
+inTemplate77 = 2
 
-abbrev pub inA5 : ℕ
-inA5 = 4
+abbrev pub inTemplateA5 : ℕ
+inTemplateA5 = 4
 
-abbrev pub inBF0C : ℕ
-inBF0C = 8
+abbrev pub inTemplateBF0C : ℕ
+inTemplateBF0C = 8
 
-abbrev pub in6F : ℕ
-in6F = 16
+abbrev pub inTemplate6F : ℕ
+inTemplate6F = 16
 
-abbrev pub in70or77 : ℕ
-in70or77 = in70 + in77
+abbrev pub inTemplate70or77 : ℕ
+inTemplate70or77 = inTemplate70 + inTemplate77
 
-abbrev pub in70orBF0C : ℕ
-in70orBF0C = in70 + inBF0C
+abbrev pub inTemplate70orBF0C : ℕ
+inTemplate70orBF0C = inTemplate70 + inTemplateBF0C
 
 -- bits of `answers`: the one that brings an object, by its command: GET PROCESSING OPTIONS, READ RECORD, GENERATE AC,
 -- COMPUTE CRYPTOGRAPHIC CHECKSUM
@@ -98,33 +98,35 @@ inGenerateAcResponse = 4
 abbrev pub inChecksumResponse : ℕ
 inChecksumResponse = 8
 
-abbrev pub inLastResponse : ℕ
-inLastResponse = inGenerateAcResponse + inChecksumResponse
+abbrev pub inAcOrChecksumResponse : ℕ
+inAcOrChecksumResponse = inGenerateAcResponse + inChecksumResponse
 
 abbrev pub inAnyResponse : ℕ
-inAnyResponse = inGpoResponse + inRecordResponse + inLastResponse
+inAnyResponse = inGpoResponse + inRecordResponse + inAcOrChecksumResponse
 
 -- whether a start must bring it
-abbrev pub optional : ℕ
-optional = 0
+abbrev pub optionalAtStart : ℕ
+optionalAtStart = 0
 
-abbrev pub required : ℕ
-required = 1
+abbrev pub requiredAtStart : ℕ
+requiredAtStart = 1
 
 -- ---- rows by who sets the object; what no line of the table names is said here
 
 -- the card, in these templates, by any answer that is read
 abbrev pub cardRow : Tag → Length → Length → ℕ → ℕ → Row
-cardRow tag least greatest form templates = row tag least greatest form setByCard templates inAnyResponse optional
+cardRow tag least greatest form templates =
+    row tag least greatest form setByCard templates inAnyResponse optionalAtStart
 
 -- the start, which may leave it out
 abbrev pub startRow : Tag → Length → Length → ℕ → Row
-startRow tag least greatest form = row tag least greatest form setByStart inNoTemplate inNoResponse optional
+startRow tag least greatest form = row tag least greatest form setByStart inNoTemplate inNoResponse optionalAtStart
 
 -- the start, which must bring it
-abbrev pub mustRow : Tag → Length → Length → ℕ → Row
-mustRow tag least greatest form = row tag least greatest form setByStart inNoTemplate inNoResponse required
+abbrev pub requiredStartRow : Tag → Length → Length → ℕ → Row
+requiredStartRow tag least greatest form =
+    row tag least greatest form setByStart inNoTemplate inNoResponse requiredAtStart
 
 -- the session alone
 abbrev pub sessionRow : Tag → Length → Length → ℕ → Row
-sessionRow tag least greatest form = row tag least greatest form setBySession inNoTemplate inNoResponse optional
+sessionRow tag least greatest form = row tag least greatest form setBySession inNoTemplate inNoResponse optionalAtStart

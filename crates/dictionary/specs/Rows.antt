@@ -9,9 +9,9 @@ use Rattle.basics.specs.Types.{Tag, Count, RowNumber}
 use Rattle.dictionary.specs.declared.RowFound.{RowFound}
 use Rattle.dictionary.specs.declared.RowFound.the-variants.{At, Unknown}
 pub use Rattle.dictionary.specs.Row.{Row, row, formB, formN, formCn, setByStart, setByCard, setBySession}
-pub use Rattle.dictionary.specs.Row.{inNoTemplate, in70, in77, inA5, inBF0C, in6F, inNoResponse, inGpoResponse}
-pub use Rattle.dictionary.specs.Row.{inRecordResponse, inGenerateAcResponse, inChecksumResponse, inLastResponse}
-pub use Rattle.dictionary.specs.Row.{inAnyResponse, optional, required}
+pub use Rattle.dictionary.specs.Row.{inNoTemplate, inTemplate70, inTemplate77, inTemplateA5, inTemplateBF0C, inTemplate6F, inNoResponse, inGpoResponse}
+pub use Rattle.dictionary.specs.Row.{inRecordResponse, inGenerateAcResponse, inChecksumResponse, inAcOrChecksumResponse}
+pub use Rattle.dictionary.specs.Row.{inAnyResponse, optionalAtStart, requiredAtStart}
 unfoldable pub use Rattle.dictionary.specs.AnnexA.{dictionaryRows}
 pub use Rattle.dictionary.specs.AnnexA.{rowCount, storeSize}
 
@@ -32,22 +32,22 @@ rowAt k = rowIn dictionaryRows k
 -- ---- by tag
 
 -- a place counted from n rows further on
-unfoldable pub rowPast : Count → RowFound → RowFound
-rowPast n Unknown = Unknown
-rowPast n (At k) = At (n + k)
+unfoldable pub rowFoundShifted : Count → RowFound → RowFound
+rowFoundShifted n Unknown = Unknown
+rowFoundShifted n (At k) = At (n + k)
 
 -- the first row of a table that has the tag
 unfoldable pub findRow : List Row → Tag → RowFound
 findRow [] t = Unknown
 findRow (r ∷ rs) t =
     if r .tag =? t then At 0
-    else rowPast 1 (findRow rs t)
+    else rowFoundShifted 1 (findRow rs t)
 
 -- the row that a lookup found, the first where it found none
-abbrev pub rowNumberFound : RowFound → RowNumber
-rowNumberFound Unknown = 0
-rowNumberFound (At k) = k
+abbrev pub rowNumberFoundOrZero : RowFound → RowNumber
+rowNumberFoundOrZero Unknown = 0
+rowNumberFoundOrZero (At k) = k
 
 -- the row of a known tag; the first row for an unknown one, which no code uses
-unfoldable pub rowNumberOf : Tag → RowNumber
-rowNumberOf t = rowNumberFound (findRow dictionaryRows t)
+unfoldable pub rowNumberOfTagOrZero : Tag → RowNumber
+rowNumberOfTagOrZero t = rowNumberFoundOrZero (findRow dictionaryRows t)

@@ -10,19 +10,19 @@ use Rattle.tlv.specs.Encoding.{wellFormedTag}
 use Rattle.dictionary.specs.Rows.{Row}
 
 -- a row by itself
-abbrev pub properRow : Row → Bool
-properRow r = wellFormedTag (r .tag) and r .least ≤? r .greatest
+abbrev pub rowHasValidTagAndLengths : Row → Bool
+rowHasValidTagAndLengths r = wellFormedTag (r .tag) and r .least ≤? r .greatest
 
 -- a tag is below the first tag of the rows after it
-abbrev pub belowNext : Tag → List Row → Bool
-belowNext t [] = true
-belowNext t (r ∷ rs) = t <? r .tag
+abbrev pub tagBelowNextRow : Tag → List Row → Bool
+tagBelowNextRow t [] = true
+tagBelowNextRow t (r ∷ rs) = t <? r .tag
 
 -- every tag is below the next one
 unfoldable pub risingTags : List Row → Bool
 risingTags [] = true
-risingTags (r ∷ rs) = belowNext (r .tag) rs and risingTags rs
+risingTags (r ∷ rs) = tagBelowNextRow (r .tag) rs and risingTags rs
 
 -- the whole rule: tags rise, and every row is in order
-unfoldable pub properTable : List Row → Bool
-properTable table = risingTags table and every properRow table
+unfoldable pub tagsRiseAndRowsValid : List Row → Bool
+tagsRiseAndRowsValid table = risingTags table and every rowHasValidTagAndLengths table

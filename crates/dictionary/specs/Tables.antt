@@ -6,14 +6,14 @@ use mathlib.Core.List.{List, map}
 use Prim.Native.Nat.{ℕ}
 use Rattle.basics.specs.Types.{TagList}
 use Rattle.dictionary.specs.Rows.{Row, dictionaryRows}
-use Rattle.dictionary.specs.Packing.{packedRow}
+use Rattle.dictionary.specs.Packing.{packedRowAttributes}
 use Rattle.dictionary.specs.Search.{tagsOf}
 
 -- the numbers of a table's rows
-abbrev pub packedRows : List Row → List ℕ
-packedRows table = map packedRow table
+abbrev pub packedAttributesOfRows : List Row → List ℕ
+packedAttributesOfRows table = map packedRowAttributes table
 
 -- what is passed in is the dictionary's
-pub record TablesGiven (ts : TagList) (cs : List ℕ) : Type 0 where
-  pub tags : ts ≡ tagsOf dictionaryRows
-  pub codes : cs ≡ packedRows dictionaryRows
+pub record AreDictionaryTables (tagTable : TagList) (packedTable : List ℕ) : Type 0 where
+  pub tags : tagTable ≡ tagsOf dictionaryRows
+  pub codes : packedTable ≡ packedAttributesOfRows dictionaryRows

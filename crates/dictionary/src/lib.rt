@@ -2,9 +2,10 @@
 // templates that may be directly around it, the answers that may bring it, and whether a start must bring it. Rows are
 // in rising order of their tags.
 //
-// `lookup_row` finds a tag's row, by halving; `search` does the same in any list of tags. `row_tag` and `attributes_of`
-// answer for a row, with zeros past the last row; `fits` reports whether a value's length and digits are allowed.
-// `columns` has what a row may say, `rows` the table itself, which `bin/dictionary` writes from `dictionary.tsv`.
+// `lookup_row` finds a tag's row, by halving; `search_tags` does the same in any list of tags. `row_tag` and
+// `attributes_of` answer for a row, with zeros past the last row; `length_and_digits_fit_row` reports whether a value's
+// length and digits are allowed. `columns` has what a row may say, `rows` the table itself, which `bin/dictionary`
+// writes from `dictionary.tsv`.
 mod columns;
 mod rows;
 
@@ -30,18 +31,18 @@ ghost use mathlib.Core.Bool.{true};
 ghost use mathlib.Core.List.{List, map};
 ghost use Prim.Native.Nat.{ℕ, _+_, _^_, _≤_, _<_};
 ghost use lib.ListN.{length, drop};
-ghost use Rattle.dictionary.specs.Rows.{Row, dictionaryRows, rowAt, rowCount, findRow, rowNumberOf};
-ghost use Rattle.dictionary.specs.Rule.{risingTags, properTable};
-ghost use Rattle.dictionary.specs.Search.{searchOf, tagsOf, ProbesCounted, partSearchOf};
-ghost use Rattle.dictionary.specs.Form.{numeric, compressed, digitsFit, fitsRow};
-ghost use Rattle.dictionary.specs.Inner.{tagRange, isDecimalByte, digitBytes, onlyFs};
-ghost use Rattle.dictionary.specs.Packing.{attributesOf, rowWithAttributes, packedRow, unpackedRow};
+ghost use Rattle.dictionary.specs.Rows.{Row, dictionaryRows, rowAt, rowCount, findRow, rowNumberOfTagOrZero};
+ghost use Rattle.dictionary.specs.Rule.{risingTags, tagsRiseAndRowsValid};
+ghost use Rattle.dictionary.specs.Search.{halvingSearchResult, tagsOf, ProbesCountedAndSufficient, halvingSearchResultInPart};
+ghost use Rattle.dictionary.specs.Form.{isNumeric, isCompressedNumeric, digitsMatchForm, lengthAndDigitsFitRow};
+ghost use Rattle.dictionary.specs.Inner.{rowRangeForTag, isDecimalByte, leadingDecimalBytes, allBytesFF};
+ghost use Rattle.dictionary.specs.Packing.{attributesOf, rowWithAttributesAndTagZero, packedRowAttributes, unpackedRowAttributes};
 ghost use Rattle.dictionary.specs.Named.{usedTags};
 ghost use Rattle.dictionary.specs.TerminalType.{listedTerminalType};
 
 // What a row states besides its tag: the lengths, the form, and the sets of bits; `must` is 1 where a start must bring
 // the object, else 0.
-pub struct Attributes {
+pub struct RowAttributes {
     pub least: usize,
     pub greatest: usize,
     pub form: u8,
@@ -73,20 +74,20 @@ pub struct RowRange {
 // lengths in order.
 pub fn lookup_row(tag: u32) -> SearchResult
     ensures found { λ r. ⌜ r .found ≡ findRow dictionaryRows tag ⌝ }
-    ensures halving { λ r. ⌜ r ≡ searchOf (tagsOf dictionaryRows) tag ⌝ }
+    ensures halving { λ r. ⌜ r ≡ halvingSearchResult (tagsOf dictionaryRows) tag ⌝ }
     ensures few { λ r. ⌜ ((k : ℕ) → rowCount < 2 ^ k → r .probes ≤ k) ⌝ }
-    ensures table { λ _. ⌜ properTable dictionaryRows ≡ true ⌝ }
+    ensures table { λ _. ⌜ tagsRiseAndRowsValid dictionaryRows ≡ true ⌝ }
 {
     let tags = TAGS;
-    search(&tags, tag)
+    search_tags(&tags, tag)
 }
 
 // A search by halving in any list of tags: each iteration probes the middle one of those that are left.
-pub fn search(tags: &[u32], tag: u32) -> SearchResult
-    ensures halving { λ r. ⌜ r ≡ searchOf (now (tags .entry)) tag ⌝ }
+pub fn search_tags(tags: &[u32], tag: u32) -> SearchResult
+    ensures halving { λ r. ⌜ r ≡ halvingSearchResult (now (tags .entry)) tag ⌝ }
     ensures found { λ r. ⌜ ((table : List Row) → tagsOf table ≡ now (tags .entry) → risingTags table ≡ true → r .found ≡ findRow table tag) ⌝ }
     ensures few { λ r. ⌜ ((k : ℕ) → length (now (tags .entry)) < 2 ^ k → r .probes ≤ k) ⌝ }
-    ensures counted { λ r. ⌜ ProbesCounted (now (tags .entry)) tag r ⌝ }
+    ensures counted { λ r. ⌜ ProbesCountedAndSufficient (now (tags .entry)) tag r ⌝ }
 {
     let mut from = 0;
     let mut to = tags.len();
@@ -118,13 +119,13 @@ pub fn search(tags: &[u32], tag: u32) -> SearchResult
 pub fn find_row(tags: &[u32], tag: u32) -> SearchResult
     requires { ⌜ now tags ≡ tagsOf dictionaryRows ⌝ }
     ensures found { λ r. ⌜ r .found ≡ findRow dictionaryRows tag ⌝ }
-    ensures halving { λ r. ⌜ r ≡ partSearchOf (tagsOf dictionaryRows) tag ⌝ }
+    ensures halving { λ r. ⌜ r ≡ halvingSearchResultInPart (tagsOf dictionaryRows) tag ⌝ }
     ensures few { λ r. ⌜ ((k : ℕ) → rowCount < 2 ^ k → r .probes ≤ k) ⌝ }
 {
     let part = part_of(tag);
     let from = part.from;
     let to = part.to;
-    let searched = search(&tags[from..to], tag);
+    let searched = search_tags(&tags[from..to], tag);
     let probes = searched.probes;
     let found = searched.found;
     match found {
@@ -141,7 +142,7 @@ pub fn find_row(tags: &[u32], tag: u32) -> SearchResult
 
 // The rows of a tag's part: tags of one byte, of two from 5F on, from 9F on and from DF on, and of three.
 fn part_of(tag: u32) -> RowRange
-    ensures { λ r. ⌜ r ≡ tagRange tag ⌝ }
+    ensures { λ r. ⌜ r ≡ rowRangeForTag tag ⌝ }
     ensures { λ r. ⌜ (r .from ≤ r .to) × (r .to ≤ rowCount) ⌝ }
 {
     if tag < 0x100 {
@@ -161,7 +162,7 @@ fn part_of(tag: u32) -> RowRange
 
 // The rows of the tags that code uses, in the order of their constants.
 pub fn used_rows() -> [usize; USED]
-    ensures { λ r. ⌜ r ≡ map rowNumberOf usedTags ⌝ }
+    ensures { λ r. ⌜ r ≡ map rowNumberOfTagOrZero usedTags ⌝ }
 {
     USED_ROWS
 }
@@ -177,34 +178,34 @@ pub fn row_tag(row: usize) -> u32
 }
 
 // What a row states; nothing past the last row.
-pub fn attributes_of(row: usize) -> Attributes
+pub fn attributes_of(row: usize) -> RowAttributes
     ensures { λ r. ⌜ r ≡ attributesOf (rowAt row) ⌝ }
 {
     if row < ROWS {
-        return unpacked(CODES[row]);
+        return unpack_row_attributes(CODES[row]);
     }
-    unpacked(0)
+    unpack_row_attributes(0)
 }
 
 // The tags and the numbers of all rows. An array that is read at a place known only when the code runs is built anew
 // each time: a call that reads many rows binds these once and passes them down.
-pub fn tags() -> [u32; ROWS]
+pub fn dictionary_tags() -> [u32; ROWS]
     ensures { λ r. ⌜ r ≡ tagsOf dictionaryRows ⌝ }
 {
     TAGS
 }
 
-pub fn codes() -> [u32; ROWS]
-    ensures { λ r. ⌜ r ≡ map packedRow dictionaryRows ⌝ }
+pub fn packed_row_attributes() -> [u32; ROWS]
+    ensures { λ r. ⌜ r ≡ map packedRowAttributes dictionaryRows ⌝ }
 {
     CODES
 }
 
 // A row's number taken apart.
-pub fn unpacked(code: u32) -> Attributes
-    ensures { λ r. ⌜ r ≡ unpackedRow code ⌝ }
+pub fn unpack_row_attributes(code: u32) -> RowAttributes
+    ensures { λ r. ⌜ r ≡ unpackedRowAttributes code ⌝ }
 {
-    Attributes {
+    RowAttributes {
         least: (code % 256) as usize,
         greatest: (code / GREATEST % 256) as usize,
         form: (code / FORM % 4) as u8,
@@ -227,7 +228,7 @@ fn is_digits(b: u8) -> bool
 
 // How many bytes at the front are decimal digits.
 fn digit_bytes(v: &[u8]) -> usize
-    ensures { λ r. ⌜ r ≡ digitBytes (now (v .entry)) ⌝ }
+    ensures { λ r. ⌜ r ≡ leadingDecimalBytes (now (v .entry)) ⌝ }
     ensures { λ r. ⌜ r ≤ length (now (v .entry)) ⌝ }
 {
     let mut i = 0;
@@ -242,7 +243,7 @@ fn digit_bytes(v: &[u8]) -> usize
 
 // Whether every byte from a place on is FF.
 fn only_fs(v: &[u8], from: usize) -> bool
-    ensures { λ r. ⌜ r ≡ onlyFs (drop from (now (v .entry))) ⌝ }
+    ensures { λ r. ⌜ r ≡ allBytesFF (drop from (now (v .entry))) ⌝ }
 {
     let mut i = from;
     while i < v.len() {
@@ -256,14 +257,14 @@ fn only_fs(v: &[u8], from: usize) -> bool
 
 // Whether every byte is two decimal digits.
 fn is_numeric(v: &[u8]) -> bool
-    ensures { λ r. ⌜ r ≡ numeric (now (v .entry)) ⌝ }
+    ensures { λ r. ⌜ r ≡ isNumeric (now (v .entry)) ⌝ }
 {
     digit_bytes(v) == v.len()
 }
 
 // Whether the bytes are decimal digits and then only Fs.
 fn is_compressed(v: &[u8]) -> bool
-    ensures { λ r. ⌜ r ≡ compressed (now (v .entry)) ⌝ }
+    ensures { λ r. ⌜ r ≡ isCompressedNumeric (now (v .entry)) ⌝ }
 {
     let at = digit_bytes(v);
     if at == v.len() {
@@ -282,8 +283,8 @@ fn is_compressed(v: &[u8]) -> bool
 }
 
 // Whether a value's digits are those of a form; the form b requires nothing.
-pub fn digits_fit(form: u8, v: &[u8]) -> bool
-    ensures { λ r. ⌜ r ≡ digitsFit form (now (v .entry)) ⌝ }
+pub fn digits_match_form(form: u8, v: &[u8]) -> bool
+    ensures { λ r. ⌜ r ≡ digitsMatchForm form (now (v .entry)) ⌝ }
 {
     if form == FORM_N {
         return is_numeric(v);
@@ -295,8 +296,8 @@ pub fn digits_fit(form: u8, v: &[u8]) -> bool
 }
 
 // Whether a value's length and digits fit a row of these attributes.
-pub fn fits(attributes: Attributes, v: &[u8]) -> bool
-    ensures { λ r. ⌜ r ≡ fitsRow (rowWithAttributes attributes) (now (v .entry)) ⌝ }
+pub fn length_and_digits_fit_row(attributes: RowAttributes, v: &[u8]) -> bool
+    ensures { λ r. ⌜ r ≡ lengthAndDigitsFitRow (rowWithAttributesAndTagZero attributes) (now (v .entry)) ⌝ }
 {
     if v.len() < attributes.least {
         return false;
@@ -304,11 +305,11 @@ pub fn fits(attributes: Attributes, v: &[u8]) -> bool
     if attributes.greatest < v.len() {
         return false;
     }
-    digits_fit(attributes.form, v)
+    digits_match_form(attributes.form, v)
 }
 
 // Whether a terminal type is one of those that the session takes.
-pub fn is_terminal_type(kind: u8) -> bool
+pub fn is_listed_terminal_type(kind: u8) -> bool
     ensures { λ r. ⌜ r ≡ listedTerminalType kind ⌝ }
 {
     if basics::is_between(0x11, kind, 0x16) {

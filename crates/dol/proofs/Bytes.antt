@@ -16,10 +16,10 @@ use Rattle.tlv.proofs.Laws.{Bytes}
 use Rattle.dictionary.specs.Rows.{Row, rowIn, findRow, formN, formCn}
 use Rattle.dictionary.specs.declared.RowFound.{RowFound}
 use Rattle.dictionary.specs.declared.RowFound.the-variants.{At, Unknown}
-use Rattle.store.specs.Place.{StoredValue, absent, present, bytesOfValue, rowOffset, rowValue}
+use Rattle.store.specs.Place.{StoredValue, absent, present, bytesOrEmptyIfAbsent, rowOffset, rowValue}
 use Rattle.store.proofs.Laws.{storedLength, value-bytes, no-place}
 use Rattle.dol.specs.declared.DolEntry.{DolEntry}
-use Rattle.dol.specs.Filling.{fillZeros, truncated, paddingByte, padded, fittedTo, valueBytes, foundRowBytes, dolEntryBytes, dolData, dolDataBy}
+use Rattle.dol.specs.Filling.{zeroBytes, truncatedToLength, paddingByte, paddedToLength, fittedToLength, dolValueBytes, dolBytesOfRowFound, dolEntryBytes, dolData, dolDataIfParsed}
 
 -- ---- lists
 
@@ -48,41 +48,41 @@ bytes-run (suc n) x h = bytes-cons x (replicate n x) h (bytes-run n x h)
 
 -- ---- a value
 
-cut-bytes : (form n : ℕ) (v : List ℕ) → Bytes v → Bytes (truncated form n v)
-unfolding truncated
+cut-bytes : (form n : ℕ) (v : List ℕ) → Bytes v → Bytes (truncatedToLength form n v)
+unfolding truncatedToLength
 cut-bytes form n v b = if-ind Bytes (eqb form formN) _ _ (λ _. bytes-drop (length v - n) v b) (λ _. bytes-take n v b)
 
 padding-small : (form : ℕ) → paddingByte form < 256
 unfolding paddingByte
 padding-small form = if-ind (λ (x : ℕ). x < 256) (eqb form formCn) _ _ (λ _. omega arith) (λ _. omega arith)
 
-padded-bytes : (form n : ℕ) (v : List ℕ) → Bytes v → Bytes (padded form n v)
-unfolding padded
+padded-bytes : (form n : ℕ) (v : List ℕ) → Bytes v → Bytes (paddedToLength form n v)
+unfolding paddedToLength
 padded-bytes form n v b =
     if-ind Bytes (eqb form formN) _ _
-    (λ _. bytes-append (fillZeros (n - length v)) v (bytes-run (n - length v) 0 (omega arith)) b)
+    (λ _. bytes-append (zeroBytes (n - length v)) v (bytes-run (n - length v) 0 (omega arith)) b)
     (λ _. bytes-append v (replicate (n - length v) (paddingByte form)) b (bytes-run (n - length v) (paddingByte form) (padding-small form)))
 
-pub fitted-bytes : (form n : ℕ) (v : List ℕ) → Bytes v → Bytes (fittedTo form n v)
-unfolding fittedTo
+pub fitted-bytes : (form n : ℕ) (v : List ℕ) → Bytes v → Bytes (fittedToLength form n v)
+unfolding fittedToLength
 fitted-bytes form n v b = if-ind Bytes (leb n (length v)) _ _ (λ _. cut-bytes form n v b) (λ _. padded-bytes form n v b)
 
 -- ---- a filling
 
 module _ (table : List Row) (store : List ℕ) (b : Bytes store) where
-  stored-bytes : (k : ℕ) → Bytes (bytesOfValue (rowValue table store k))
+  stored-bytes : (k : ℕ) → Bytes (bytesOrEmptyIfAbsent (rowValue table store k))
   stored-bytes k = elim (le-or-gt (length store) (rowOffset table k)) [
-    | inl h ↦ subst⁻¹ Bytes (ap bytesOfValue (no-place table store k h)) bytes-nil
+    | inl h ↦ subst⁻¹ Bytes (ap bytesOrEmptyIfAbsent (no-place table store k h)) bytes-nil
     | inr h ↦
         let o = rowOffset table k + 1 in
         subst⁻¹ Bytes (value-bytes table store k h) (bytes-take (storedLength table store k) (drop o store) (bytes-drop o store b))
   ]
 
-  of-value : (form n : ℕ) (x : StoredValue) → Bytes (bytesOfValue x) → Bytes (valueBytes form n x)
+  of-value : (form n : ℕ) (x : StoredValue) → Bytes (bytesOrEmptyIfAbsent x) → Bytes (dolValueBytes form n x)
   of-value form n absent d = bytes-run n 0 (omega arith)
   of-value form n (present v) d = fitted-bytes form n v d
 
-  of-found : (n : ℕ) (x : RowFound) → Bytes (foundRowBytes table store n x)
+  of-found : (n : ℕ) (x : RowFound) → Bytes (dolBytesOfRowFound table store n x)
   of-found n Unknown = bytes-run n 0 (omega arith)
   of-found n (At k) = of-value (rowIn table k .form) n (rowValue table store k) (stored-bytes k)
 
@@ -96,7 +96,7 @@ module _ (table : List Row) (store : List ℕ) (b : Bytes store) where
   filling-bytes [] = bytes-nil
   filling-bytes (e ∷ es) = bytes-append (dolEntryBytes table store e) (dolData table store es) (entry-bytes e) (filling-bytes es)
 
-  pub filled-bytes : (x : Option (List DolEntry)) (v : List ℕ) → dolDataBy table store x ≡ some v → Bytes v
-  unfolding dolDataBy
+  pub filled-bytes : (x : Option (List DolEntry)) (v : List ℕ) → dolDataIfParsed table store x ≡ some v → Bytes v
+  unfolding dolDataIfParsed
   filled-bytes none v p = let z : _≡_ {A = ℕ} 0 1 = cc in absurd (omega arith)
   filled-bytes (some es) v p = let e : dolData table store es ≡ v = cc in subst Bytes e (filling-bytes es)

@@ -26,8 +26,8 @@ use Rattle.dol.specs.declared.DolEntryFront.{DolEntryFront}
 use Rattle.dol.specs.declared.DolEntryFront.the-variants.{Asked, Broken}
 use Rattle.dol.specs.declared.DolTotal.{DolTotal}
 use Rattle.dol.specs.declared.DolTotal.the-variants.{Total, Unfit}
-use Rattle.dol.specs.Entries.{dolEntry, entryWithLength, dolEntryAt, entryBefore, entryThenRest, entriesNext, dolEntries, dolTotalLength}
-use Rattle.dol.specs.Measure.{dolMeasured}
+use Rattle.dol.specs.Entries.{dolEntry, dolEntryWithLength, dolEntryAt, prependDolEntry, dolEntryThenRest, dolEntriesStep, dolEntries, dolTotalLength}
+use Rattle.dol.specs.Measure.{dolTotalIfAtMost255}
 
 -- ---- one entry, as the code reads it
 
@@ -37,11 +37,11 @@ module _ (s : List ℕ) (x : TagFront) (p : x ≡ tagAt s) where
   entry-untagged q = rw (← p, q)
 
   pub entry-asked : (t : Tag) → x ≡ Tagged t → t .size < length s → dolEntryAt s ≡ Asked (dolEntry (t .number) (getD s (t .size) 0)) (t .size + 1)
-  unfolding dolEntryAt entryWithLength
+  unfolding dolEntryAt dolEntryWithLength
   entry-asked t q h = rw (← p, q, drop-cons s (t .size) 0 h)
 
   pub entry-short : (t : Tag) → x ≡ Tagged t → length s ≤ t .size → dolEntryAt s ≡ Broken
-  unfolding dolEntryAt entryWithLength
+  unfolding dolEntryAt dolEntryWithLength
   entry-short t q h = rw (← p, q, drop-of-length-le s h)
 
 -- ---- what an entry takes
@@ -92,39 +92,39 @@ abbrev Parser : Type 0
 Parser = List ℕ → Option (List DolEntry)
 
 one-same : (k k′ : Parser) (s : List ℕ) → ((v : List ℕ) → length v < length s → k v ≡ k′ v)
-    → (x : DolEntryFront) → dolEntryAt s ≡ x → entryThenRest k s x ≡ entryThenRest k′ s x
+    → (x : DolEntryFront) → dolEntryAt s ≡ x → dolEntryThenRest k s x ≡ dolEntryThenRest k′ s x
 one-same k k′ s same Broken p = refl
-one-same k k′ s same (Asked e n) p = ap (entryBefore e) (same (drop n s) (shorter s e n p))
+one-same k k′ s same (Asked e n) p = ap (prependDolEntry e) (same (drop n s) (shorter s e n p))
 
-along-same : AsksShorter entriesNext
-unfolding entriesNext
+along-same : AsksShorter dolEntriesStep
+unfolding dolEntriesStep
 along-same k k′ [] same = refl
 along-same k k′ (b ∷ s) same = one-same k k′ (b ∷ s) same (dolEntryAt (b ∷ s)) refl
 
-pub unroll : (s : List ℕ) → dolEntries s ≡ entriesNext dolEntries s
+pub unroll : (s : List ℕ) → dolEntries s ≡ dolEntriesStep dolEntries s
 unfolding dolEntries
-unroll s = recurse-unroll none entriesNext along-same s
+unroll s = recurse-unroll none dolEntriesStep along-same s
 
 -- ---- one law for each way out of a step
 
 pub entries-end : (s : List ℕ) → length s ≡ 0 → dolEntries s ≡ some []
-unfolding entriesNext
+unfolding dolEntriesStep
 entries-end [] h = unroll []
 entries-end (b ∷ s) h = absurd (omega arith)
 
-at : (s : List ℕ) (x : DolEntryFront) → (length s ≡ 0 → ⊥) → dolEntryAt s ≡ x → dolEntries s ≡ entryThenRest dolEntries s x
-unfolding entriesNext
+at : (s : List ℕ) (x : DolEntryFront) → (length s ≡ 0 → ⊥) → dolEntryAt s ≡ x → dolEntries s ≡ dolEntryThenRest dolEntries s x
+unfolding dolEntriesStep
 at [] x h p = absurd (h refl)
-at (b ∷ s) x h p = unroll (b ∷ s) ∙ ap (entryThenRest dolEntries (b ∷ s)) p
+at (b ∷ s) x h p = unroll (b ∷ s) ∙ ap (dolEntryThenRest dolEntries (b ∷ s)) p
 
 pub entries-broken : (s : List ℕ) → (length s ≡ 0 → ⊥) → dolEntryAt s ≡ Broken → dolEntries s ≡ none
 entries-broken s h p = at s Broken h p
 
-pub entries-more : (s : List ℕ) (e : DolEntry) (n : ℕ) → dolEntryAt s ≡ Asked e n → dolEntries s ≡ entryBefore e (dolEntries (drop n s))
+pub entries-more : (s : List ℕ) (e : DolEntry) (n : ℕ) → dolEntryAt s ≡ Asked e n → dolEntries s ≡ prependDolEntry e (dolEntries (drop n s))
 entries-more s e n p = let i = entry-inside s e n p in at s (Asked e n) (λ z. omega arith) p
 
-pub with-entry : (e : DolEntry) (x : Option (List DolEntry)) (es : List DolEntry) → x ≡ some es → entryBefore e x ≡ some (e ∷ es)
-unfolding entryBefore
+pub with-entry : (e : DolEntry) (x : Option (List DolEntry)) (es : List DolEntry) → x ≡ some es → prependDolEntry e x ≡ some (e ∷ es)
+unfolding prependDolEntry
 with-entry e x es p = rw p
 
 -- ---- what holds of nothing, and of an entry once it holds of what is after it, holds of every list that is whole
@@ -142,7 +142,7 @@ module _
       never q = let z : _≡_ {A = ℕ} 0 1 = cc in absurd (omega arith)
 
       of-entry : (e : DolEntry) (n : ℕ) → dolEntryAt s ≡ Asked e n → (x : Option (List DolEntry)) → dolEntries (drop n s) ≡ x → P s es
-      unfolding entryBefore Holds
+      unfolding prependDolEntry Holds
       of-entry e n q none r = never (entries-more s e n q ∙ rw r)
       of-entry e n q (some fs) r =
           let i : some (e ∷ fs) ≡ some es = sym (entries-more s e n q ∙ rw r) ∙ p in
@@ -178,8 +178,8 @@ unfoldable pub measuredFrom : ℕ → Option (List DolEntry) → DolTotal
 measuredFrom n none = Unfit
 measuredFrom n (some es) = if (leb (n + dolTotalLength es) 255) (Total (n + dolTotalLength es)) Unfit
 
-pub measured-from : (x : Option (List DolEntry)) → dolMeasured x ≡ measuredFrom 0 x
-unfolding dolMeasured measuredFrom
+pub measured-from : (x : Option (List DolEntry)) → dolTotalIfAtMost255 x ≡ measuredFrom 0 x
+unfolding dolTotalIfAtMost255 measuredFrom
 measured-from none = refl
 measured-from (some es) = let e : dolTotalLength es ≡ 0 + dolTotalLength es = omega arith in ap (λ (n : ℕ). if (leb n 255) (Total n) Unfit) e
 
@@ -195,10 +195,10 @@ module _ (n : ℕ) (s : List ℕ) where
   measured-broken h p = ap (measuredFrom n) (entries-broken s h p)
 
   pub measured-more : (e : DolEntry) (k : ℕ) → dolEntryAt s ≡ Asked e k → measuredFrom n (dolEntries s) ≡ measuredFrom (n + e .asked) (dolEntries (drop k s))
-  unfolding entryBefore dolTotalLength measuredFrom
+  unfolding prependDolEntry dolTotalLength measuredFrom
   measured-more e k p = ap (measuredFrom n) (entries-more s e k p) ∙ go (dolEntries (drop k s))
     where
-      go : (x : Option (List DolEntry)) → measuredFrom n (entryBefore e x) ≡ measuredFrom (n + e .asked) x
+      go : (x : Option (List DolEntry)) → measuredFrom n (prependDolEntry e x) ≡ measuredFrom (n + e .asked) x
       go none = refl
       go (some es) =
           let i : n + (e .asked + dolTotalLength es) ≡ n + e .asked + dolTotalLength es = omega arith in
@@ -216,8 +216,8 @@ pub record Whole (x : Option (List DolEntry)) (n : ℕ) : Type 0 where
   pub sum : dolTotalLength list ≡ n
   pub few : n ≤ 255
 
-pub whole : (x : Option (List DolEntry)) (n : ℕ) → dolMeasured x ≡ Total n → Whole x n
-unfolding dolMeasured
+pub whole : (x : Option (List DolEntry)) (n : ℕ) → dolTotalIfAtMost255 x ≡ Total n → Whole x n
+unfolding dolTotalIfAtMost255
 whole none n p = let z : _≡_ {A = ℕ} 0 1 = cc in absurd (omega arith)
 whole (some es) n p = elim (bool-cases (leb (dolTotalLength es) 255)) [
   | inl t ↦

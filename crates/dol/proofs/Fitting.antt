@@ -14,52 +14,52 @@ use borrow.Author.Tests.{le-leb, lt-leb, eq-eqb, ne-eqb, eqb-true, eqb-false}
 use Rattle.basics.proofs.Laws.{if-yes, if-no, if-ind, bool-cases}
 use Rattle.basics.proofs.Order.{le-or-gt}
 use Rattle.dictionary.specs.Rows.{formN}
-use Rattle.dol.specs.Filling.{fillZeros, truncated, paddingByte, padded, fittedTo}
+use Rattle.dol.specs.Filling.{zeroBytes, truncatedToLength, paddingByte, paddedToLength, fittedToLength}
 
 -- ---- by form
 
 module _ (form n : ℕ) (v : List ℕ) where
-  pub cut-n : form ≡ formN → truncated form n v ≡ drop (length v - n) v
-  unfolding truncated
+  pub cut-n : form ≡ formN → truncatedToLength form n v ≡ drop (length v - n) v
+  unfolding truncatedToLength
   cut-n e = if-yes _ _ (eq-eqb form formN e)
 
-  pub cut-other : (form ≡ formN → ⊥) → truncated form n v ≡ take n v
-  unfolding truncated
+  pub cut-other : (form ≡ formN → ⊥) → truncatedToLength form n v ≡ take n v
+  unfolding truncatedToLength
   cut-other e = if-no _ _ (ne-eqb form formN e)
 
-  pub padded-n : form ≡ formN → padded form n v ≡ fillZeros (n - length v) ++ v
-  unfolding padded
+  pub padded-n : form ≡ formN → paddedToLength form n v ≡ zeroBytes (n - length v) ++ v
+  unfolding paddedToLength
   padded-n e = if-yes _ _ (eq-eqb form formN e)
 
-  pub padded-other : (form ≡ formN → ⊥) → padded form n v ≡ v ++ replicate (n - length v) (paddingByte form)
-  unfolding padded
+  pub padded-other : (form ≡ formN → ⊥) → paddedToLength form n v ≡ v ++ replicate (n - length v) (paddingByte form)
+  unfolding paddedToLength
   padded-other e = if-no _ _ (ne-eqb form formN e)
 
   -- ---- lengths
 
-  pub cut-length : n ≤ length v → length (truncated form n v) ≡ n
-  unfolding truncated
+  pub cut-length : n ≤ length v → length (truncatedToLength form n v) ≡ n
+  unfolding truncatedToLength
   cut-length h =
       if-ind (λ (l : List ℕ). length l ≡ n) (eqb form formN) _ _
       (λ _. simp length-drop (omega arith)) (λ _. simp length-take (omega arith))
 
-  pub padded-length : length v ≤ n → length (padded form n v) ≡ n
-  unfolding padded
+  pub padded-length : length v ≤ n → length (paddedToLength form n v) ≡ n
+  unfolding paddedToLength
   padded-length h =
       if-ind (λ (l : List ℕ). length l ≡ n) (eqb form formN) _ _
       (λ _. simp (length-append, length-replicate) (omega arith)) (λ _. simp (length-append, length-replicate) (omega arith))
 
   -- a value that is long enough is truncated, one that is short is padded
-  pub fitted-cut : n ≤ length v → fittedTo form n v ≡ truncated form n v
-  unfolding fittedTo
+  pub fitted-cut : n ≤ length v → fittedToLength form n v ≡ truncatedToLength form n v
+  unfolding fittedToLength
   fitted-cut h = if-yes _ _ (le-leb n (length v) h)
 
-  pub fitted-short : length v < n → fittedTo form n v ≡ padded form n v
-  unfolding fittedTo
+  pub fitted-short : length v < n → fittedToLength form n v ≡ paddedToLength form n v
+  unfolding fittedToLength
   fitted-short h = if-no _ _ (lt-leb n (length v) h)
 
 -- a fitted value has the length that was requested
-pub fitted-length : (form n : ℕ) (v : List ℕ) → length (fittedTo form n v) ≡ n
+pub fitted-length : (form n : ℕ) (v : List ℕ) → length (fittedToLength form n v) ≡ n
 fitted-length form n v = elim (le-or-gt n (length v)) [
   | inl h ↦ ap length (fitted-cut form n v h) ∙ cut-length form n v h
   | inr h ↦ ap length (fitted-short form n v h) ∙ padded-length form n v (omega arith)
@@ -68,25 +68,25 @@ fitted-length form n v = elim (le-or-gt n (length v)) [
 -- ---- at its own length a value stays as it is
 
 module _ (form : ℕ) (v : List ℕ) where
-  pub cut-own : truncated form (length v) v ≡ v
-  unfolding truncated
+  pub cut-own : truncatedToLength form (length v) v ≡ v
+  unfolding truncatedToLength
   cut-own =
       let e : length v - length v ≡ 0 = omega arith in
       if-ind (λ (l : List ℕ). l ≡ v) (eqb form formN) _ _ (λ _. rw e) (λ _. take-length v)
 
-  pub padded-own : padded form (length v) v ≡ v
-  unfolding padded
+  pub padded-own : paddedToLength form (length v) v ≡ v
+  unfolding paddedToLength
   padded-own =
       let e : length v - length v ≡ 0 = omega arith in
       if-ind (λ (l : List ℕ). l ≡ v) (eqb form formN) _ _ (λ _. rw e) (λ _. rw e (append-nil v))
 
-  pub fitted-own : fittedTo form (length v) v ≡ v
+  pub fitted-own : fittedToLength form (length v) v ≡ v
   fitted-own = fitted-cut form (length v) v (le-refl (length v)) ∙ cut-own
 
 -- a value that is not too long is padded: at its own length that changes nothing
-pub fitted-padded : (form n : ℕ) (v : List ℕ) → length v ≤ n → fittedTo form n v ≡ padded form n v
+pub fitted-padded : (form n : ℕ) (v : List ℕ) → length v ≤ n → fittedToLength form n v ≡ paddedToLength form n v
 fitted-padded form n v h = elim (le-or-gt n (length v)) [
-  | inl k ↦ let e : n ≡ length v = omega arith in ap (λ (m : ℕ). fittedTo form m v) e ∙ fitted-own form v ∙ sym (ap (λ (m : ℕ). padded form m v) e ∙ padded-own form v)
+  | inl k ↦ let e : n ≡ length v = omega arith in ap (λ (m : ℕ). fittedToLength form m v) e ∙ fitted-own form v ∙ sym (ap (λ (m : ℕ). paddedToLength form m v) e ∙ padded-own form v)
   | inr k ↦ fitted-short form n v k
 ]
 
@@ -103,7 +103,7 @@ module _ (form m n : ℕ) (v : List ℕ) (h : length v ≤ m) (k : m ≤ n) wher
       let e : m - length v + (n - m) ≡ n - length v = omega arith in
       replicate-append-replicate (m - length v) (n - m) x ∙ ap (λ (i : ℕ). replicate i x) e
 
-  pub padded-twice : padded form n (padded form m v) ≡ padded form n v
+  pub padded-twice : paddedToLength form n (paddedToLength form m v) ≡ paddedToLength form n v
   padded-twice =
       let l = padded-length form m v h in
       elim (bool-cases (eqb form formN)) [
@@ -111,21 +111,21 @@ module _ (form m n : ℕ) (v : List ℕ) (h : length v ≤ m) (k : m ≤ n) wher
         | inr f ↦ of-other l (eqb-false form formN f)
       ]
     where
-      of-n : length (padded form m v) ≡ m → form ≡ formN → padded form n (padded form m v) ≡ padded form n v
+      of-n : length (paddedToLength form m v) ≡ m → form ≡ formN → paddedToLength form n (paddedToLength form m v) ≡ paddedToLength form n v
       of-n l e =
-          padded-n form n (padded form m v) e ∙ rw l
-          (ap (λ (w : List ℕ). fillZeros (n - m) ++ w) (padded-n form m v e) ∙ sym (append-assoc (fillZeros (n - m)) (fillZeros (m - length v)) v)
+          padded-n form n (paddedToLength form m v) e ∙ rw l
+          (ap (λ (w : List ℕ). zeroBytes (n - m) ++ w) (padded-n form m v e) ∙ sym (append-assoc (zeroBytes (n - m)) (zeroBytes (m - length v)) v)
           ∙ ap (λ (w : List ℕ). w ++ v) (gap 0) ∙ sym (padded-n form n v e))
 
-      of-other : length (padded form m v) ≡ m → (form ≡ formN → ⊥) → padded form n (padded form m v) ≡ padded form n v
+      of-other : length (paddedToLength form m v) ≡ m → (form ≡ formN → ⊥) → paddedToLength form n (paddedToLength form m v) ≡ paddedToLength form n v
       of-other l e =
-          padded-other form n (padded form m v) e ∙ rw l
+          padded-other form n (paddedToLength form m v) e ∙ rw l
           (ap (λ (w : List ℕ). w ++ replicate (n - m) (paddingByte form)) (padded-other form m v e)
           ∙ append-assoc v (replicate (m - length v) (paddingByte form)) (replicate (n - m) (paddingByte form))
           ∙ ap (λ (w : List ℕ). v ++ w) (gap-behind (paddingByte form)) ∙ sym (padded-other form n v e))
 
   -- the same of fitting, which pads where the value is not too long
-  pub fitted-twice : fittedTo form n (fittedTo form m v) ≡ fittedTo form n v
+  pub fitted-twice : fittedToLength form n (fittedToLength form m v) ≡ fittedToLength form n v
   fitted-twice =
-      let l : length (padded form m v) ≤ n = omega (arith, padded-length form m v h) in
-      ap (fittedTo form n) (fitted-padded form m v h) ∙ fitted-padded form n (padded form m v) l ∙ padded-twice ∙ sym (fitted-padded form n v (omega arith))
+      let l : length (paddedToLength form m v) ≤ n = omega (arith, padded-length form m v h) in
+      ap (fittedToLength form n) (fitted-padded form m v h) ∙ fitted-padded form n (paddedToLength form m v) l ∙ padded-twice ∙ sym (fitted-padded form n v (omega arith))

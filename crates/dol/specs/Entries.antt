@@ -6,7 +6,7 @@ use mathlib.Core.Option.{Option, some, none}
 use Prim.Native.Nat.{_+_}
 use lib.ListN.{drop}
 use Rattle.basics.specs.Types.{DolBytes, Length, Tag as TagNumber}
-use Rattle.basics.specs.Recursion.{recurse}
+use Rattle.basics.specs.Recursion.{recurseWithFuelFromLength}
 use Rattle.tlv.specs.Tag.{tagAt}
 use Rattle.tlv.specs.declared.Tag.{Tag}
 use Rattle.tlv.specs.declared.TagFront.{TagFront}
@@ -20,37 +20,37 @@ abbrev pub dolEntry : TagNumber → Length → DolEntry
 dolEntry t n = record { tag = t; asked = n }
 
 -- a tag is followed by its length byte
-unfoldable pub entryWithLength : Tag → DolBytes → DolEntryFront
-entryWithLength t [] = Broken
-entryWithLength t (n ∷ s) = Asked (dolEntry (t .number) n) (t .size + 1)
+unfoldable pub dolEntryWithLength : Tag → DolBytes → DolEntryFront
+dolEntryWithLength t [] = Broken
+dolEntryWithLength t (n ∷ s) = Asked (dolEntry (t .number) n) (t .size + 1)
 
 -- a whole tag, and its length byte after it
-abbrev pub entryWithTag : DolBytes → TagFront → DolEntryFront
-entryWithTag s Untagged = Broken
-entryWithTag s (Tagged t) = entryWithLength t (drop (t .size) s)
+abbrev pub dolEntryWithTag : DolBytes → TagFront → DolEntryFront
+dolEntryWithTag s Untagged = Broken
+dolEntryWithTag s (Tagged t) = dolEntryWithLength t (drop (t .size) s)
 
 -- the entry at the front, and how many bytes of the list it takes
 unfoldable pub dolEntryAt : DolBytes → DolEntryFront
-dolEntryAt s = entryWithTag s (tagAt s)
+dolEntryAt s = dolEntryWithTag s (tagAt s)
 
 -- an entry before the others; broken where any part is
-unfoldable pub entryBefore : DolEntry → Option (List DolEntry) → Option (List DolEntry)
-entryBefore e none = none
-entryBefore e (some es) = some (e ∷ es)
+unfoldable pub prependDolEntry : DolEntry → Option (List DolEntry) → Option (List DolEntry)
+prependDolEntry e none = none
+prependDolEntry e (some es) = some (e ∷ es)
 
 -- one entry, and what k parses of the bytes after it
-abbrev pub entryThenRest : (DolBytes → Option (List DolEntry)) → DolBytes → DolEntryFront → Option (List DolEntry)
-entryThenRest k s Broken = none
-entryThenRest k s (Asked e size) = entryBefore e (k (drop size s))
+abbrev pub dolEntryThenRest : (DolBytes → Option (List DolEntry)) → DolBytes → DolEntryFront → Option (List DolEntry)
+dolEntryThenRest k s Broken = none
+dolEntryThenRest k s (Asked e size) = prependDolEntry e (k (drop size s))
 
 -- nothing more, or one entry and what k parses of the bytes after it
-unfoldable pub entriesNext : (DolBytes → Option (List DolEntry)) → DolBytes → Option (List DolEntry)
-entriesNext k [] = some []
-entriesNext k (b ∷ s) = entryThenRest k (b ∷ s) (dolEntryAt (b ∷ s))
+unfoldable pub dolEntriesStep : (DolBytes → Option (List DolEntry)) → DolBytes → Option (List DolEntry)
+dolEntriesStep k [] = some []
+dolEntriesStep k (b ∷ s) = dolEntryThenRest k (b ∷ s) (dolEntryAt (b ∷ s))
 
 -- the entries of a list, or none where it is broken: a bad tag, or an end inside an entry
 unfoldable pub dolEntries : DolBytes → Option (List DolEntry)
-dolEntries s = recurse none entriesNext s
+dolEntries s = recurseWithFuelFromLength none dolEntriesStep s
 
 -- how many bytes are requested in all
 unfoldable pub dolTotalLength : List DolEntry → Length

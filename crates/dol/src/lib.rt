@@ -6,10 +6,10 @@ ghost use mathlib.Core.Path.{_≡_};
 ghost use Prim.Native.Nat.{_+_, _-_, _≤_, _<_};
 ghost use lib.ListN.{length, take, drop, replicate};
 ghost use Rattle.dictionary.specs.Rows.{dictionaryRows};
-ghost use Rattle.dictionary.specs.Tables.{TablesGiven};
+ghost use Rattle.dictionary.specs.Tables.{AreDictionaryTables};
 ghost use Rattle.dol.specs.Entries.{dolEntryAt, dolEntries};
-ghost use Rattle.dol.specs.Filling.{truncated, paddingByte, padded, fittedTo, dolEntryBytes, dolFilled};
-ghost use Rattle.dol.specs.Measure.{dolMeasured, DolFits, writtenOver, dolWrittenOver};
+ghost use Rattle.dol.specs.Filling.{truncatedToLength, paddingByte, paddedToLength, fittedToLength, dolEntryBytes, dolFilled};
+ghost use Rattle.dol.specs.Measure.{dolTotalIfAtMost255, FilledDolFitsAt, bufferWithBytesAt, bufferWithFilledDolAt};
 
 // An entry of a list: the tag, and how many bytes are requested of it.
 pub struct DolEntry {
@@ -31,7 +31,7 @@ pub enum DolTotal {
 
 // How many bytes a list requests.
 pub fn measure(list: &[u8]) -> DolTotal
-    ensures { λ r. ⌜ r ≡ dolMeasured (dolEntries (now (list .entry))) ⌝ }
+    ensures { λ r. ⌜ r ≡ dolTotalIfAtMost255 (dolEntries (now (list .entry))) ⌝ }
 {
     let mut rest = list;
     let mut total = 0;
@@ -52,11 +52,11 @@ pub fn measure(list: &[u8]) -> DolTotal
 // Writes the filling of a whole list from a place on. A list is measured first: this one is whole, and its filling ends
 // inside the buffer.
 pub fn fill(list: &[u8], store: &[u8], buffer: &mut [u8], at: usize)
-    requires { ⌜ DolFits (dolEntries (now list)) at (length (now buffer)) ⌝ }
-    ensures { λ _. ⌜ now (buffer .exit) ≡ dolWrittenOver (now (buffer .entry)) at (dolFilled dictionaryRows (now (store .entry)) (now (list .entry))) ⌝ }
+    requires { ⌜ FilledDolFitsAt (dolEntries (now list)) at (length (now buffer)) ⌝ }
+    ensures { λ _. ⌜ now (buffer .exit) ≡ bufferWithFilledDolAt (now (buffer .entry)) at (dolFilled dictionaryRows (now (store .entry)) (now (list .entry))) ⌝ }
 {
-    let tags = dictionary::tags();
-    let codes = dictionary::codes();
+    let tags = dictionary::dictionary_tags();
+    let codes = dictionary::packed_row_attributes();
     fill_entries(list, store, buffer, at, &tags, &codes);
 }
 
@@ -69,9 +69,9 @@ fn fill_entries(
     tags: &[u32; ROWS],
     codes: &[u32; ROWS],
 )
-    requires { ⌜ DolFits (dolEntries (now list)) at (length (now buffer)) ⌝ }
-    requires { ⌜ TablesGiven (now tags) (now codes) ⌝ }
-    ensures { λ _. ⌜ now (buffer .exit) ≡ dolWrittenOver (now (buffer .entry)) at (dolFilled dictionaryRows (now (store .entry)) (now (list .entry))) ⌝ }
+    requires { ⌜ FilledDolFitsAt (dolEntries (now list)) at (length (now buffer)) ⌝ }
+    requires { ⌜ AreDictionaryTables (now tags) (now codes) ⌝ }
+    ensures { λ _. ⌜ now (buffer .exit) ≡ bufferWithFilledDolAt (now (buffer .entry)) at (dolFilled dictionaryRows (now (store .entry)) (now (list .entry))) ⌝ }
 {
     let mut rest = list;
     let mut to = at;
@@ -117,31 +117,31 @@ fn write_entry(
     codes: &[u32; ROWS],
 )
     requires { ⌜ at + entry .asked ≤ length (now buffer) ⌝ }
-    requires { ⌜ TablesGiven (now tags) (now codes) ⌝ }
-    ensures { λ _. ⌜ now (buffer .exit) ≡ writtenOver (now (buffer .entry)) at (dolEntryBytes dictionaryRows (now (store .entry)) entry) ⌝ }
+    requires { ⌜ AreDictionaryTables (now tags) (now codes) ⌝ }
+    ensures { λ _. ⌜ now (buffer .exit) ≡ bufferWithBytesAt (now (buffer .entry)) at (dolEntryBytes dictionaryRows (now (store .entry)) entry) ⌝ }
 {
     let n = basics::widen(entry.asked);
     if tlv::is_template(entry.tag) {
         repeat(0, n, buffer, at);
         return;
     }
-    let found = dictionary::search(tags, entry.tag).found;
+    let found = dictionary::search_tags(tags, entry.tag).found;
     let RowFound::At(row) = found else {
         repeat(0, n, buffer, at);
         return;
     };
-    if !store::is_there(store, row) {
+    if !store::is_present(store, row) {
         repeat(0, n, buffer, at);
         return;
     }
-    let attributes = dictionary::unpacked(codes[row]);
+    let attributes = dictionary::unpack_row_attributes(codes[row]);
     write_value(attributes.form, n, store::value(store, row), buffer, at);
 }
 
 // Writes a value as the n bytes requested.
 fn write_value(form: u8, n: usize, v: &[u8], buffer: &mut [u8], at: usize)
     requires { ⌜ at + n ≤ length (now buffer) ⌝ }
-    ensures { λ _. ⌜ now (buffer .exit) ≡ writtenOver (now (buffer .entry)) at (fittedTo form n (now (v .entry))) ⌝ }
+    ensures { λ _. ⌜ now (buffer .exit) ≡ bufferWithBytesAt (now (buffer .entry)) at (fittedToLength form n (now (v .entry))) ⌝ }
 {
     if n <= v.len() {
         write_truncated(form, n, v, buffer, at);
@@ -153,7 +153,7 @@ fn write_value(form: u8, n: usize, v: &[u8], buffer: &mut [u8], at: usize)
 // Writes the part of a value that is left where fewer bytes are requested.
 fn write_truncated(form: u8, n: usize, v: &[u8], buffer: &mut [u8], at: usize)
     requires { ⌜ (n ≤ length (now v)) × (at + n ≤ length (now buffer)) ⌝ }
-    ensures { λ _. ⌜ now (buffer .exit) ≡ writtenOver (now (buffer .entry)) at (truncated form n (now (v .entry))) ⌝ }
+    ensures { λ _. ⌜ now (buffer .exit) ≡ bufferWithBytesAt (now (buffer .entry)) at (truncatedToLength form n (now (v .entry))) ⌝ }
 {
     if form == dictionary::FORM_N {
         let from = v.len() - n;
@@ -166,7 +166,7 @@ fn write_truncated(form: u8, n: usize, v: &[u8], buffer: &mut [u8], at: usize)
 // Writes a value and what it gains where more bytes are requested.
 fn write_padded(form: u8, n: usize, v: &[u8], buffer: &mut [u8], at: usize)
     requires { ⌜ (length (now v) ≤ n) × (at + n ≤ length (now buffer)) ⌝ }
-    ensures { λ _. ⌜ now (buffer .exit) ≡ writtenOver (now (buffer .entry)) at (padded form n (now (v .entry))) ⌝ }
+    ensures { λ _. ⌜ now (buffer .exit) ≡ bufferWithBytesAt (now (buffer .entry)) at (paddedToLength form n (now (v .entry))) ⌝ }
 {
     let gap = n - v.len();
     if form != dictionary::FORM_N {
@@ -191,7 +191,7 @@ fn padding_byte(form: u8) -> u8
 // Writes bytes into the buffer from a place on.
 fn place(v: &[u8], buffer: &mut [u8], at: usize)
     requires { ⌜ at + length (now v) ≤ length (now buffer) ⌝ }
-    ensures { λ _. ⌜ now (buffer .exit) ≡ writtenOver (now (buffer .entry)) at (now (v .entry)) ⌝ }
+    ensures { λ _. ⌜ now (buffer .exit) ≡ bufferWithBytesAt (now (buffer .entry)) at (now (v .entry)) ⌝ }
 {
     let e = at + v.len();
     bytes::copy(v, &mut buffer[at..e]);
@@ -200,7 +200,7 @@ fn place(v: &[u8], buffer: &mut [u8], at: usize)
 // Writes one byte n times from a place on.
 fn repeat(byte: u8, n: usize, buffer: &mut [u8], at: usize)
     requires { ⌜ at + n ≤ length (now buffer) ⌝ }
-    ensures { λ _. ⌜ now (buffer .exit) ≡ writtenOver (now (buffer .entry)) at (replicate n byte) ⌝ }
+    ensures { λ _. ⌜ now (buffer .exit) ≡ bufferWithBytesAt (now (buffer .entry)) at (replicate n byte) ⌝ }
 {
     let mut i = 0;
     while i < n {

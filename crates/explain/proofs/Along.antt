@@ -8,7 +8,7 @@ use Rattle.session_record.specs.declared.Session.{Session}
 use Rattle.session_record.specs.Session.{storeBytes}
 use Rattle.session_record.proofs.Along.{rangesAlong, ranges-along}
 use Rattle.explain.specs.declared.Explanation.{Explanation}
-use Rattle.explain.specs.Explain.{explainedInPhase, explanationOf}
+use Rattle.explain.specs.Explain.{explanationInPhase, explanationOf}
 use Rattle.explain.specs.Word.{explanationWord}
 
 -- the words of some sessions' explanations
@@ -17,8 +17,8 @@ told ss = map (λ s. explanationWord (explanationOf s)) ss
 
 -- one of them by the walk
 abbrev pub toldAlong : Session → ℕ
-toldAlong s = explanationWord (if (rangesAlong s) (explainedInPhase (s .phase) (storeBytes s)) Explanation.Refused)
+toldAlong s = explanationWord (if (rangesAlong s) (explanationInPhase (s .phase) (storeBytes s)) Explanation.Refused)
 
 pub told-along : (ss : List Session) (words : List ℕ) → map toldAlong ss ≡ words → told ss ≡ words
 unfolding told explanationOf
-told-along ss words e = (λ i. map (λ s. explanationWord (if (ranges-along s i) (explainedInPhase (s .phase) (storeBytes s)) Explanation.Refused)) ss) ∙ e
+told-along ss words e = (λ i. map (λ s. explanationWord (if (ranges-along s i) (explanationInPhase (s .phase) (storeBytes s)) Explanation.Refused)) ss) ∙ e

@@ -19,7 +19,7 @@ use Rattle.dictionary.specs.Rows.{dictionaryRows}
 use Rattle.dictionary.specs.TerminalType.{listedTerminalType}
 use Rattle.dictionary.proofs.Named.{at-DF8120, at-DF8121, at-DF8122}
 use Rattle.store.specs.Held.{hasObject, storedByte}
-use Rattle.analysis.specs.Choice.{lowestBit, onlineCapabilityAt, onlineCapabilityOf, stageHolds, denialStage, generateAcP1}
+use Rattle.analysis.specs.Choice.{lowestTvrBitInCodes, onlineCapabilityByDigit, onlineCapabilityOfType, someTvrBitInCodesOfStage, denialStage, generateAcP1}
 use Rattle.analysis.specs.Action.{terminalType, actionCodesOf}
 use Rattle.analysis.specs.declared.choice.OnlineCapability.{OnlineCapability}
 use Rattle.analysis.specs.declared.choice.LowestBit.{LowestBit}
@@ -30,15 +30,15 @@ use Rattle.session_record.specs.declared.Phase.{Phase}
 use Rattle.session_record.specs.declared.Session.{Session}
 use Rattle.session_record.specs.Numbers.{outcomeNumber}
 use Rattle.session_record.specs.Session.{storeBytes}
-use Rattle.session_record.specs.Ranges.{inRanges}
+use Rattle.session_record.specs.Ranges.{sessionRecordInRanges}
 use Rattle.session_record.proofs.Clauses.{RunningClauses}
 use Rattle.session_record.proofs.Values.{brought-there}
-use Rattle.session.specs.Answer.{cryptogramOutcome}
+use Rattle.session.specs.Answer.{outcomeForCryptogramType}
 use Rattle.explain.specs.declared.Stage.{Stage}
-use Rattle.explain.specs.declared.Deciding.{Deciding}
+use Rattle.explain.specs.declared.DecidingStage.{DecidingStage}
 use Rattle.explain.specs.declared.Explanation.{Explanation}
-use Rattle.explain.specs.Explain.{storedTvr, storedChoice, stageBy, stageIn, stageNeeds, stageIfComplete, decidingIn, actionCodesOfStage, explainedByBit, explainedAt, explainedWaiting, storedCryptogramType, decidesOutcome, explainedDecision, explainedEnd, cardAsksMagStripe, explainedEndBy, explainedInPhase, explanationOf}
-use Rattle.explain.specs.Promise.{DecisionIs}
+use Rattle.explain.specs.Explain.{storedTvr, recomputedChoice, decidingStageByDenialBit, decidingStageIn, tagsNeededByStage, stageIfItsDataPresent, decidingStageIfItsDataPresent, actionCodesOfStage, explanationByBit, explanationAtStage, explanationAwaitingCryptogram, storedCryptogramType, isDecisionOutcome, explanationOfDecision, explanationOfEnding, aipIndicatesMagStripe, explanationOfEndingByMode, explanationInPhase, explanationOf}
+use Rattle.explain.specs.Promise.{StoredCryptogramDecidesOutcome}
 use Rattle.explain.proofs.Laws.{ended-reason, by-reason, by-mag-stripe, by-choice}
 
 -- ---- a store with all that the stages need
@@ -76,8 +76,8 @@ digit t e = go (bool-cases (between 0x11 t 0x16)) (bool-cases (between 0x21 t 0x
     go (inr n) (inl y) = let h = low 0x21 0x26 y in (omega arith, omega arith)
     go (inr n) (inr m) = let h = low 0x34 0x36 (sym (either-false _ n ∙ either-false _ m) ∙ e) in (omega arith, omega arith)
 
-capable : (x : ℕ) → 1 ≤ x → x ≤ 6 → onlineCapabilityAt x ≡ OnlineCapability.Unlisted → ⊥
-unfolding onlineCapabilityAt if either
+capable : (x : ℕ) → 1 ≤ x → x ≤ 6 → onlineCapabilityByDigit x ≡ OnlineCapability.Unlisted → ⊥
+unfolding onlineCapabilityByDigit if either
 capable zero l h e = omega arith
 capable (suc zero) l h e = let z : _≡_ {A = ℕ} 0 1 = cc in omega arith
 capable (suc (suc zero)) l h e = let z : _≡_ {A = ℕ} 0 1 = cc in omega arith
@@ -87,44 +87,44 @@ capable (suc (suc (suc (suc (suc zero))))) l h e = let z : _≡_ {A = ℕ} 0 1 =
 capable (suc (suc (suc (suc (suc (suc zero)))))) l h e = let z : _≡_ {A = ℕ} 0 1 = cc in omega arith
 capable (suc (suc (suc (suc (suc (suc (suc x))))))) l h e = absurd (omega arith)
 
-pub listed-capable : (t : ℕ) → listedTerminalType t ≡ true → onlineCapabilityOf t ≡ OnlineCapability.Unlisted → ⊥
+pub listed-capable : (t : ℕ) → listedTerminalType t ≡ true → onlineCapabilityOfType t ≡ OnlineCapability.Unlisted → ⊥
 listed-capable t e = let d = digit t e in capable (t % 16) (d .0) (d .1)
 
 -- ---- a stage decided
 
 module _ (b : List ℕ) (w : Complete b) where
-  all-there : (stage : Stage) → every (hasObject b) (stageNeeds stage) ≡ true
+  all-there : (stage : Stage) → every (hasObject b) (tagsNeededByStage stage) ≡ true
   unfolding every
   all-there Stage.Denial = both-yes _ _ (w .results) (both-yes _ _ (w .denial-code) refl)
   all-there Stage.OnlineOnly = both-yes _ _ (w .results) (both-yes _ _ (w .denial-code) refl)
   all-there Stage.Default = both-yes _ _ (w .results) (both-yes _ _ (w .denial-code) (both-yes _ _ (w .default-code) refl))
   all-there Stage.Online = both-yes _ _ (w .results) (both-yes _ _ (w .denial-code) (both-yes _ _ (w .online-code) refl))
 
-  some-stage : stageIn b ≡ Deciding.Nothing → ⊥
-  unfolding stageIn
-  some-stage = go (onlineCapabilityOf (terminalType b)) (stageHolds (storedTvr b) (actionCodesOf b) denialStage) (listed-capable (terminalType b) (w .terminal))
+  some-stage : decidingStageIn b ≡ DecidingStage.Nothing → ⊥
+  unfolding decidingStageIn
+  some-stage = go (onlineCapabilityOfType (terminalType b)) (someTvrBitInCodesOfStage (storedTvr b) (actionCodesOf b) denialStage) (listed-capable (terminalType b) (w .terminal))
     where
-      go : (r : OnlineCapability) (h : Bool) → (r ≡ OnlineCapability.Unlisted → ⊥) → stageBy r h ≡ Deciding.Nothing → ⊥
+      go : (r : OnlineCapability) (h : Bool) → (r ≡ OnlineCapability.Unlisted → ⊥) → decidingStageByDenialBit r h ≡ DecidingStage.Nothing → ⊥
       go r true n e = let z : _≡_ {A = ℕ} 0 1 = cc in omega arith
       go OnlineCapability.OnlineOnly false n e = let z : _≡_ {A = ℕ} 0 1 = cc in omega arith
       go OnlineCapability.OnlineCapable false n e = let z : _≡_ {A = ℕ} 0 1 = cc in omega arith
       go OnlineCapability.OfflineOnly false n e = let z : _≡_ {A = ℕ} 0 1 = cc in omega arith
       go OnlineCapability.Unlisted false n e = n refl
 
-  decides : decidingIn b ≡ Deciding.Nothing → ⊥
-  unfolding decidingIn
-  decides = go (stageIn b) some-stage
+  decides : decidingStageIfItsDataPresent b ≡ DecidingStage.Nothing → ⊥
+  unfolding decidingStageIfItsDataPresent
+  decides = go (decidingStageIn b) some-stage
     where
-      go : (d : Deciding) → (d ≡ Deciding.Nothing → ⊥) → stageIfComplete b d ≡ Deciding.Nothing → ⊥
-      go Deciding.Nothing n e = n refl
-      go (Deciding.At stage) n e = let z : Deciding.At stage ≡ Deciding.Nothing = sym (if-yes _ _ (all-there stage)) ∙ e in n z
+      go : (d : DecidingStage) → (d ≡ DecidingStage.Nothing → ⊥) → stageIfItsDataPresent b d ≡ DecidingStage.Nothing → ⊥
+      go DecidingStage.Nothing n e = n refl
+      go (DecidingStage.At stage) n e = let z : DecidingStage.At stage ≡ DecidingStage.Nothing = sym (if-yes _ _ (all-there stage)) ∙ e in n z
 
 -- what a stage reports is no refusal
-says : (b : List ℕ) (stage : Stage) → explainedAt b stage ≡ Explanation.Refused → ⊥
-unfolding explainedAt
-says b stage = go (lowestBit (storedTvr b) (actionCodesOfStage b stage))
+says : (b : List ℕ) (stage : Stage) → explanationAtStage b stage ≡ Explanation.Refused → ⊥
+unfolding explanationAtStage
+says b stage = go (lowestTvrBitInCodes (storedTvr b) (actionCodesOfStage b stage))
   where
-    go : (l : LowestBit) → explainedByBit stage (actionCodesOfStage b stage) l ≡ Explanation.Refused → ⊥
+    go : (l : LowestBit) → explanationByBit stage (actionCodesOfStage b stage) l ≡ Explanation.Refused → ⊥
     go (LowestBit.Bit i) e = let z : _≡_ {A = ℕ} 0 1 = cc in omega arith
     go LowestBit.NoBit e = let z : _≡_ {A = ℕ} 0 1 = cc in omega arith
 
@@ -132,44 +132,44 @@ says b stage = go (lowestBit (storedTvr b) (actionCodesOfStage b stage))
 
 module _ (b : List ℕ) (w : Complete b) where
   -- waiting on the cryptogram with the choice of the store
-  pub waiting-answers : (a : RequestedCryptogram) → a .choice ≡ storedChoice b → explainedWaiting a b (decidingIn b) ≡ Explanation.Refused → ⊥
-  waiting-answers a c = go (decidingIn b) (decides b w)
+  pub waiting-answers : (a : RequestedCryptogram) → a .choice ≡ recomputedChoice b → explanationAwaitingCryptogram a b (decidingStageIfItsDataPresent b) ≡ Explanation.Refused → ⊥
+  waiting-answers a c = go (decidingStageIfItsDataPresent b) (decides b w)
     where
-      go : (d : Deciding) → (d ≡ Deciding.Nothing → ⊥) → explainedWaiting a b d ≡ Explanation.Refused → ⊥
-      go Deciding.Nothing n e = n refl
-      go (Deciding.At stage) n e = says b stage (sym (if-yes _ _ (eq-eqb _ _ (ap generateAcP1 c))) ∙ e)
+      go : (d : DecidingStage) → (d ≡ DecidingStage.Nothing → ⊥) → explanationAwaitingCryptogram a b d ≡ Explanation.Refused → ⊥
+      go DecidingStage.Nothing n e = n refl
+      go (DecidingStage.At stage) n e = says b stage (sym (if-yes _ _ (eq-eqb _ _ (ap generateAcP1 c))) ∙ e)
 
   -- ended with the outcome that the cryptogram gives on it
-  pub decided-answers : (x : Ending) → hasObject b 0x9F27 ≡ true → DecisionIs b (x .outcome) → explainedDecision x b (decidingIn b) ≡ Explanation.Refused → ⊥
-  decided-answers x h g = go (decidingIn b) (decides b w)
+  pub decided-answers : (x : Ending) → hasObject b 0x9F27 ≡ true → StoredCryptogramDecidesOutcome b (x .outcome) → explanationOfDecision x b (decidingStageIfItsDataPresent b) ≡ Explanation.Refused → ⊥
+  decided-answers x h g = go (decidingStageIfItsDataPresent b) (decides b w)
     where
-      given : decidesOutcome (cryptogramOutcome (storedChoice b) (storedCryptogramType b)) (x .outcome) ≡ true
-      given = ap (λ (d : Option Outcome). decidesOutcome d (x .outcome)) g ∙ eq-eqb (outcomeNumber (x .outcome)) (outcomeNumber (x .outcome)) refl
+      given : isDecisionOutcome (outcomeForCryptogramType (recomputedChoice b) (storedCryptogramType b)) (x .outcome) ≡ true
+      given = ap (λ (d : Option Outcome). isDecisionOutcome d (x .outcome)) g ∙ eq-eqb (outcomeNumber (x .outcome)) (outcomeNumber (x .outcome)) refl
 
       P : Explanation → Type 0
       P r = r ≡ Explanation.Refused → ⊥
 
-      go : (d : Deciding) → (d ≡ Deciding.Nothing → ⊥) → explainedDecision x b d ≡ Explanation.Refused → ⊥
-      go Deciding.Nothing n = λ e. n refl
-      go (Deciding.At stage) n =
+      go : (d : DecidingStage) → (d ≡ DecidingStage.Nothing → ⊥) → explanationOfDecision x b d ≡ Explanation.Refused → ⊥
+      go DecidingStage.Nothing n = λ e. n refl
+      go (DecidingStage.At stage) n =
           if-ind P _ _ _ (λ t e. (let z : _≡_ {A = Bool} false true = sym (ap not h) ∙ t in let y : _≡_ {A = ℕ} 0 1 = cc in omega arith))
           (λ t. if-ind P _ _ _ (λ u e. (let z : _≡_ {A = Bool} false true = sym (ap not given) ∙ u in let y : _≡_ {A = ℕ} 0 1 = cc in omega arith))
           (λ u. if-ind P _ _ _ (λ v e. (let z : _≡_ {A = ℕ} 0 1 = cc in omega arith)) (λ v e. says b stage e)))
 
-  pub ended-answers : (x : Ending) → x .reason ≡ reasonNone → cardAsksMagStripe b ≡ false → hasObject b 0x9F27 ≡ true → DecisionIs b (x .outcome) → explainedEndBy x b ≡ Explanation.Refused → ⊥
-  unfolding explainedEnd
+  pub ended-answers : (x : Ending) → x .reason ≡ reasonNone → aipIndicatesMagStripe b ≡ false → hasObject b 0x9F27 ≡ true → StoredCryptogramDecidesOutcome b (x .outcome) → explanationOfEndingByMode x b ≡ Explanation.Refused → ⊥
+  unfolding explanationOfEnding
   ended-answers x z m h g e = decided-answers x h g (sym (if-yes _ _ (eq-eqb _ _ z)) ∙ sym (by-choice x b m) ∙ e)
 
 -- ended with a reason
-pub reason-answers : (x : Ending) (b : List ℕ) → (x .reason ≡ reasonNone → ⊥) → explainedEndBy x b ≡ Explanation.Refused → ⊥
+pub reason-answers : (x : Ending) (b : List ℕ) → (x .reason ≡ reasonNone → ⊥) → explanationOfEndingByMode x b ≡ Explanation.Refused → ⊥
 reason-answers x b n e = let w = sym (by-reason x b n ∙ ended-reason x b n) ∙ e in let z : _≡_ {A = ℕ} 0 1 = cc in omega arith
 
 -- ended in mag-stripe mode
-pub mag-stripe-answers : (x : Ending) (b : List ℕ) → x .reason ≡ reasonNone → cardAsksMagStripe b ≡ true → explainedEndBy x b ≡ Explanation.Refused → ⊥
+pub mag-stripe-answers : (x : Ending) (b : List ℕ) → x .reason ≡ reasonNone → aipIndicatesMagStripe b ≡ true → explanationOfEndingByMode x b ≡ Explanation.Refused → ⊥
 mag-stripe-answers x b z m e = let w = sym (by-mag-stripe x b z m) ∙ e in let y : _≡_ {A = ℕ} 0 1 = cc in omega arith
 
 -- ---- a session in its ranges is what its phase says
 
-pub phase-answers : (s : Session) (p : Phase) → inRanges s ≡ true → s .phase ≡ p → (explainedInPhase p (storeBytes s) ≡ Explanation.Refused → ⊥) → explanationOf s ≡ Explanation.Refused → ⊥
+pub phase-answers : (s : Session) (p : Phase) → sessionRecordInRanges s ≡ true → s .phase ≡ p → (explanationInPhase p (storeBytes s) ≡ Explanation.Refused → ⊥) → explanationOf s ≡ Explanation.Refused → ⊥
 unfolding explanationOf
-phase-answers s p i q n e = n (sym (if-yes _ _ i ∙ ap (λ (x : Phase). explainedInPhase x (storeBytes s)) q) ∙ e)
+phase-answers s p i q n e = n (sym (if-yes _ _ i ∙ ap (λ (x : Phase). explanationInPhase x (storeBytes s)) q) ∙ e)

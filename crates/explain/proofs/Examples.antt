@@ -8,42 +8,42 @@ use lib.Dec.{eqb}
 use lib.ListN.{replicate}
 use Rattle.basics.specs.Choice.{if, both, either, every}
 use Rattle.basics.specs.Number.{nibbles}
-use Rattle.dictionary.specs.Named.{rowNumberOf}
-use Rattle.dictionary.specs.Rows.{dictionaryRows, rowPast, findRow, storeSize}
-use Rattle.dictionary.specs.Form.{numeric, digitsThenFs, compressed, digitsFit, fitsRow}
+use Rattle.dictionary.specs.Named.{rowNumberOfTagOrZero}
+use Rattle.dictionary.specs.Rows.{dictionaryRows, rowFoundShifted, findRow, storeSize}
+use Rattle.dictionary.specs.Form.{isNumeric, isDigitsThenFs, isCompressedNumeric, digitsMatchForm, lengthAndDigitsFitRow}
 use Rattle.dictionary.specs.TerminalType.{listedTerminalType}
-use Rattle.store.specs.Place.{rowOffset, rowPlace, placeValue, rowValue, putRow, objectValueIn}
+use Rattle.store.specs.Place.{rowOffset, rowPlaceBytes, valueInPlace, rowValue, putRow, objectValueIn}
 use Rattle.afl.specs.Entry.{validEntry}
-use Rattle.afl.specs.Records.{aflEntries, wholeEntries, sumOverEntries, acceptsAfl}
-use Rattle.analysis.specs.Bits.{numberedBit}
-use Rattle.analysis.specs.Value.{firstBytes}
-use Rattle.analysis.specs.Choice.{stageHoldsBit, lowestFrom, lowestBit, iacCode, stageHolds, onlineCapabilityAt, choiceOf}
-use Rattle.analysis.specs.Digits.{bcdFrom, amountOf}
-use Rattle.analysis.specs.Cvm.{onDeviceCvm}
-use Rattle.analysis.specs.Action.{hasOnDeviceCvm, transactionLimit, actionCodesOf, choiceFor}
+use Rattle.afl.specs.Records.{aflEntries, aflLengthIsMultipleOf4, sumOverEntries, acceptsAfl}
+use Rattle.analysis.specs.Bits.{hasBitCountedFromZeroAtByte1B8}
+use Rattle.analysis.specs.Value.{firstBytesZeroPadded}
+use Rattle.analysis.specs.Choice.{tvrBitIsInEitherActionCode, lowestBitFrom, lowestTvrBitInCodes, iacOrDefault, someTvrBitInCodesOfStage, onlineCapabilityByDigit, terminalActionAnalysis}
+use Rattle.analysis.specs.Digits.{appendDecimalDigits, amountOf}
+use Rattle.analysis.specs.Cvm.{aipAndConfigurationSupportOnDeviceCvm}
+use Rattle.analysis.specs.Action.{cardAndKernelSupportOnDeviceCvm, transactionLimit, actionCodesOf, choiceForTvr}
 use Rattle.analysis.specs.declared.choice.Choice.{Choice}
 use Rattle.analysis.specs.declared.cvm.Cvm.{Cvm}
 use Rattle.session_record.specs.declared.Outcome.{Outcome}
 use Rattle.session_record.specs.declared.AwaitedResponse.{AwaitedResponse}
 use Rattle.session_record.specs.declared.Phase.{Phase}
 use Rattle.session_record.specs.declared.Session.{Session}
-use Rattle.session_record.specs.Inner.{rowPlaceFits}
+use Rattle.session_record.specs.Inner.{placeLengthAndValueFitRow}
 use Rattle.session_record.specs.Numbers.{reasonMatchesOutcome}
 use Rattle.session_record.specs.Session.{sessionOf, endingOf}
-use Rattle.session_record.specs.Ranges.{isPresentIfRequired, allRequiredPresent, lastResponseAbsent, runningRanges, cryptogramDataPresent, freshRanges, gpoRanges, recordRanges, cryptogramRanges, endedRanges}
+use Rattle.session_record.specs.Ranges.{isPresentIfRequiredAtStart, allRequiredAtStartPresent, lastResponseObjectsAbsent, inRunningRanges, expiryPanAndCdol1NonEmpty, inFreshRanges, inGpoRanges, inRecordRanges, inCryptogramRanges, inEndedRanges}
 use Rattle.session_record.proofs.Along.{fitAlong}
-use Rattle.session.specs.Answer.{cryptogramOutcome}
+use Rattle.session.specs.Answer.{outcomeForCryptogramType}
 use Rattle.explain.specs.declared.Stage.{Stage}
-use Rattle.explain.specs.declared.Holder.{Holder}
+use Rattle.explain.specs.declared.ActionCodeHolder.{ActionCodeHolder}
 use Rattle.explain.specs.declared.Explanation.{Explanation}
-use Rattle.explain.specs.Explain.{stageIn, decidingIn, bitHolder, actionCodesOfStage, explainedAt, cryptogramRank, explainedEnd, explainedEndBy}
-use Rattle.explain.specs.Word.{choiceWord, explanationWord}
+use Rattle.explain.specs.Explain.{decidingStageIn, decidingStageIfItsDataPresent, actionCodeHolderOfBit, actionCodesOfStage, explanationAtStage, rankOfCryptogramType, explanationOfEnding, explanationOfEndingByMode}
+use Rattle.explain.specs.Word.{explainedChoiceWord, explanationWord}
 use Rattle.explain.proofs.Along.{told, told-along}
 
 -- ---- numbers
 
 words : map explanationWord (Explanation.Refused ∷ Explanation.Reason 6 ∷ Explanation.NoChoice ∷ Explanation.LowerCryptogram ∷ Explanation.Unforced Stage.OnlineOnly ∷ [])
-    ++ (choiceWord Stage.Denial Holder.Terminal 9 ∷ choiceWord Stage.Default Holder.Both 39 ∷ choiceWord Stage.Online Holder.Card 0 ∷ [])
+    ++ (explainedChoiceWord Stage.Denial ActionCodeHolder.Terminal 9 ∷ explainedChoiceWord Stage.Default ActionCodeHolder.Both 39 ∷ explainedChoiceWord Stage.Online ActionCodeHolder.Card 0 ∷ [])
     ≡ 0x20019 ∷ 0x30006 ∷ 0x40000 ∷ 0x50000 ∷ 0x610FF ∷ 0x60209 ∷ 0x62327 ∷ 0x63100 ∷ []
 words = refl
 
@@ -55,7 +55,7 @@ Object = ℕ × List ℕ
 -- objects put one by one into the empty store, without those of a tag
 abbrev without : ℕ → List Object → List ℕ
 without x [] = replicate storeSize 0
-without x ((t, v) ∷ more) = if (eqb t x) (without x more) (putRow dictionaryRows (without x more) (rowNumberOf t) v)
+without x ((t, v) ∷ more) = if (eqb t x) (without x more) (putRow dictionaryRows (without x more) (rowNumberOfTagOrZero t) v)
 
 -- what a start brings, and 95
 abbrev started : ℕ → List ℕ → List Object
@@ -115,31 +115,31 @@ lower = explanationWord Explanation.LowerCryptogram
 -- that does not fit is refused
 waiting-online : told (waiting Choice.Online 0x22 usual [] ∷ waiting Choice.Offline 0x22 usual ((0x9F0F, zero5) ∷ []) ∷ waiting Choice.Offline 0x22 usual []
     ∷ waiting Choice.Online 0x22 (five 0x80 0x40 0 0 0) ((0x9F0F, zero5) ∷ (0xDF8122, five 0 0x40 0 0 0) ∷ []) ∷ [])
-    ≡ choiceWord Stage.Online Holder.Card 0 ∷ choiceWord Stage.Online Holder.Nobody 255 ∷ refused ∷ choiceWord Stage.Online Holder.Terminal 9 ∷ []
-unfolding stageIn decidingIn bitHolder actionCodesOfStage explainedAt numberedBit firstBytes stageHoldsBit lowestFrom lowestBit iacCode stageHolds onlineCapabilityAt choiceOf actionCodesOf choiceFor
-    fitAlong rowPlaceFits fitsRow digitsFit numeric compressed digitsThenFs nibbles putRow rowNumberOf objectValueIn rowValue rowPlace placeValue rowOffset findRow rowPast dictionaryRows
-    cryptogramRanges transactionLimit hasOnDeviceCvm onDeviceCvm amountOf bcdFrom runningRanges allRequiredPresent isPresentIfRequired lastResponseAbsent cryptogramDataPresent listedTerminalType acceptsAfl wholeEntries aflEntries validEntry sumOverEntries every both either if
+    ≡ explainedChoiceWord Stage.Online ActionCodeHolder.Card 0 ∷ explainedChoiceWord Stage.Online ActionCodeHolder.Nobody 255 ∷ refused ∷ explainedChoiceWord Stage.Online ActionCodeHolder.Terminal 9 ∷ []
+unfolding decidingStageIn decidingStageIfItsDataPresent actionCodeHolderOfBit actionCodesOfStage explanationAtStage hasBitCountedFromZeroAtByte1B8 firstBytesZeroPadded tvrBitIsInEitherActionCode lowestBitFrom lowestTvrBitInCodes iacOrDefault someTvrBitInCodesOfStage onlineCapabilityByDigit terminalActionAnalysis actionCodesOf choiceForTvr
+    fitAlong placeLengthAndValueFitRow lengthAndDigitsFitRow digitsMatchForm isNumeric isCompressedNumeric isDigitsThenFs nibbles putRow rowNumberOfTagOrZero objectValueIn rowValue rowPlaceBytes valueInPlace rowOffset findRow rowFoundShifted dictionaryRows
+    inCryptogramRanges transactionLimit cardAndKernelSupportOnDeviceCvm aipAndConfigurationSupportOnDeviceCvm amountOf appendDecimalDigits inRunningRanges allRequiredAtStartPresent isPresentIfRequiredAtStart lastResponseObjectsAbsent expiryPanAndCdol1NonEmpty listedTerminalType acceptsAfl aflLengthIsMultipleOf4 aflEntries validEntry sumOverEntries every both either if
 waiting-online = told-along _ _ refl
 
 -- the lowest bit of the denial codes alone, by the terminal, and by both where the lower one is not set; at type 21 too
 waiting-denial : told (waiting Choice.Decline 0x22 (five 0x80 0x40 0 0x80 0) ((0x9F0E, five 0 0 0 0x80 0) ∷ (0xDF8121, five 0 0x40 0 0x80 0) ∷ [])
     ∷ waiting Choice.Decline 0x22 (five 0x80 0 0 0x80 0) ((0x9F0E, five 0 0 0 0x80 0) ∷ (0xDF8121, five 0 0x40 0 0x80 0) ∷ [])
     ∷ waiting Choice.Decline 0x21 (five 0x80 0 0 0x80 0) ((0x9F0E, five 0 0 0 0x80 0) ∷ []) ∷ [])
-    ≡ choiceWord Stage.Denial Holder.Terminal 9 ∷ choiceWord Stage.Denial Holder.Both 24 ∷ choiceWord Stage.Denial Holder.Card 24 ∷ []
-unfolding stageIn decidingIn bitHolder actionCodesOfStage explainedAt numberedBit firstBytes stageHoldsBit lowestFrom lowestBit iacCode stageHolds onlineCapabilityAt choiceOf actionCodesOf choiceFor
-    fitAlong rowPlaceFits fitsRow digitsFit numeric compressed digitsThenFs nibbles putRow rowNumberOf objectValueIn rowValue rowPlace placeValue rowOffset findRow rowPast dictionaryRows
-    cryptogramRanges transactionLimit hasOnDeviceCvm onDeviceCvm amountOf bcdFrom runningRanges allRequiredPresent isPresentIfRequired lastResponseAbsent cryptogramDataPresent listedTerminalType acceptsAfl wholeEntries aflEntries validEntry sumOverEntries every both either if
+    ≡ explainedChoiceWord Stage.Denial ActionCodeHolder.Terminal 9 ∷ explainedChoiceWord Stage.Denial ActionCodeHolder.Both 24 ∷ explainedChoiceWord Stage.Denial ActionCodeHolder.Card 24 ∷ []
+unfolding decidingStageIn decidingStageIfItsDataPresent actionCodeHolderOfBit actionCodesOfStage explanationAtStage hasBitCountedFromZeroAtByte1B8 firstBytesZeroPadded tvrBitIsInEitherActionCode lowestBitFrom lowestTvrBitInCodes iacOrDefault someTvrBitInCodesOfStage onlineCapabilityByDigit terminalActionAnalysis actionCodesOf choiceForTvr
+    fitAlong placeLengthAndValueFitRow lengthAndDigitsFitRow digitsMatchForm isNumeric isCompressedNumeric isDigitsThenFs nibbles putRow rowNumberOfTagOrZero objectValueIn rowValue rowPlaceBytes valueInPlace rowOffset findRow rowFoundShifted dictionaryRows
+    inCryptogramRanges transactionLimit cardAndKernelSupportOnDeviceCvm aipAndConfigurationSupportOnDeviceCvm amountOf appendDecimalDigits inRunningRanges allRequiredAtStartPresent isPresentIfRequiredAtStart lastResponseObjectsAbsent expiryPanAndCdol1NonEmpty listedTerminalType acceptsAfl aflLengthIsMultipleOf4 aflEntries validEntry sumOverEntries every both either if
 waiting-denial = told-along _ _ refl
 
 -- the online-only type; the default stage with an absent code, with its last bit, and with none
 waiting-types : told (waiting Choice.Online 0x21 usual [] ∷ waiting Choice.Decline 0x23 usual []
     ∷ waiting Choice.Decline 0x26 (five 0x80 0 0 0 1) ((0x9F0D, five 0 0 0 0 1) ∷ (0xDF8120, five 0 0 0 0 1) ∷ [])
     ∷ waiting Choice.Offline 0x36 usual ((0x9F0D, five 0x7F 0xFF 0xFF 0xFF 0xFF) ∷ []) ∷ [])
-    ≡ choiceWord Stage.OnlineOnly Holder.Nobody 255 ∷ choiceWord Stage.Default Holder.Card 0 ∷ choiceWord Stage.Default Holder.Both 39
-    ∷ choiceWord Stage.Default Holder.Nobody 255 ∷ []
-unfolding stageIn decidingIn bitHolder actionCodesOfStage explainedAt numberedBit firstBytes stageHoldsBit lowestFrom lowestBit iacCode stageHolds onlineCapabilityAt choiceOf actionCodesOf choiceFor
-    fitAlong rowPlaceFits fitsRow digitsFit numeric compressed digitsThenFs nibbles putRow rowNumberOf objectValueIn rowValue rowPlace placeValue rowOffset findRow rowPast dictionaryRows
-    cryptogramRanges transactionLimit hasOnDeviceCvm onDeviceCvm amountOf bcdFrom runningRanges allRequiredPresent isPresentIfRequired lastResponseAbsent cryptogramDataPresent listedTerminalType acceptsAfl wholeEntries aflEntries validEntry sumOverEntries every both either if
+    ≡ explainedChoiceWord Stage.OnlineOnly ActionCodeHolder.Nobody 255 ∷ explainedChoiceWord Stage.Default ActionCodeHolder.Card 0 ∷ explainedChoiceWord Stage.Default ActionCodeHolder.Both 39
+    ∷ explainedChoiceWord Stage.Default ActionCodeHolder.Nobody 255 ∷ []
+unfolding decidingStageIn decidingStageIfItsDataPresent actionCodeHolderOfBit actionCodesOfStage explanationAtStage hasBitCountedFromZeroAtByte1B8 firstBytesZeroPadded tvrBitIsInEitherActionCode lowestBitFrom lowestTvrBitInCodes iacOrDefault someTvrBitInCodesOfStage onlineCapabilityByDigit terminalActionAnalysis actionCodesOf choiceForTvr
+    fitAlong placeLengthAndValueFitRow lengthAndDigitsFitRow digitsMatchForm isNumeric isCompressedNumeric isDigitsThenFs nibbles putRow rowNumberOfTagOrZero objectValueIn rowValue rowPlaceBytes valueInPlace rowOffset findRow rowFoundShifted dictionaryRows
+    inCryptogramRanges transactionLimit cardAndKernelSupportOnDeviceCvm aipAndConfigurationSupportOnDeviceCvm amountOf appendDecimalDigits inRunningRanges allRequiredAtStartPresent isPresentIfRequiredAtStart lastResponseObjectsAbsent expiryPanAndCdol1NonEmpty listedTerminalType acceptsAfl aflLengthIsMultipleOf4 aflEntries validEntry sumOverEntries every both either if
 waiting-types = told-along _ _ refl
 
 -- ---- ended with reason 0
@@ -147,28 +147,28 @@ waiting-types = told-along _ _ refl
 -- the cryptogram that was requested, and a lower one
 ended-given : told (ended 0 Outcome.OnlineRequest 0x80 [] ∷ ended 0 Outcome.Declined 0x00 [] ∷ ended 0 Outcome.OnlineRequest 0x80 ((0x9F0F, zero5) ∷ [])
     ∷ ended 0 Outcome.Approved 0x40 ((0x9F0F, zero5) ∷ []) ∷ [])
-    ≡ choiceWord Stage.Online Holder.Card 0 ∷ lower ∷ lower ∷ choiceWord Stage.Online Holder.Nobody 255 ∷ []
-unfolding explainedEndBy explainedEnd cryptogramRank cryptogramOutcome stageIn decidingIn bitHolder actionCodesOfStage explainedAt numberedBit firstBytes stageHoldsBit lowestFrom lowestBit iacCode stageHolds onlineCapabilityAt choiceOf actionCodesOf choiceFor
-    fitAlong rowPlaceFits fitsRow digitsFit numeric compressed digitsThenFs nibbles putRow rowNumberOf objectValueIn rowValue rowPlace placeValue rowOffset findRow rowPast dictionaryRows
-    endedRanges reasonMatchesOutcome every both either if
+    ≡ explainedChoiceWord Stage.Online ActionCodeHolder.Card 0 ∷ lower ∷ lower ∷ explainedChoiceWord Stage.Online ActionCodeHolder.Nobody 255 ∷ []
+unfolding explanationOfEndingByMode explanationOfEnding rankOfCryptogramType outcomeForCryptogramType decidingStageIn decidingStageIfItsDataPresent actionCodeHolderOfBit actionCodesOfStage explanationAtStage hasBitCountedFromZeroAtByte1B8 firstBytesZeroPadded tvrBitIsInEitherActionCode lowestBitFrom lowestTvrBitInCodes iacOrDefault someTvrBitInCodesOfStage onlineCapabilityByDigit terminalActionAnalysis actionCodesOf choiceForTvr
+    fitAlong placeLengthAndValueFitRow lengthAndDigitsFitRow digitsMatchForm isNumeric isCompressedNumeric isDigitsThenFs nibbles putRow rowNumberOfTagOrZero objectValueIn rowValue rowPlaceBytes valueInPlace rowOffset findRow rowFoundShifted dictionaryRows
+    inEndedRanges reasonMatchesOutcome every both either if
 ended-given = told-along _ _ refl
 
 -- an approval of an online choice; a decline with an ARQC; no 9F27, DF8122 or 95
 ended-refused : told (ended 0 Outcome.Approved 0x40 [] ∷ ended 0 Outcome.Declined 0x80 [] ∷ map (λ t. ended t Outcome.OnlineRequest 0x80 []) (0x9F27 ∷ 0xDF8122 ∷ 0x95 ∷ []))
     ≡ replicate 5 refused
-unfolding explainedEndBy explainedEnd cryptogramRank cryptogramOutcome stageIn decidingIn bitHolder actionCodesOfStage explainedAt numberedBit firstBytes stageHoldsBit lowestFrom lowestBit iacCode stageHolds onlineCapabilityAt choiceOf actionCodesOf choiceFor
-    fitAlong rowPlaceFits fitsRow digitsFit numeric compressed digitsThenFs nibbles putRow rowNumberOf objectValueIn rowValue rowPlace placeValue rowOffset findRow rowPast dictionaryRows
-    endedRanges reasonMatchesOutcome every both either if
+unfolding explanationOfEndingByMode explanationOfEnding rankOfCryptogramType outcomeForCryptogramType decidingStageIn decidingStageIfItsDataPresent actionCodeHolderOfBit actionCodesOfStage explanationAtStage hasBitCountedFromZeroAtByte1B8 firstBytesZeroPadded tvrBitIsInEitherActionCode lowestBitFrom lowestTvrBitInCodes iacOrDefault someTvrBitInCodesOfStage onlineCapabilityByDigit terminalActionAnalysis actionCodesOf choiceForTvr
+    fitAlong placeLengthAndValueFitRow lengthAndDigitsFitRow digitsMatchForm isNumeric isCompressedNumeric isDigitsThenFs nibbles putRow rowNumberOfTagOrZero objectValueIn rowValue rowPlaceBytes valueInPlace rowOffset findRow rowFoundShifted dictionaryRows
+    inEndedRanges reasonMatchesOutcome every both either if
 ended-refused = told-along _ _ refl
 
 -- the terminal's denial code and its type are needed; a code of a stage that is not consulted is not, and where denial
 -- decides the type is not
 ended-needs : told (map (λ t. ended t Outcome.OnlineRequest 0x80 []) (0xDF8121 ∷ 0x9F35 ∷ 0xDF8120 ∷ [])
     ++ (ended 0x9F35 Outcome.Declined 0x00 ((0x9F0E, usual) ∷ []) ∷ []))
-    ≡ refused ∷ refused ∷ choiceWord Stage.Online Holder.Card 0 ∷ choiceWord Stage.Denial Holder.Card 0 ∷ []
-unfolding explainedEndBy explainedEnd cryptogramRank cryptogramOutcome stageIn decidingIn bitHolder actionCodesOfStage explainedAt numberedBit firstBytes stageHoldsBit lowestFrom lowestBit iacCode stageHolds onlineCapabilityAt choiceOf actionCodesOf choiceFor
-    fitAlong rowPlaceFits fitsRow digitsFit numeric compressed digitsThenFs nibbles putRow rowNumberOf objectValueIn rowValue rowPlace placeValue rowOffset findRow rowPast dictionaryRows
-    endedRanges reasonMatchesOutcome every both either if
+    ≡ refused ∷ refused ∷ explainedChoiceWord Stage.Online ActionCodeHolder.Card 0 ∷ explainedChoiceWord Stage.Denial ActionCodeHolder.Card 0 ∷ []
+unfolding explanationOfEndingByMode explanationOfEnding rankOfCryptogramType outcomeForCryptogramType decidingStageIn decidingStageIfItsDataPresent actionCodeHolderOfBit actionCodesOfStage explanationAtStage hasBitCountedFromZeroAtByte1B8 firstBytesZeroPadded tvrBitIsInEitherActionCode lowestBitFrom lowestTvrBitInCodes iacOrDefault someTvrBitInCodesOfStage onlineCapabilityByDigit terminalActionAnalysis actionCodesOf choiceForTvr
+    fitAlong placeLengthAndValueFitRow lengthAndDigitsFitRow digitsMatchForm isNumeric isCompressedNumeric isDigitsThenFs nibbles putRow rowNumberOfTagOrZero objectValueIn rowValue rowPlaceBytes valueInPlace rowOffset findRow rowFoundShifted dictionaryRows
+    inEndedRanges reasonMatchesOutcome every both either if
 ended-needs = told-along _ _ refl
 
 -- ---- no choice, a reason
@@ -178,15 +178,15 @@ inPhase p n objects = sessionOf p n (without 0 objects)
 
 before-choice : told (inPhase Phase.Fresh 0 [] ∷ inPhase (Phase.Waiting AwaitedResponse.Gpo) 1 (started 0x22 zero5)
     ∷ inPhase (Phase.Waiting (AwaitedResponse.Record (record { number = 1; limit = 10000 }))) 2 (opened 0x22 zero5) ∷ []) ≡ replicate 3 noChoice
-unfolding fitAlong rowPlaceFits fitsRow digitsFit numeric nibbles putRow rowNumberOf objectValueIn rowValue rowPlace placeValue rowOffset findRow rowPast dictionaryRows
-    freshRanges gpoRanges recordRanges transactionLimit hasOnDeviceCvm onDeviceCvm amountOf bcdFrom firstBytes numberedBit runningRanges allRequiredPresent isPresentIfRequired lastResponseAbsent listedTerminalType acceptsAfl wholeEntries aflEntries validEntry sumOverEntries every both either if
+unfolding fitAlong placeLengthAndValueFitRow lengthAndDigitsFitRow digitsMatchForm isNumeric nibbles putRow rowNumberOfTagOrZero objectValueIn rowValue rowPlaceBytes valueInPlace rowOffset findRow rowFoundShifted dictionaryRows
+    inFreshRanges inGpoRanges inRecordRanges transactionLimit cardAndKernelSupportOnDeviceCvm aipAndConfigurationSupportOnDeviceCvm amountOf appendDecimalDigits firstBytesZeroPadded hasBitCountedFromZeroAtByte1B8 inRunningRanges allRequiredAtStartPresent isPresentIfRequiredAtStart lastResponseObjectsAbsent listedTerminalType acceptsAfl aflLengthIsMultipleOf4 aflEntries validEntry sumOverEntries every both either if
 before-choice = told-along _ _ refl
 
 -- 6 goes with select next alone
 with-reason : told (inPhase (Phase.Ended (endingOf Outcome.SelectNext 6)) 3 [] ∷ inPhase (Phase.Ended (endingOf Outcome.Ended 8)) 4 []
     ∷ inPhase (Phase.Ended (endingOf Outcome.Ended 9)) 1 [] ∷ inPhase (Phase.Ended (endingOf Outcome.Ended 6)) 3 [] ∷ [])
     ≡ map (λ n. explanationWord (Explanation.Reason n)) (6 ∷ 8 ∷ 9 ∷ []) ++ (refused ∷ [])
-unfolding explainedEndBy explainedEnd fitAlong rowPlaceFits objectValueIn rowValue rowPlace placeValue rowOffset findRow rowPast dictionaryRows endedRanges reasonMatchesOutcome every both either if
+unfolding explanationOfEndingByMode explanationOfEnding fitAlong placeLengthAndValueFitRow objectValueIn rowValue rowPlaceBytes valueInPlace rowOffset findRow rowFoundShifted dictionaryRows inEndedRanges reasonMatchesOutcome every both either if
 with-reason = told-along _ _ refl
 
 -- in mag-stripe mode: every outcome of reason 0, whatever else is stored; a reason is reported; without 82, and with
@@ -204,7 +204,7 @@ in-mag-stripe-mode :
     ∷ endedWith Outcome.OnlineRequest 0 ((0x82, 0x00 ∷ 0x80 ∷ []) ∷ started 0x22 zero5)
     ∷ [])
     ≡ noChoice ∷ noChoice ∷ noChoice ∷ explanationWord (Explanation.Reason 4) ∷ refused ∷ refused ∷ []
-unfolding explainedEndBy explainedEnd cryptogramRank cryptogramOutcome stageIn decidingIn bitHolder actionCodesOfStage explainedAt numberedBit firstBytes stageHoldsBit lowestFrom lowestBit iacCode stageHolds onlineCapabilityAt choiceOf actionCodesOf choiceFor
-    fitAlong rowPlaceFits fitsRow digitsFit numeric compressed digitsThenFs nibbles putRow rowNumberOf objectValueIn rowValue rowPlace placeValue rowOffset findRow rowPast dictionaryRows
-    endedRanges reasonMatchesOutcome every both either if
+unfolding explanationOfEndingByMode explanationOfEnding rankOfCryptogramType outcomeForCryptogramType decidingStageIn decidingStageIfItsDataPresent actionCodeHolderOfBit actionCodesOfStage explanationAtStage hasBitCountedFromZeroAtByte1B8 firstBytesZeroPadded tvrBitIsInEitherActionCode lowestBitFrom lowestTvrBitInCodes iacOrDefault someTvrBitInCodesOfStage onlineCapabilityByDigit terminalActionAnalysis actionCodesOf choiceForTvr
+    fitAlong placeLengthAndValueFitRow lengthAndDigitsFitRow digitsMatchForm isNumeric isCompressedNumeric isDigitsThenFs nibbles putRow rowNumberOfTagOrZero objectValueIn rowValue rowPlaceBytes valueInPlace rowOffset findRow rowFoundShifted dictionaryRows
+    inEndedRanges reasonMatchesOutcome every both either if
 in-mag-stripe-mode = told-along _ _ refl

@@ -17,9 +17,9 @@ use Rattle.basics.specs.Choice.{if, both, either, every}
 use Rattle.basics.specs.Reason.{reasonNone}
 use Rattle.basics.proofs.Laws.{bool-cases, if-ind, if-yes, if-no, both-yes, both-left, both-right, both-no-left, both-no-right, both-assoc, either-no}
 use Rattle.store.specs.Held.{hasObject, lacksObject, storedBytes}
-use Rattle.analysis.specs.Bits.{numberedBit, valueHasBit}
-use Rattle.analysis.specs.Choice.{zeroCode, stageHoldsBit, lowestBit, someBit, stageHolds, denialStage, onlineStage, defaultStage, onlineCapabilityOf, choiceBy, choiceOf, generateAcP1}
-use Rattle.analysis.specs.Action.{terminalType, actionCodesOf, choiceFor}
+use Rattle.analysis.specs.Bits.{hasBitCountedFromZeroAtByte1B8, valueHasBit}
+use Rattle.analysis.specs.Choice.{allZerosActionCode, tvrBitIsInEitherActionCode, lowestTvrBitInCodes, isSomeBit, someTvrBitInCodesOfStage, denialStage, onlineStage, defaultStage, onlineCapabilityOfType, choiceByStages, terminalActionAnalysis, generateAcP1}
+use Rattle.analysis.specs.Action.{terminalType, actionCodesOf, choiceForTvr}
 use Rattle.analysis.specs.declared.choice.OnlineCapability.{OnlineCapability}
 use Rattle.analysis.specs.declared.choice.Choice.{Choice}
 use Rattle.analysis.specs.declared.choice.LowestBit.{LowestBit}
@@ -34,56 +34,56 @@ use Rattle.session_record.specs.declared.Phase.{Phase}
 use Rattle.session_record.specs.declared.Session.{Session}
 use Rattle.session_record.specs.Numbers.{outcomeNumber}
 use Rattle.session_record.specs.Session.{storeBytes}
-use Rattle.session_record.specs.Ranges.{magStripeMode, inRanges}
-use Rattle.session.specs.Answer.{cryptogramOutcome}
+use Rattle.session_record.specs.Ranges.{magStripeMode, sessionRecordInRanges}
+use Rattle.session.specs.Answer.{outcomeForCryptogramType}
 use Rattle.explain.specs.declared.Stage.{Stage}
-use Rattle.explain.specs.declared.Deciding.{Deciding}
-use Rattle.explain.specs.declared.Cause.{Cause}
+use Rattle.explain.specs.declared.DecidingStage.{DecidingStage}
+use Rattle.explain.specs.declared.ForcedChoiceCause.{ForcedChoiceCause}
 use Rattle.explain.specs.declared.Explanation.{Explanation}
-use Rattle.explain.specs.Explain.{storedTvr, storedChoice, stageBy, stageIn, stageNeeds, stageIfComplete, decidingIn, bitHolder, actionCodesOfStage, explainedByBit, explainedAt, explainedWaiting, cryptogramRank, storedCryptogramType, requestedType, decidesOutcome, explainedDecision, explainedEnd, cardAsksMagStripe, explainedEndBy, explainedAwaiting, explainedInPhase, explanationOf}
-use Rattle.explain.specs.Promise.{choiceForcedBy, choiceUnforcedAt, BitNamed, NoBitNamed, LowerType, DecisionIs, ExplanationHolds}
+use Rattle.explain.specs.Explain.{storedTvr, recomputedChoice, decidingStageByDenialBit, decidingStageIn, tagsNeededByStage, stageIfItsDataPresent, decidingStageIfItsDataPresent, actionCodeHolderOfBit, actionCodesOfStage, explanationByBit, explanationAtStage, explanationAwaitingCryptogram, rankOfCryptogramType, storedCryptogramType, requestedCryptogramType, isDecisionOutcome, explanationOfDecision, explanationOfEnding, aipIndicatesMagStripe, explanationOfEndingByMode, explanationWhileAwaiting, explanationInPhase, explanationOf}
+use Rattle.explain.specs.Promise.{choiceForcedBy, choiceUnforcedAt, ForcedChoiceExplained, UnforcedChoiceExplained, CryptogramLowerThanRequested, StoredCryptogramDecidesOutcome, ExplanationHolds}
 
 -- ---- the stage that decided
 
 module _ (b : List ℕ) where
-  pub deciding-nothing : stageIn b ≡ Deciding.Nothing → decidingIn b ≡ Deciding.Nothing
-  unfolding decidingIn
-  deciding-nothing e = ap (stageIfComplete b) e
+  pub deciding-nothing : decidingStageIn b ≡ DecidingStage.Nothing → decidingStageIfItsDataPresent b ≡ DecidingStage.Nothing
+  unfolding decidingStageIfItsDataPresent
+  deciding-nothing e = ap (stageIfItsDataPresent b) e
 
-  module _ (stage : Stage) (e : stageIn b ≡ Deciding.At stage) where
-    pub deciding-lacks : every (hasObject b) (stageNeeds stage) ≡ false → decidingIn b ≡ Deciding.Nothing
-    unfolding decidingIn
-    deciding-lacks n = ap (stageIfComplete b) e ∙ if-no _ _ n
+  module _ (stage : Stage) (e : decidingStageIn b ≡ DecidingStage.At stage) where
+    pub deciding-lacks : every (hasObject b) (tagsNeededByStage stage) ≡ false → decidingStageIfItsDataPresent b ≡ DecidingStage.Nothing
+    unfolding decidingStageIfItsDataPresent
+    deciding-lacks n = ap (stageIfItsDataPresent b) e ∙ if-no _ _ n
 
-    pub deciding-at : every (hasObject b) (stageNeeds stage) ≡ true → decidingIn b ≡ Deciding.At stage
-    unfolding decidingIn
-    deciding-at n = ap (stageIfComplete b) e ∙ if-yes _ _ n
+    pub deciding-at : every (hasObject b) (tagsNeededByStage stage) ≡ true → decidingStageIfItsDataPresent b ≡ DecidingStage.At stage
+    unfolding decidingStageIfItsDataPresent
+    deciding-at n = ap (stageIfItsDataPresent b) e ∙ if-yes _ _ n
 
   -- a stage that decided is the one that the type and the denial codes determine
-  pub deciding-stage : (stage : Stage) → decidingIn b ≡ Deciding.At stage → stageIn b ≡ Deciding.At stage
-  unfolding decidingIn
-  deciding-stage stage e = go (stageIn b) e
+  pub deciding-stage : (stage : Stage) → decidingStageIfItsDataPresent b ≡ DecidingStage.At stage → decidingStageIn b ≡ DecidingStage.At stage
+  unfolding decidingStageIfItsDataPresent
+  deciding-stage stage e = go (decidingStageIn b) e
     where
-      go : (d : Deciding) → stageIfComplete b d ≡ Deciding.At stage → d ≡ Deciding.At stage
-      go Deciding.Nothing = λ e. e
-      go (Deciding.At g) = if-ind (λ (d : Deciding). d ≡ Deciding.At stage → Deciding.At g ≡ Deciding.At stage) _ _ _ (λ t e. e) (λ t e. cc)
+      go : (d : DecidingStage) → stageIfItsDataPresent b d ≡ DecidingStage.At stage → d ≡ DecidingStage.At stage
+      go DecidingStage.Nothing = λ e. e
+      go (DecidingStage.At g) = if-ind (λ (d : DecidingStage). d ≡ DecidingStage.At stage → DecidingStage.At g ≡ DecidingStage.At stage) _ _ _ (λ t e. e) (λ t e. cc)
 
 -- the code asks the denial codes first, and then the type
-module _ (b : List ℕ) {l : LowestBit} {result : List ℕ} {pair : ActionCodes} (f : l ≡ lowestBit result pair) (r : result ≡ storedTvr b) where
+module _ (b : List ℕ) {l : LowestBit} {result : List ℕ} {pair : ActionCodes} (f : l ≡ lowestTvrBitInCodes result pair) (r : result ≡ storedTvr b) where
   -- the lowest bit that was found is the stage's
-  pub found-at : (stage : Stage) {m : LowestBit} → pair ≡ actionCodesOfStage b stage → l ≡ m → lowestBit (storedTvr b) (actionCodesOfStage b stage) ≡ m
-  found-at stage p e = ap₂ lowestBit (sym r) (sym p) ∙ sym f ∙ e
+  pub found-at : (stage : Stage) {m : LowestBit} → pair ≡ actionCodesOfStage b stage → l ≡ m → lowestTvrBitInCodes (storedTvr b) (actionCodesOfStage b stage) ≡ m
+  found-at stage p e = ap₂ lowestTvrBitInCodes (sym r) (sym p) ∙ sym f ∙ e
 
   module _ (p : pair ≡ actionCodesOfStage b Stage.Denial) where
-    pub stage-denial : {i : ℕ} → l ≡ LowestBit.Bit i → stageIn b ≡ Deciding.At Stage.Denial
-    unfolding stageIn stageHolds actionCodesOfStage
-    stage-denial e = ap (λ (m : LowestBit). stageBy (onlineCapabilityOf (terminalType b)) (someBit m)) (found-at Stage.Denial p e)
+    pub stage-denial : {i : ℕ} → l ≡ LowestBit.Bit i → decidingStageIn b ≡ DecidingStage.At Stage.Denial
+    unfolding decidingStageIn someTvrBitInCodesOfStage actionCodesOfStage
+    stage-denial e = ap (λ (m : LowestBit). decidingStageByDenialBit (onlineCapabilityOfType (terminalType b)) (isSomeBit m)) (found-at Stage.Denial p e)
 
-    pub stage-type : {x : OnlineCapability} → l ≡ LowestBit.NoBit → onlineCapabilityOf (terminalType b) ≡ x → stageIn b ≡ stageBy x false
-    unfolding stageIn stageHolds actionCodesOfStage
-    stage-type e c = ap₂ (λ (m : LowestBit) (x : OnlineCapability). stageBy x (someBit m)) (found-at Stage.Denial p e) c
+    pub stage-type : {x : OnlineCapability} → l ≡ LowestBit.NoBit → onlineCapabilityOfType (terminalType b) ≡ x → decidingStageIn b ≡ decidingStageByDenialBit x false
+    unfolding decidingStageIn someTvrBitInCodesOfStage actionCodesOfStage
+    stage-type e c = ap₂ (λ (m : LowestBit) (x : OnlineCapability). decidingStageByDenialBit x (isSomeBit m)) (found-at Stage.Denial p e) c
 
-pub bit-within : (result : List ℕ) (pair : ActionCodes) {l : LowestBit} {i : ℕ} → l ≡ lowestBit result pair → l ≡ LowestBit.Bit i → i < 40
+pub bit-within : (result : List ℕ) (pair : ActionCodes) {l : LowestBit} {i : ℕ} → l ≡ lowestTvrBitInCodes result pair → l ≡ LowestBit.Bit i → i < 40
 bit-within result pair {l} {i} f e = omega (arith, lowest-held result pair i (sym f ∙ e) .within)
 
 -- one object
@@ -105,7 +105,7 @@ abbrev choiceAt : Stage → Bool → Choice
 choiceAt stage true  = choiceForcedBy stage
 choiceAt stage false = choiceUnforcedAt stage
 
-by-stage : (r : OnlineCapability) (h o d : Bool) (stage : Stage) → stageBy r h ≡ Deciding.At stage → choiceBy r h o d ≡ choiceAt stage (heldHere stage h o d)
+by-stage : (r : OnlineCapability) (h o d : Bool) (stage : Stage) → decidingStageByDenialBit r h ≡ DecidingStage.At stage → choiceByStages r h o d ≡ choiceAt stage (heldHere stage h o d)
 by-stage r true o d stage e = let z : Stage.Denial ≡ stage = cc in ap (λ (g : Stage). choiceAt g (heldHere g true o d)) z
 by-stage OnlineCapability.OnlineOnly false o d stage e = let z : Stage.OnlineOnly ≡ stage = cc in ap (λ (g : Stage). choiceAt g (heldHere g false o d)) z
 by-stage OnlineCapability.OnlineCapable false true d stage e = let z : Stage.Online ≡ stage = cc in ap (λ (g : Stage). choiceAt g (heldHere g false true d)) z
@@ -115,7 +115,7 @@ by-stage OnlineCapability.OfflineOnly false o false stage e = let z : Stage.Defa
 by-stage OnlineCapability.Unlisted false o d stage e = let z : _≡_ {A = ℕ} 0 1 = cc in absurd (omega arith)
 
 -- codes of zeros hold no bit
-zero-at : (i : ℕ) → getD zeroCode i 0 ≡ 0
+zero-at : (i : ℕ) → getD allZerosActionCode i 0 ≡ 0
 zero-at zero = refl
 zero-at (suc zero) = refl
 zero-at (suc (suc zero)) = refl
@@ -123,39 +123,39 @@ zero-at (suc (suc (suc zero))) = refl
 zero-at (suc (suc (suc (suc zero)))) = refl
 zero-at (suc (suc (suc (suc (suc i))))) = refl
 
-zero-bit : (i : ℕ) → numberedBit zeroCode i ≡ false
-unfolding numberedBit
+zero-bit : (i : ℕ) → hasBitCountedFromZeroAtByte1B8 allZerosActionCode i ≡ false
+unfolding hasBitCountedFromZeroAtByte1B8
 zero-bit i = simp (zero-at, zero-div)
 
-zeros-clear : (result : List ℕ) (i : ℕ) → stageHoldsBit result (record { card = zeroCode; terminal = zeroCode }) i ≡ false
-unfolding stageHoldsBit
+zeros-clear : (result : List ℕ) (i : ℕ) → tvrBitIsInEitherActionCode result (record { card = allZerosActionCode; terminal = allZerosActionCode }) i ≡ false
+unfolding tvrBitIsInEitherActionCode
 zeros-clear result i = both-no-right _ _ (either-no _ _ (zero-bit i) (zero-bit i))
 
 module _ (b : List ℕ) where
   -- the stage's codes hold a bit
   heldIn : Stage → Bool
-  heldIn stage = someBit (lowestBit (storedTvr b) (actionCodesOfStage b stage))
+  heldIn stage = isSomeBit (lowestTvrBitInCodes (storedTvr b) (actionCodesOfStage b stage))
 
-  held-here : (stage : Stage) → heldHere stage (stageHolds (storedTvr b) (actionCodesOf b) denialStage) (stageHolds (storedTvr b) (actionCodesOf b) onlineStage) (stageHolds (storedTvr b) (actionCodesOf b) defaultStage)
+  held-here : (stage : Stage) → heldHere stage (someTvrBitInCodesOfStage (storedTvr b) (actionCodesOf b) denialStage) (someTvrBitInCodesOfStage (storedTvr b) (actionCodesOf b) onlineStage) (someTvrBitInCodesOfStage (storedTvr b) (actionCodesOf b) defaultStage)
       ≡ heldIn stage
-  unfolding stageHolds actionCodesOfStage heldIn
+  unfolding someTvrBitInCodesOfStage actionCodesOfStage heldIn
   held-here Stage.Denial = refl
-  held-here Stage.OnlineOnly = sym (ap someBit (all-clear (storedTvr b) _ (λ m h. zeros-clear (storedTvr b) m)))
+  held-here Stage.OnlineOnly = sym (ap isSomeBit (all-clear (storedTvr b) _ (λ m h. zeros-clear (storedTvr b) m)))
   held-here Stage.Default = refl
   held-here Stage.Online = refl
 
   -- so a stage with a bit gives exactly its choice
-  stage-choice : (stage : Stage) → decidingIn b ≡ Deciding.At stage → storedChoice b ≡ choiceAt stage (heldIn stage)
-  unfolding choiceFor choiceOf stageIn
+  stage-choice : (stage : Stage) → decidingStageIfItsDataPresent b ≡ DecidingStage.At stage → recomputedChoice b ≡ choiceAt stage (heldIn stage)
+  unfolding choiceForTvr terminalActionAnalysis decidingStageIn
   stage-choice stage e = by-stage _ _ _ _ stage (deciding-stage b stage e) ∙ ap (choiceAt stage) (held-here stage)
 
 -- ---- what a stage reports
 
 -- what is promised of every explanation of a store
 pub record Right (b : List ℕ) (r : Explanation) : Type 0 where
-  pub named : (c : Cause) → r ≡ Explanation.Forced c → BitNamed b c
-  pub unnamed : (stage : Stage) → r ≡ Explanation.Unforced stage → NoBitNamed b stage
-  pub lower : r ≡ Explanation.LowerCryptogram → LowerType b
+  pub named : (c : ForcedChoiceCause) → r ≡ Explanation.Forced c → ForcedChoiceExplained b c
+  pub unnamed : (stage : Stage) → r ≡ Explanation.Unforced stage → UnforcedChoiceExplained b stage
+  pub lower : r ≡ Explanation.LowerCryptogram → CryptogramLowerThanRequested b
 
 -- one that names nothing
 abbrev Plain : Explanation → Type 0
@@ -175,10 +175,10 @@ plain b r p =
     }
 
 -- the lowest bit that the stage that decided holds, or that it holds none
-module _ (b : List ℕ) (stage : Stage) (e : decidingIn b ≡ Deciding.At stage) where
-  found-right : (i : ℕ) → lowestBit (storedTvr b) (actionCodesOfStage b stage) ≡ LowestBit.Bit i
-      → BitNamed b (record { stage = stage; bit = i; holder = bitHolder (actionCodesOfStage b stage) i })
-  unfolding stageHoldsBit heldIn
+module _ (b : List ℕ) (stage : Stage) (e : decidingStageIfItsDataPresent b ≡ DecidingStage.At stage) where
+  found-right : (i : ℕ) → lowestTvrBitInCodes (storedTvr b) (actionCodesOfStage b stage) ≡ LowestBit.Bit i
+      → ForcedChoiceExplained b (record { stage = stage; bit = i; holder = actionCodeHolderOfBit (actionCodesOfStage b stage) i })
+  unfolding tvrBitIsInEitherActionCode heldIn
   found-right i f =
       let k = lowest-held (storedTvr b) (actionCodesOfStage b stage) i f in
       record {
@@ -188,40 +188,40 @@ module _ (b : List ℕ) (stage : Stage) (e : decidingIn b ≡ Deciding.At stage)
         held = both-right _ _ (k .passes);
         lowest = λ m h. k .below m (omega arith) h;
         holder = refl;
-        choice = stage-choice b stage e ∙ ap (λ (l : LowestBit). choiceAt stage (someBit l)) f;
+        choice = stage-choice b stage e ∙ ap (λ (l : LowestBit). choiceAt stage (isSomeBit l)) f;
       }
 
-  none-right : lowestBit (storedTvr b) (actionCodesOfStage b stage) ≡ LowestBit.NoBit → NoBitNamed b stage
+  none-right : lowestTvrBitInCodes (storedTvr b) (actionCodesOfStage b stage) ≡ LowestBit.NoBit → UnforcedChoiceExplained b stage
   unfolding heldIn
   none-right f =
       record {
         decides = e;
         none = none-held (storedTvr b) (actionCodesOfStage b stage) f;
-        choice = stage-choice b stage e ∙ ap (λ (l : LowestBit). choiceAt stage (someBit l)) f;
+        choice = stage-choice b stage e ∙ ap (λ (l : LowestBit). choiceAt stage (isSomeBit l)) f;
       }
 
-  reason-right : Right b (explainedAt b stage)
-  unfolding explainedAt
-  reason-right = go (lowestBit (storedTvr b) (actionCodesOfStage b stage)) refl
+  reason-right : Right b (explanationAtStage b stage)
+  unfolding explanationAtStage
+  reason-right = go (lowestTvrBitInCodes (storedTvr b) (actionCodesOfStage b stage)) refl
     where
-      go : (l : LowestBit) → lowestBit (storedTvr b) (actionCodesOfStage b stage) ≡ l → Right b (explainedByBit stage (actionCodesOfStage b stage) l)
+      go : (l : LowestBit) → lowestTvrBitInCodes (storedTvr b) (actionCodesOfStage b stage) ≡ l → Right b (explanationByBit stage (actionCodesOfStage b stage) l)
       go (LowestBit.Bit i) f =
           record {
-            named = λ c h. (let z : record { stage = stage; bit = i; holder = bitHolder (actionCodesOfStage b stage) i } ≡ c = cc in subst (BitNamed b) z (found-right i f));
+            named = λ c h. (let z : record { stage = stage; bit = i; holder = actionCodeHolderOfBit (actionCodesOfStage b stage) i } ≡ c = cc in subst (ForcedChoiceExplained b) z (found-right i f));
             unnamed = λ g h. (let z : _≡_ {A = ℕ} 0 1 = cc in absurd (omega arith));
             lower = λ h. (let z : _≡_ {A = ℕ} 0 1 = cc in absurd (omega arith));
           }
       go LowestBit.NoBit f =
           record {
             named = λ c h. (let z : _≡_ {A = ℕ} 0 1 = cc in absurd (omega arith));
-            unnamed = λ g h. (let z : stage ≡ g = cc in subst (NoBitNamed b) z (none-right f));
+            unnamed = λ g h. (let z : stage ≡ g = cc in subst (UnforcedChoiceExplained b) z (none-right f));
             lower = λ h. (let z : _≡_ {A = ℕ} 0 1 = cc in absurd (omega arith));
           }
 
 -- ---- by phase
 
 module _ (b : List ℕ) where
-  lower-right : LowerType b → Right b Explanation.LowerCryptogram
+  lower-right : CryptogramLowerThanRequested b → Right b Explanation.LowerCryptogram
   lower-right h =
       record {
         named = λ c e. (let z : _≡_ {A = ℕ} 0 1 = cc in absurd (omega arith));
@@ -229,76 +229,76 @@ module _ (b : List ℕ) where
         lower = λ e. h;
       }
 
-  waiting-right : (a : RequestedCryptogram) (d : Deciding) → decidingIn b ≡ d → Right b (explainedWaiting a b d)
-  waiting-right a Deciding.Nothing e = plain b _ tt
-  waiting-right a (Deciding.At g) e = if-ind (Right b) _ _ _ (λ t. reason-right b g e) (λ t. plain b _ tt)
+  waiting-right : (a : RequestedCryptogram) (d : DecidingStage) → decidingStageIfItsDataPresent b ≡ d → Right b (explanationAwaitingCryptogram a b d)
+  waiting-right a DecidingStage.Nothing e = plain b _ tt
+  waiting-right a (DecidingStage.At g) e = if-ind (Right b) _ _ _ (λ t. reason-right b g e) (λ t. plain b _ tt)
 
-  decided-right : (x : Ending) (d : Deciding) → decidingIn b ≡ d → Right b (explainedDecision x b d)
-  decided-right x Deciding.Nothing e = plain b _ tt
-  decided-right x (Deciding.At g) e =
+  decided-right : (x : Ending) (d : DecidingStage) → decidingStageIfItsDataPresent b ≡ d → Right b (explanationOfDecision x b d)
+  decided-right x DecidingStage.Nothing e = plain b _ tt
+  decided-right x (DecidingStage.At g) e =
       if-ind (Right b) _ _ _ (λ t. plain b _ tt)
       (λ t. if-ind (Right b) _ _ _ (λ u. plain b _ tt)
       (λ u. if-ind (Right b) _ _ _ (λ v. lower-right (ltb-true _ _ v)) (λ v. reason-right b g e)))
 
-  awaiting-right : (w : AwaitedResponse) → Right b (explainedAwaiting w b)
+  awaiting-right : (w : AwaitedResponse) → Right b (explanationWhileAwaiting w b)
   awaiting-right AwaitedResponse.Gpo = plain b _ tt
   awaiting-right (AwaitedResponse.Record p) = plain b _ tt
-  awaiting-right (AwaitedResponse.Cryptogram a) = waiting-right a (decidingIn b) refl
+  awaiting-right (AwaitedResponse.Cryptogram a) = waiting-right a (decidingStageIfItsDataPresent b) refl
   awaiting-right (AwaitedResponse.Checksum k) = plain b _ tt
 
-  phase-right : (p : Phase) → Right b (explainedInPhase p b)
-  unfolding explainedEnd explainedEndBy
+  phase-right : (p : Phase) → Right b (explanationInPhase p b)
+  unfolding explanationOfEnding explanationOfEndingByMode
   phase-right Phase.Fresh = plain b _ tt
   phase-right (Phase.Waiting w) = awaiting-right w
   phase-right (Phase.Ended x) =
-      if-ind (Right b) _ _ _ (λ u. plain b _ tt) (λ u. if-ind (Right b) _ _ _ (λ t. decided-right x (decidingIn b) refl) (λ t. plain b _ tt))
+      if-ind (Right b) _ _ _ (λ u. plain b _ tt) (λ u. if-ind (Right b) _ _ _ (λ t. decided-right x (decidingStageIfItsDataPresent b) refl) (λ t. plain b _ tt))
 
 -- ---- ended, as the code comes to it
 
 module _ (x : Ending) (b : List ℕ) where
-  pub ended-reason : (x .reason ≡ reasonNone → ⊥) → explainedEnd x b ≡ Explanation.Reason (x .reason)
-  unfolding explainedEnd
+  pub ended-reason : (x .reason ≡ reasonNone → ⊥) → explanationOfEnding x b ≡ Explanation.Reason (x .reason)
+  unfolding explanationOfEnding
   ended-reason n = if-no _ _ (ne-eqb _ _ n)
 
   module _ (z : x .reason ≡ reasonNone) where
-    decided : {d : Deciding} → decidingIn b ≡ d → explainedEnd x b ≡ explainedDecision x b d
-    unfolding explainedEnd
-    decided e = if-yes _ _ (eq-eqb _ _ z) ∙ ap (explainedDecision x b) e
+    decided : {d : DecidingStage} → decidingStageIfItsDataPresent b ≡ d → explanationOfEnding x b ≡ explanationOfDecision x b d
+    unfolding explanationOfEnding
+    decided e = if-yes _ _ (eq-eqb _ _ z) ∙ ap (explanationOfDecision x b) e
 
-    pub ended-nothing : decidingIn b ≡ Deciding.Nothing → explainedEnd x b ≡ Explanation.Refused
+    pub ended-nothing : decidingStageIfItsDataPresent b ≡ DecidingStage.Nothing → explanationOfEnding x b ≡ Explanation.Refused
     ended-nothing e = decided e
 
-    module _ (stage : Stage) (e : decidingIn b ≡ Deciding.At stage) where
-      pub ended-lacks : hasObject b 0x9F27 ≡ false → explainedEnd x b ≡ Explanation.Refused
+    module _ (stage : Stage) (e : decidingStageIfItsDataPresent b ≡ DecidingStage.At stage) where
+      pub ended-lacks : hasObject b 0x9F27 ≡ false → explanationOfEnding x b ≡ Explanation.Refused
       ended-lacks h = decided e ∙ if-yes _ _ (ap not h)
 
       module _ (h : hasObject b 0x9F27 ≡ true) where
-        pub ended-other : decidesOutcome (cryptogramOutcome (storedChoice b) (storedCryptogramType b)) (x .outcome) ≡ false → explainedEnd x b ≡ Explanation.Refused
+        pub ended-other : isDecisionOutcome (outcomeForCryptogramType (recomputedChoice b) (storedCryptogramType b)) (x .outcome) ≡ false → explanationOfEnding x b ≡ Explanation.Refused
         ended-other g = decided e ∙ if-no _ _ (ap not h) ∙ if-yes _ _ (ap not g)
 
-        module _ (g : decidesOutcome (cryptogramOutcome (storedChoice b) (storedCryptogramType b)) (x .outcome) ≡ true) where
-          pub ended-lower : LowerType b → explainedEnd x b ≡ Explanation.LowerCryptogram
+        module _ (g : isDecisionOutcome (outcomeForCryptogramType (recomputedChoice b) (storedCryptogramType b)) (x .outcome) ≡ true) where
+          pub ended-lower : CryptogramLowerThanRequested b → explanationOfEnding x b ≡ Explanation.LowerCryptogram
           ended-lower k = decided e ∙ if-no _ _ (ap not h) ∙ if-no _ _ (ap not g) ∙ if-yes _ _ (lt-ltb _ _ k)
 
-          pub ended-stage : cryptogramRank (requestedType (storedChoice b)) ≤ cryptogramRank (storedCryptogramType b) → explainedEnd x b ≡ explainedAt b stage
+          pub ended-stage : rankOfCryptogramType (requestedCryptogramType (recomputedChoice b)) ≤ rankOfCryptogramType (storedCryptogramType b) → explanationOfEnding x b ≡ explanationAtStage b stage
           ended-stage k = decided e ∙ if-no _ _ (ap not h) ∙ if-no _ _ (ap not g) ∙ if-no _ _ (le-ltb _ _ k)
 
 -- record's mag-stripe mode: the card requests it, and the terminal's configuration does not say that it is off
-pub mag-stripe-mode-is : (b : List ℕ) → magStripeMode b ≡ both (cardAsksMagStripe b) (not (valueHasBit (storedBytes b 0xDF811B) 1 8))
+pub mag-stripe-mode-is : (b : List ℕ) → magStripeMode b ≡ both (aipIndicatesMagStripe b) (not (valueHasBit (storedBytes b 0xDF811B) 1 8))
 mag-stripe-mode-is b = both-assoc _ _ _
 
 -- ended, by the mode
 module _ (x : Ending) (b : List ℕ) where
-  pub by-reason : (x .reason ≡ reasonNone → ⊥) → explainedEndBy x b ≡ explainedEnd x b
-  unfolding explainedEndBy
+  pub by-reason : (x .reason ≡ reasonNone → ⊥) → explanationOfEndingByMode x b ≡ explanationOfEnding x b
+  unfolding explanationOfEndingByMode
   by-reason n = if-no _ _ (both-no-left _ _ (ne-eqb _ _ n))
 
-  pub by-mag-stripe : x .reason ≡ reasonNone → cardAsksMagStripe b ≡ true → explainedEndBy x b ≡ Explanation.NoChoice
-  unfolding explainedEndBy
+  pub by-mag-stripe : x .reason ≡ reasonNone → aipIndicatesMagStripe b ≡ true → explanationOfEndingByMode x b ≡ Explanation.NoChoice
+  unfolding explanationOfEndingByMode
   by-mag-stripe z e = if-yes _ _ (both-yes _ _ (eq-eqb _ _ z) e)
 
-  pub by-choice : cardAsksMagStripe b ≡ false → explainedEndBy x b ≡ explainedEnd x b
-  unfolding explainedEndBy
+  pub by-choice : aipIndicatesMagStripe b ≡ false → explanationOfEndingByMode x b ≡ explanationOfEnding x b
+  unfolding explanationOfEndingByMode
   by-choice e = if-no _ _ (both-no-right _ _ e)
 
 -- ---- the choice that is held, and the outcome
@@ -329,32 +329,32 @@ outcome-back Outcome.Declined = refl
 outcome-back Outcome.Ended = refl
 outcome-back Outcome.SelectNext = refl
 
-pub gives-it : (d : Option Outcome) (o : Outcome) → decidesOutcome d o ≡ true → d ≡ some o
+pub gives-it : (d : Option Outcome) (o : Outcome) → isDecisionOutcome d o ≡ true → d ≡ some o
 gives-it none o e = cc
 gives-it (some x) o e = ap some (sym (outcome-back x) ∙ ap outcomeOf (eqb-true (outcomeNumber x) (outcomeNumber o) e) ∙ outcome-back o)
 
 module _ (b : List ℕ) where
-  waiting-held : (a : RequestedCryptogram) (d : Deciding) → (explainedWaiting a b d ≡ Explanation.Refused → ⊥) → a .choice ≡ storedChoice b
-  waiting-held a Deciding.Nothing = λ n. absurd (n refl)
-  waiting-held a (Deciding.At g) =
-      if-ind (λ (r : Explanation). (r ≡ Explanation.Refused → ⊥) → a .choice ≡ storedChoice b) _ _ _
+  waiting-held : (a : RequestedCryptogram) (d : DecidingStage) → (explanationAwaitingCryptogram a b d ≡ Explanation.Refused → ⊥) → a .choice ≡ recomputedChoice b
+  waiting-held a DecidingStage.Nothing = λ n. absurd (n refl)
+  waiting-held a (DecidingStage.At g) =
+      if-ind (λ (r : Explanation). (r ≡ Explanation.Refused → ⊥) → a .choice ≡ recomputedChoice b) _ _ _
       (λ t n. same-p1 _ _ (eqb-true _ _ t)) (λ t n. absurd (n refl))
 
-  decided-given : (x : Ending) (d : Deciding) → (explainedDecision x b d ≡ Explanation.Refused → ⊥) → DecisionIs b (x .outcome)
-  decided-given x Deciding.Nothing = λ n. absurd (n refl)
-  decided-given x (Deciding.At g) =
+  decided-given : (x : Ending) (d : DecidingStage) → (explanationOfDecision x b d ≡ Explanation.Refused → ⊥) → StoredCryptogramDecidesOutcome b (x .outcome)
+  decided-given x DecidingStage.Nothing = λ n. absurd (n refl)
+  decided-given x (DecidingStage.At g) =
       if-ind P _ _ _ (λ t n. absurd (n refl))
       (λ t. if-ind P _ _ _ (λ u n. absurd (n refl)) (λ u n. gives-it _ _ (not-false _ u)))
     where
       P : Explanation → Type 0
-      P r = (r ≡ Explanation.Refused → ⊥) → DecisionIs b (x .outcome)
+      P r = (r ≡ Explanation.Refused → ⊥) → StoredCryptogramDecidesOutcome b (x .outcome)
 
-  ended-given : (x : Ending) → x .reason ≡ reasonNone → (explainedEnd x b ≡ Explanation.Refused → ⊥) → DecisionIs b (x .outcome)
-  unfolding explainedEnd
-  ended-given x e n = decided-given x (decidingIn b) (λ z. n (if-yes _ _ (eq-eqb _ _ e) ∙ z))
+  ended-given : (x : Ending) → x .reason ≡ reasonNone → (explanationOfEnding x b ≡ Explanation.Refused → ⊥) → StoredCryptogramDecidesOutcome b (x .outcome)
+  unfolding explanationOfEnding
+  ended-given x e n = decided-given x (decidingStageIfItsDataPresent b) (λ z. n (if-yes _ _ (eq-eqb _ _ e) ∙ z))
 
   -- outside mag-stripe mode
-  chosen-given : (x : Ending) → x .reason ≡ reasonNone → (explainedEndBy x b ≡ Explanation.Refused → ⊥) → cardAsksMagStripe b ≡ false → DecisionIs b (x .outcome)
+  chosen-given : (x : Ending) → x .reason ≡ reasonNone → (explanationOfEndingByMode x b ≡ Explanation.Refused → ⊥) → aipIndicatesMagStripe b ≡ false → StoredCryptogramDecidesOutcome b (x .outcome)
   chosen-given x e n m = ended-given x e (λ z. n (by-choice x b m ∙ z))
 
   -- a choice is reported
@@ -366,26 +366,26 @@ module _ (b : List ℕ) where
   Tells (Explanation.Forced c) = Unit {0}
   Tells (Explanation.Unforced g) = Unit {0}
 
-  reason-tells : (stage : Stage) → Tells (explainedAt b stage)
-  unfolding explainedAt
-  reason-tells stage = go (lowestBit (storedTvr b) (actionCodesOfStage b stage))
+  reason-tells : (stage : Stage) → Tells (explanationAtStage b stage)
+  unfolding explanationAtStage
+  reason-tells stage = go (lowestTvrBitInCodes (storedTvr b) (actionCodesOfStage b stage))
     where
-      go : (l : LowestBit) → Tells (explainedByBit stage (actionCodesOfStage b stage) l)
+      go : (l : LowestBit) → Tells (explanationByBit stage (actionCodesOfStage b stage) l)
       go (LowestBit.Bit i) = tt
       go LowestBit.NoBit = tt
 
-  decided-tells : (x : Ending) (d : Deciding) → Tells (explainedDecision x b d)
-  decided-tells x Deciding.Nothing = tt
-  decided-tells x (Deciding.At g) =
+  decided-tells : (x : Ending) (d : DecidingStage) → Tells (explanationOfDecision x b d)
+  decided-tells x DecidingStage.Nothing = tt
+  decided-tells x (DecidingStage.At g) =
       if-ind Tells _ _ _ (λ t. tt) (λ t. if-ind Tells _ _ _ (λ u. tt) (λ u. if-ind Tells _ _ _ (λ v. tt) (λ v. reason-tells g)))
 
-  ended-tells : (x : Ending) → Tells (explainedEnd x b)
-  unfolding explainedEnd
-  ended-tells x = if-ind Tells _ _ _ (λ t. decided-tells x (decidingIn b)) (λ t. tt)
+  ended-tells : (x : Ending) → Tells (explanationOfEnding x b)
+  unfolding explanationOfEnding
+  ended-tells x = if-ind Tells _ _ _ (λ t. decided-tells x (decidingStageIfItsDataPresent b)) (λ t. tt)
 
   -- so no choice is reported in mag-stripe mode alone
-  no-choice-mag-stripe : (x : Ending) → explainedEndBy x b ≡ Explanation.NoChoice → cardAsksMagStripe b ≡ true
-  no-choice-mag-stripe x e = elim (bool-cases (cardAsksMagStripe b)) [ inl y ↦ y | inr n ↦ absurd (subst Tells (sym (by-choice x b n) ∙ e) (ended-tells x)) ]
+  no-choice-mag-stripe : (x : Ending) → explanationOfEndingByMode x b ≡ Explanation.NoChoice → aipIndicatesMagStripe b ≡ true
+  no-choice-mag-stripe x e = elim (bool-cases (aipIndicatesMagStripe b)) [ inl y ↦ y | inr n ↦ absurd (subst Tells (sym (by-choice x b n) ∙ e) (ended-tells x)) ]
 
 -- ---- the promise
 
@@ -395,19 +395,19 @@ module _ (s : Session) where
   explained-right = if-ind (Right (storeBytes s)) _ _ _ (λ t. phase-right (storeBytes s) (s .phase)) (λ t. plain (storeBytes s) _ tt)
 
   -- what is not refused is what the phase says
-  by-phase : (explanationOf s ≡ Explanation.Refused → ⊥) → (p : Phase) → s .phase ≡ p → explainedInPhase p (storeBytes s) ≡ Explanation.Refused → ⊥
+  by-phase : (explanationOf s ≡ Explanation.Refused → ⊥) → (p : Phase) → s .phase ≡ p → explanationInPhase p (storeBytes s) ≡ Explanation.Refused → ⊥
   unfolding explanationOf
-  by-phase = if-ind P _ _ _ (λ t n p q z. n (ap (λ (x : Phase). explainedInPhase x (storeBytes s)) q ∙ z)) (λ t n p q z. n refl)
+  by-phase = if-ind P _ _ _ (λ t n p q z. n (ap (λ (x : Phase). explanationInPhase x (storeBytes s)) q ∙ z)) (λ t n p q z. n refl)
     where
       P : Explanation → Type 0
-      P r = (r ≡ Explanation.Refused → ⊥) → (p : Phase) → s .phase ≡ p → explainedInPhase p (storeBytes s) ≡ Explanation.Refused → ⊥
+      P r = (r ≡ Explanation.Refused → ⊥) → (p : Phase) → s .phase ≡ p → explanationInPhase p (storeBytes s) ≡ Explanation.Refused → ⊥
 
-  without-by-phase : (p : Phase) → s .phase ≡ p → explanationOf s ≡ Explanation.NoChoice → explainedInPhase p (storeBytes s) ≡ Explanation.NoChoice
+  without-by-phase : (p : Phase) → s .phase ≡ p → explanationOf s ≡ Explanation.NoChoice → explanationInPhase p (storeBytes s) ≡ Explanation.NoChoice
   unfolding explanationOf
-  without-by-phase p q = if-ind P _ _ _ (λ t z. ap (λ (x : Phase). explainedInPhase x (storeBytes s)) (sym q) ∙ z) (λ t z. cc)
+  without-by-phase p q = if-ind P _ _ _ (λ t z. ap (λ (x : Phase). explanationInPhase x (storeBytes s)) (sym q) ∙ z) (λ t z. cc)
     where
       P : Explanation → Type 0
-      P r = r ≡ Explanation.NoChoice → explainedInPhase p (storeBytes s) ≡ Explanation.NoChoice
+      P r = r ≡ Explanation.NoChoice → explanationInPhase p (storeBytes s) ≡ Explanation.NoChoice
 
   explained-told : ExplanationHolds s (explanationOf s)
   explained-told =
@@ -416,7 +416,7 @@ module _ (s : Session) where
         named = explained-right .named;
         unnamed = explained-right .unnamed;
         lower = explained-right .lower;
-        held = λ a q n. waiting-held (storeBytes s) a (decidingIn (storeBytes s)) (by-phase n (Phase.Waiting (AwaitedResponse.Cryptogram a)) q);
+        held = λ a q n. waiting-held (storeBytes s) a (decidingStageIfItsDataPresent (storeBytes s)) (by-phase n (Phase.Waiting (AwaitedResponse.Cryptogram a)) q);
         decided = λ x q z n m. chosen-given (storeBytes s) x z (by-phase n (Phase.Ended x) q) m;
         without = λ x q z e. no-choice-mag-stripe (storeBytes s) x (without-by-phase (Phase.Ended x) q e);
       }

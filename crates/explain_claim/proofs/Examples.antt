@@ -7,57 +7,57 @@ use mathlib.Core.Bool.{true}
 use mathlib.Core.List.{List, [], _∷_, _++_}
 use Prim.Native.Nat.{ℕ}
 use lib.ListN.{replicate}
-use Rattle.basics.specs.Recursion.{recurse, recurseBy}
+use Rattle.basics.specs.Recursion.{recurseWithFuelFromLength, recurseWithFuel}
 use Rattle.basics.specs.Choice.{if, both, either, every}
 use Rattle.basics.proofs.Laws.{if-yes}
-use Rattle.basics.specs.Number.{bigEndianFrom, nibbles}
+use Rattle.basics.specs.Number.{appendBigEndianBytes, nibbles}
 use Rattle.basics.specs.Alike.{bytesEqual}
-use Rattle.tlv.specs.Tag.{tagSize, tagSecondByte, tagThirdByte, tagAt, tagFirstByte, isTemplate, isPrivate}
+use Rattle.tlv.specs.Tag.{tagSize, tagSizeFromSecondByte, tagSizeFromThirdByte, tagAt, tagFirstByte, isTemplate, isPrivate}
 use Rattle.tlv.specs.Length.{lengthAt}
 use Rattle.tlv.specs.Object.{headerOf}
-use Rattle.tlv.specs.Primitives.{objectBefore, primitiveOf, primitiveObjects}
+use Rattle.tlv.specs.Primitives.{prependObject, primitiveAtFront, primitiveObjects}
 use Rattle.tlv.specs.Encoding.{lengthBytes}
-use Rattle.tlv.specs.Tree.{objectCount, nextOf, withLeaf, withNode, parseTree}
-use Rattle.dictionary.specs.Rows.{dictionaryRows, rowPast, findRow}
-use Rattle.dictionary.specs.Named.{rowNumberOf}
-use Rattle.dictionary.specs.Form.{numeric, digitsFit, fitsRow, digitsThenFs, compressed}
+use Rattle.tlv.specs.Tree.{objectCount, nextInTemplate, prependLeaf, prependNode, parseTree}
+use Rattle.dictionary.specs.Rows.{dictionaryRows, rowFoundShifted, findRow}
+use Rattle.dictionary.specs.Named.{rowNumberOfTagOrZero}
+use Rattle.dictionary.specs.Form.{isNumeric, digitsMatchForm, lengthAndDigitsFitRow, isDigitsThenFs, isCompressedNumeric}
 use Rattle.dictionary.specs.TerminalType.{listedTerminalType}
-use Rattle.store.specs.Place.{rowOffset, rowPlace, placeValue, rowValue, putRow, objectValueIn, lengthByte}
-use Rattle.store.specs.Held.{storedLength}
+use Rattle.store.specs.Place.{rowOffset, rowPlaceBytes, valueInPlace, rowValue, putRow, objectValueIn, rowLengthPlusOneOrZero}
+use Rattle.store.specs.Held.{storedLengthPlusOneOrZero}
 use Rattle.afl.specs.Entry.{validEntry}
-use Rattle.afl.specs.Records.{aflEntries as entriesOf, wholeEntries, consecutiveRecords as runOf, entriesRecords, sumOverEntries, acceptsAfl, nthRecord, kthRecord, aflRecordAt}
-use Rattle.reading.specs.Taking.{allowedInTemplate, allowedInResponse, allowedNow, takeItem, takeNext, takeAll, primitiveItems}
-use Rattle.reading.specs.Answer.{responseBody, gpoParts, primitiveParts, readBody, isRead, isStatus9000, isResponseLength, readAnswer, templateParts}
-use Rattle.dol.specs.Entries.{entriesNext, dolEntries, entryWithLength, dolEntryAt, entryBefore}
-use Rattle.dol.specs.Filling.{dolData, dolDataBy, truncated, paddingByte, padded, fittedTo, dolEntryBytes}
-use Rattle.command.specs.WithList.{gpoCommandOf, getProcessingOptions, carriedIn, generateAc}
-use Rattle.analysis.specs.Bits.{numberedBit}
-use Rattle.analysis.specs.Value.{firstBytes}
-use Rattle.analysis.specs.Digits.{bcdFrom, yearOf, dateOf, dateLater, amountOf, amountAbove}
-use Rattle.analysis.specs.Restrictions.{versionDiffers, notYetEffective, atAtm, issuerCountryOf, cashbackRequested, aucViolated}
+use Rattle.afl.specs.Records.{aflEntries as entriesOf, aflLengthIsMultipleOf4, consecutiveRecords as runOf, recordsOfEntries, sumOverEntries, acceptsAfl, recordAtIndex, kthRecordFromOne, kthRecordOfAcceptedAfl}
+use Rattle.reading.specs.Taking.{allowedInTemplate, rowAllowsValueFromCard, rowAllowsValueAndAbsentOrEmpty, storeItem, storeNextItem, storeAllItems, primitiveItems}
+use Rattle.reading.specs.Answer.{parseResponseBody, gpoItemsUnder80, primitiveBodyItems, readBody, isBodyToBeRead, isStatus9000, responseLengthIs2To258, readAnswer, templateBodyItems}
+use Rattle.dol.specs.Entries.{dolEntriesStep, dolEntries, dolEntryWithLength, dolEntryAt, prependDolEntry}
+use Rattle.dol.specs.Filling.{dolData, dolDataIfParsed, truncatedToLength, paddingByte, paddedToLength, fittedToLength, dolEntryBytes}
+use Rattle.command.specs.WithList.{gpoCommandOfFilled, getProcessingOptions, commandIfDataIs1To255Bytes, generateAc}
+use Rattle.analysis.specs.Bits.{hasBitCountedFromZeroAtByte1B8}
+use Rattle.analysis.specs.Value.{firstBytesZeroPadded}
+use Rattle.analysis.specs.Digits.{appendDecimalDigits, fourDigitYear, dateAsNumber, firstDateIsLater, amountOf, firstAmountIsAbove}
+use Rattle.analysis.specs.Restrictions.{cardVersionPresentAndDiffers, notYetEffective, isAtmTypeWithCashCapability, issuerCountryMatch, cashbackRequested, aucViolated}
 use Rattle.analysis.specs.Tvr.{tvrWithBits}
-use Rattle.analysis.specs.Choice.{stageHoldsBit, lowestFrom, lowestBit, iacCode, stageHolds, onlineCapabilityAt, choiceOf}
-use Rattle.analysis.specs.Cvm.{cvmRulesFrom, cvmRecognised, cvmSupported, cvmConditionMet, cvmSuccessful as takenBy, cvmUnsuccessful, byCvmRules, onDeviceCvm, cvmProcessing}
-use Rattle.analysis.specs.Action.{hasOnDeviceCvm, transactionLimit, aboveTransactionLimit, aucViolatedIn, restrictionsByte, tvrOf, sameCurrency, cvmConditionsIn, cvmResultIn, tvrWithCvm, findingsOf, actionCodesOf, choiceFor}
+use Rattle.analysis.specs.Choice.{tvrBitIsInEitherActionCode, lowestBitFrom, lowestTvrBitInCodes, iacOrDefault, someTvrBitInCodesOfStage, onlineCapabilityByDigit, terminalActionAnalysis}
+use Rattle.analysis.specs.Cvm.{cvmRulesFromPairs, cvmRecognised, cvmSupported, cvmConditionMet, cvmResultOfSupported as takenBy, cvmResultOfUnsuccessful, cvmResultByRules, aipAndConfigurationSupportOnDeviceCvm, cvmProcessing}
+use Rattle.analysis.specs.Action.{cardAndKernelSupportOnDeviceCvm, transactionLimit, storedAmountAboveLimit, aucViolatedInStore, restrictionsTvrByte2, tvrBeforeCvm, currenciesPresentAndEqual, cvmConditionsIn, cvmResultIn, tvrWithCvm, findingsOf, actionCodesOf, choiceForTvr}
 use Rattle.session_record.specs.declared.Outcome.{Outcome}
 use Rattle.session_record.specs.declared.Phase.{Phase}
-use Rattle.session_record.specs.Numbers.{reasonMatchesOutcome, outcomeOfReason}
-use Rattle.session_record.specs.Ranges.{isPresentIfRequired, allRequiredPresent, inRanges, cryptogramDataPresent}
+use Rattle.session_record.specs.Numbers.{reasonMatchesOutcome, outcomeOfNonzeroReason}
+use Rattle.session_record.specs.Ranges.{isPresentIfRequiredAtStart, allRequiredAtStartPresent, sessionRecordInRanges, expiryPanAndCdol1NonEmpty}
 use Rattle.session_record.specs.declared.Session.{Session}
 use Rattle.session_record.specs.Session.{freshSession, endingOf, storeBytes}
 use Rattle.session_record.proofs.Phases.{fresh-keeps}
-use Rattle.start_data.specs.StartData.{terminalTypeListed, settableByStart, setObject, setObjects, loadStart}
-use Rattle.session.specs.Steps.{readThen, withTvr, withFindings}
-use Rattle.session.specs.Start.{askGpo}
-use Rattle.session.specs.Answer.{afterGpo, gpoNext, gpoReason, recordNext, afterRecord, afterLastRecord, afterRecordsEmv, requestedCryptogram, askCryptogram, cryptogramOutcome, cryptogramEnding, cryptogramNext}
+use Rattle.start_data.specs.StartData.{isListedIfTerminalType, startMaySetObjectInRow, setStartObject, setStartObjects, loadStartBytes}
+use Rattle.session.specs.Steps.{readResponseThen, storeWithTvr, storeWithFindings}
+use Rattle.session.specs.Start.{requestGpo}
+use Rattle.session.specs.Answer.{nextAfterGpoRead, nextOnGpoResponse, gpoReason, nextOnRecordResponse, nextAfterRecordRead, nextAfterLastRecord, nextAfterRecordsInEmvMode, requestedCryptogram, requestCryptogram, outcomeForCryptogramType, cryptogramEnding, nextOnCryptogramResponse}
 use Rattle.session_claim.specs.Calls.{commandsSent, callsAccepted, lastElement}
 use Rattle.session.specs.Calls.{Call, start, answer, CallMade, playCalls, finalSession}
 use Rattle.session_claim.proofs.Trace.{call-keeps}
 use Rattle.session_claim.proofs.InRanges.{playIn, finalIn, play-in, final-in}
 use Rattle.explain.specs.declared.Stage.{Stage}
 use Rattle.explain.specs.declared.Explanation.{Explanation}
-use Rattle.explain.specs.Explain.{stageIn, decidingIn, bitHolder, actionCodesOfStage, explainedAt, cryptogramRank, explainedEnd, explainedEndBy, explainedInPhase, explanationOf}
-use Rattle.explain_claim.specs.Explained.{bringsIac, iacBrought, iacBroughtLast, generateAcs, p1s}
+use Rattle.explain.specs.Explain.{decidingStageIn, decidingStageIfItsDataPresent, actionCodeHolderOfBit, actionCodesOfStage, explanationAtStage, rankOfCryptogramType, explanationOfEnding, explanationOfEndingByMode, explanationInPhase, explanationOf}
+use Rattle.explain_claim.specs.Explained.{someIacAppears, isFinalAcAnswerBringingIac, lastCallIsFinalAcAnswerBringingIac, generateAcCommands, generateAcP1s}
 
 -- the terminal's objects of a purchase at type 22
 abbrev startBytes : List ℕ
@@ -100,37 +100,37 @@ purchase last = start startBytes lent ∷ answer gpoAnswer lent ∷ answer recor
 pub record Worked : Type 0 where
   brought-end : finalSession freshSession (purchase (cryptogramAnswer 0x1E denialCode)) .phase ≡ Phase.Ended (endingOf Outcome.Approved 0)
   brought : explanationOf (finalSession freshSession (purchase (cryptogramAnswer 0x1E denialCode))) ≡ Explanation.Refused
-  last : iacBroughtLast (lastElement (callsAccepted (playCalls freshSession (purchase (cryptogramAnswer 0x1E denialCode))))) ≡ true
+  last : lastCallIsFinalAcAnswerBringingIac (lastElement (callsAccepted (playCalls freshSession (purchase (cryptogramAnswer 0x1E denialCode))))) ≡ true
   plain : explanationOf (finalSession freshSession (purchase (cryptogramAnswer 0x14 []))) ≡ Explanation.Unforced Stage.Online
-  handed-out : p1s (commandsSent (playCalls freshSession (purchase (cryptogramAnswer 0x14 [])))) ≡ 0x40 ∷ []
+  handed-out : generateAcP1s (commandsSent (playCalls freshSession (purchase (cryptogramAnswer 0x14 [])))) ≡ 0x40 ∷ []
 
 -- a session that calls lead to is in its ranges, and is explained by its phase
-kept : (s : Session) → inRanges s ≡ true → (cs : List Call) → inRanges (finalSession s cs) ≡ true
+kept : (s : Session) → sessionRecordInRanges s ≡ true → (cs : List Call) → sessionRecordInRanges (finalSession s cs) ≡ true
 unfolding finalSession
 kept s e [] = e
 kept s e (c ∷ cs) = kept _ (call-keeps s c e) cs
 
-by-phase : (cs : List Call) → explanationOf (finalSession freshSession cs) ≡ explainedInPhase (finalIn freshSession cs .phase) (storeBytes (finalIn freshSession cs))
+by-phase : (cs : List Call) → explanationOf (finalSession freshSession cs) ≡ explanationInPhase (finalIn freshSession cs .phase) (storeBytes (finalIn freshSession cs))
 unfolding explanationOf
-by-phase cs = if-yes _ _ (kept freshSession fresh-keeps cs) ∙ ap (λ (s : Session). explainedInPhase (s .phase) (storeBytes s)) (final-in freshSession fresh-keeps cs)
+by-phase cs = if-yes _ _ (kept freshSession fresh-keeps cs) ∙ ap (λ (s : Session). explanationInPhase (s .phase) (storeBytes s)) (final-in freshSession fresh-keeps cs)
 
 pub worked : Worked
-unfolding playIn finalIn callsAccepted lastElement commandsSent generateAcs iacBrought bringsIac reasonMatchesOutcome outcomeOfReason cryptogramDataPresent askGpo getProcessingOptions gpoCommandOf
-    dolDataBy dolData dolEntries recurse recurseBy entriesNext lengthBytes entryWithLength dolEntryAt entryBefore truncated paddingByte padded fittedTo dolEntryBytes carriedIn generateAc gpoNext
-    readThen afterGpo aflRecordAt kthRecord nthRecord acceptsAfl wholeEntries entriesOf validEntry sumOverEntries entriesRecords runOf readAnswer isResponseLength isStatus9000 isRead readBody
-    responseBody primitiveParts gpoParts templateParts parseTree nextOf withLeaf withNode objectCount primitiveItems takeAll takeNext takeItem allowedNow allowedInResponse allowedInTemplate withTvr
-    withFindings rowNumberOf loadStart primitiveObjects objectBefore primitiveOf headerOf tagAt tagSize tagSecondByte tagThirdByte lengthAt tagFirstByte isTemplate isPrivate bigEndianFrom if both
-    either every dictionaryRows rowPast findRow settableByStart setObject setObjects fitsRow digitsFit numeric nibbles digitsThenFs compressed terminalTypeListed listedTerminalType rowOffset rowPlace
-    placeValue rowValue putRow objectValueIn allRequiredPresent isPresentIfRequired recordNext afterRecord afterLastRecord afterRecordsEmv requestedCryptogram askCryptogram hasOnDeviceCvm onDeviceCvm
-    transactionLimit aboveTransactionLimit aucViolatedIn restrictionsByte tvrOf sameCurrency cvmConditionsIn cvmResultIn tvrWithCvm findingsOf actionCodesOf choiceFor numberedBit firstBytes bcdFrom
-    yearOf dateOf dateLater amountOf amountAbove versionDiffers notYetEffective atAtm issuerCountryOf cashbackRequested aucViolated tvrWithBits stageHoldsBit lowestFrom lowestBit iacCode stageHolds
-    onlineCapabilityAt choiceOf cvmRulesFrom cvmRecognised cvmSupported cvmConditionMet takenBy cvmUnsuccessful byCvmRules cvmProcessing bytesEqual cryptogramOutcome cryptogramEnding
-    cryptogramNext stageIn decidingIn bitHolder actionCodesOfStage explainedAt cryptogramRank explainedEnd explainedEndBy lengthByte
+unfolding playIn finalIn callsAccepted lastElement commandsSent generateAcCommands isFinalAcAnswerBringingIac someIacAppears reasonMatchesOutcome outcomeOfNonzeroReason expiryPanAndCdol1NonEmpty requestGpo getProcessingOptions gpoCommandOfFilled
+    dolDataIfParsed dolData dolEntries recurseWithFuelFromLength recurseWithFuel dolEntriesStep lengthBytes dolEntryWithLength dolEntryAt prependDolEntry truncatedToLength paddingByte paddedToLength fittedToLength dolEntryBytes commandIfDataIs1To255Bytes generateAc nextOnGpoResponse
+    readResponseThen nextAfterGpoRead kthRecordOfAcceptedAfl kthRecordFromOne recordAtIndex acceptsAfl aflLengthIsMultipleOf4 entriesOf validEntry sumOverEntries recordsOfEntries runOf readAnswer responseLengthIs2To258 isStatus9000 isBodyToBeRead readBody
+    parseResponseBody primitiveBodyItems gpoItemsUnder80 templateBodyItems parseTree nextInTemplate prependLeaf prependNode objectCount primitiveItems storeAllItems storeNextItem storeItem rowAllowsValueAndAbsentOrEmpty rowAllowsValueFromCard allowedInTemplate storeWithTvr
+    storeWithFindings rowNumberOfTagOrZero loadStartBytes primitiveObjects prependObject primitiveAtFront headerOf tagAt tagSize tagSizeFromSecondByte tagSizeFromThirdByte lengthAt tagFirstByte isTemplate isPrivate appendBigEndianBytes if both
+    either every dictionaryRows rowFoundShifted findRow startMaySetObjectInRow setStartObject setStartObjects lengthAndDigitsFitRow digitsMatchForm isNumeric nibbles isDigitsThenFs isCompressedNumeric isListedIfTerminalType listedTerminalType rowOffset rowPlaceBytes
+    valueInPlace rowValue putRow objectValueIn allRequiredAtStartPresent isPresentIfRequiredAtStart nextOnRecordResponse nextAfterRecordRead nextAfterLastRecord nextAfterRecordsInEmvMode requestedCryptogram requestCryptogram cardAndKernelSupportOnDeviceCvm aipAndConfigurationSupportOnDeviceCvm
+    transactionLimit storedAmountAboveLimit aucViolatedInStore restrictionsTvrByte2 tvrBeforeCvm currenciesPresentAndEqual cvmConditionsIn cvmResultIn tvrWithCvm findingsOf actionCodesOf choiceForTvr hasBitCountedFromZeroAtByte1B8 firstBytesZeroPadded appendDecimalDigits
+    fourDigitYear dateAsNumber firstDateIsLater amountOf firstAmountIsAbove cardVersionPresentAndDiffers notYetEffective isAtmTypeWithCashCapability issuerCountryMatch cashbackRequested aucViolated tvrWithBits tvrBitIsInEitherActionCode lowestBitFrom lowestTvrBitInCodes iacOrDefault someTvrBitInCodesOfStage
+    onlineCapabilityByDigit terminalActionAnalysis cvmRulesFromPairs cvmRecognised cvmSupported cvmConditionMet takenBy cvmResultOfUnsuccessful cvmResultByRules cvmProcessing bytesEqual outcomeForCryptogramType cryptogramEnding
+    nextOnCryptogramResponse decidingStageIn decidingStageIfItsDataPresent actionCodeHolderOfBit actionCodesOfStage explanationAtStage rankOfCryptogramType explanationOfEnding explanationOfEndingByMode rowLengthPlusOneOrZero
 worked =
     record {
       brought-end = ap (λ (s : Session). s .phase) (final-in freshSession fresh-keeps (purchase (cryptogramAnswer 0x1E denialCode)));
       brought = by-phase (purchase (cryptogramAnswer 0x1E denialCode));
-      last = ap (λ (ms : List CallMade). iacBroughtLast (lastElement (callsAccepted ms))) (play-in freshSession fresh-keeps (purchase (cryptogramAnswer 0x1E denialCode)));
+      last = ap (λ (ms : List CallMade). lastCallIsFinalAcAnswerBringingIac (lastElement (callsAccepted ms))) (play-in freshSession fresh-keeps (purchase (cryptogramAnswer 0x1E denialCode)));
       plain = by-phase (purchase (cryptogramAnswer 0x14 []));
-      handed-out = ap (λ (ms : List CallMade). p1s (commandsSent ms)) (play-in freshSession fresh-keeps (purchase (cryptogramAnswer 0x14 [])));
+      handed-out = ap (λ (ms : List CallMade). generateAcP1s (commandsSent ms)) (play-in freshSession fresh-keeps (purchase (cryptogramAnswer 0x14 [])));
     }

@@ -17,7 +17,7 @@ use Rattle.dictionary.specs.TerminalType.{listedTerminalType}
 use Rattle.dictionary.specs.declared.RowFound.the-variants.{At}
 use Rattle.dictionary.proofs.Fit.{fits-length}
 use Rattle.dictionary.proofs.Named.{at-95, at-9F0D, at-9F0E, at-9F0F, at-9F35, at-DF811B, at-DF8120, at-DF8121, at-DF8122}
-use Rattle.store.specs.Place.{StoredValue, absent, present, bytesOfValue, isPresent, rowValue, objectValue, putRow}
+use Rattle.store.specs.Place.{StoredValue, absent, present, bytesOrEmptyIfAbsent, isPresent, rowValue, objectValue, putRow}
 use Rattle.store.specs.Held.{hasObject, lacksObject, storedBytes}
 use Rattle.store.proofs.Laws.{by-row, put-other}
 use Rattle.store.proofs.Rows.{fits-row}
@@ -25,19 +25,19 @@ use Rattle.reading.specs.declared.Awaited.{Awaited}
 use Rattle.reading.specs.Taking.{PrimitiveItem, cardMaySet}
 use Rattle.reading.specs.Answer.{responseBit, readAnswer}
 use Rattle.reading.proofs.Kept.{Put, read-holds}
-use Rattle.analysis.specs.Value.{firstBytes}
-use Rattle.analysis.specs.Action.{actionCodesOf, choiceFor, findingsOf}
+use Rattle.analysis.specs.Value.{firstBytesZeroPadded}
+use Rattle.analysis.specs.Action.{actionCodesOf, choiceForTvr, findingsOf}
 use Rattle.analysis.specs.declared.action.AnalysisFindings.{AnalysisFindings}
 use Rattle.analysis.proofs.Value.{front-whole}
 use Rattle.analysis.proofs.Laws.{found-length, bits-length}
 use Rattle.session_record.proofs.Clauses.{AllObjectsFit}
 use Rattle.session_record.proofs.Values.{absent-of, held-length}
-use Rattle.session.specs.Steps.{withFindings}
+use Rattle.session.specs.Steps.{storeWithFindings}
 use Rattle.session.specs.Answer.{requestedCryptogram}
 use Rattle.step_laws.proofs.Kept.{read-value, found-95, found-other}
-use Rattle.explain.specs.Explain.{storedChoice}
+use Rattle.explain.specs.Explain.{recomputedChoice}
 use Rattle.explain.proofs.Complete.{Complete}
-use Rattle.explain_claim.specs.Explained.{bringsObject, bringsIac}
+use Rattle.explain_claim.specs.Explained.{objectAppears, someIacAppears}
 
 -- one of two tests fails where neither passes
 either-left-no : (a b : Bool) → either a b ≡ false → a ≡ false
@@ -66,13 +66,13 @@ pub record SameCard (b d : List ℕ) : Type 0 where
   pub online-code : objectValue d 0x9F0F ≡ objectValue b 0x9F0F
 
 module _ (b d : List ℕ) (t : SameTerminal b d) where
-  pub same-chosen : SameCard b d → (result : List ℕ) → choiceFor d result ≡ choiceFor b result
-  unfolding choiceFor actionCodesOf
+  pub same-chosen : SameCard b d → (result : List ℕ) → choiceForTvr d result ≡ choiceForTvr b result
+  unfolding choiceForTvr actionCodesOf
   same-chosen c result =
       rw (t .type, c .denial-code, t .denial-code, c .online-code, t .online-code, c .default-code, t .default-code)
 
-  pub same-choice : SameCard b d → objectValue d 0x95 ≡ objectValue b 0x95 → storedChoice d ≡ storedChoice b
-  same-choice c r = same-chosen c _ ∙ ap (λ (v : StoredValue). choiceFor b (firstBytes 5 (bytesOfValue v))) r
+  pub same-choice : SameCard b d → objectValue d 0x95 ≡ objectValue b 0x95 → recomputedChoice d ≡ recomputedChoice b
+  same-choice c r = same-chosen c _ ∙ ap (λ (v : StoredValue). choiceForTvr b (firstBytesZeroPadded 5 (bytesOrEmptyIfAbsent v))) r
 
   pub same-complete : objectValue d 0x95 ≡ objectValue b 0x95 → Complete b → Complete d
   same-complete r w =
@@ -81,7 +81,7 @@ module _ (b d : List ℕ) (t : SameTerminal b d) where
         denial-code = ap isPresent (t .denial-code) ∙ w .denial-code;
         default-code = ap isPresent (t .default-code) ∙ w .default-code;
         online-code = ap isPresent (t .online-code) ∙ w .online-code;
-        terminal = ap (λ (v : StoredValue). listedTerminalType (getD (bytesOfValue v) 0 0)) (t .type) ∙ w .terminal;
+        terminal = ap (λ (v : StoredValue). listedTerminalType (getD (bytesOrEmptyIfAbsent v) 0 0)) (t .type) ∙ w .terminal;
       }
 
 -- ---- the reading of an answer
@@ -126,15 +126,15 @@ module _ (a : Awaited) (b s : List ℕ) (l : length b ≡ storeSize) where
   read-configuration = own-value 0xDF811B rowKernelConfiguration at-DF811B (not-card .5)
 
   -- an object of the card with bytes stays, and one that is absent stays absent unless the answer brings it
-  code-kept : AllObjectsFit b → (t k : ℕ) → findRow dictionaryRows t ≡ At k → 1 ≤ rowAt k .least → bringsObject b read t ≡ false → objectValue read t ≡ objectValue b t
+  code-kept : AllObjectsFit b → (t k : ℕ) → findRow dictionaryRows t ≡ At k → 1 ≤ rowAt k .least → objectAppears b read t ≡ false → objectValue read t ≡ objectValue b t
   code-kept f t k e m n =
       elim (bool-cases (hasObject b t)) [
         | inl y ↦ read-value a b s l t k e (λ z. omega (arith, held-length b f t k e y .0))
         | inr y ↦ absent-of (objectValue read t) (ap not (sym (both-true (hasObject read t) (ap not y)) ∙ n)) ∙ sym (absent-of (objectValue b t) (ap not y))
       ]
 
-  pub read-card : AllObjectsFit b → bringsIac b read ≡ false → SameCard b read
-  unfolding bringsIac dictionaryRows
+  pub read-card : AllObjectsFit b → someIacAppears b read ≡ false → SameCard b read
+  unfolding someIacAppears dictionaryRows
   read-card f n =
       record {
         denial-code = code-kept f 0x9F0E rowIacDenial at-9F0E (omega arith) (either-left-no _ _ (either-right-no _ _ n));
@@ -149,13 +149,13 @@ module _ (b : List ℕ) (l : length b ≡ storeSize) where
   f = findingsOf b
 
   abbrev analysed : List ℕ
-  analysed = withFindings b f
+  analysed = storeWithFindings b f
 
   other : (t k : ℕ) → findRow dictionaryRows t ≡ At k → (k ≡ rowTvr → ⊥) → (k ≡ rowCvmResults → ⊥) → objectValue analysed t ≡ objectValue b t
   other = found-other b f l (found-length b) (bits-length b)
 
-  bits : firstBytes 5 (storedBytes analysed 0x95) ≡ f .bits
-  bits = ap (λ (v : StoredValue). firstBytes 5 (bytesOfValue v)) (found-95 b f l (found-length b) (bits-length b)) ∙ front-whole 5 (f .bits) (bits-length b)
+  bits : firstBytesZeroPadded 5 (storedBytes analysed 0x95) ≡ f .bits
+  bits = ap (λ (v : StoredValue). firstBytesZeroPadded 5 (bytesOrEmptyIfAbsent v)) (found-95 b f l (found-length b) (bits-length b)) ∙ front-whole 5 (f .bits) (bits-length b)
 
   terminal : SameTerminal b analysed
   terminal =
@@ -175,6 +175,6 @@ module _ (b : List ℕ) (l : length b ≡ storeSize) where
       }
 
   -- the choice that is requested is the one of the store that the analysis leaves
-  pub asked-choice : (l : ℕ) → requestedCryptogram l b .choice ≡ storedChoice analysed
+  pub asked-choice : (l : ℕ) → requestedCryptogram l b .choice ≡ recomputedChoice analysed
   unfolding requestedCryptogram
-  asked-choice l = sym (same-chosen b analysed terminal card (firstBytes 5 (storedBytes analysed 0x95)) ∙ ap (choiceFor b) bits)
+  asked-choice l = sym (same-chosen b analysed terminal card (firstBytesZeroPadded 5 (storedBytes analysed 0x95)) ∙ ap (choiceForTvr b) bits)

@@ -13,41 +13,41 @@ use Rattle.basics.specs.Choice.{if}
 use Rattle.basics.proofs.Laws.{if-yes, if-no}
 use Rattle.basics.proofs.Recursion.{AsksShorter, recurse-unroll}
 use Rattle.tlv.specs.declared.TlvHeader.{TlvHeader}
-use Rattle.tlv.specs.declared.Following.{Following}
-use Rattle.tlv.specs.declared.Following.the-variants as following
+use Rattle.tlv.specs.declared.NextInTemplate.{NextInTemplate}
+use Rattle.tlv.specs.declared.NextInTemplate.the-variants as following
 use Rattle.tlv.specs.Object.{headerValue, behindObject}
-use Rattle.tlv.specs.Tree.{nextOf}
+use Rattle.tlv.specs.Tree.{nextInTemplate}
 use Rattle.tlv.proofs.NextObject.{next-fits}
 use Rattle.tlv.proofs.Tree.{shorter-value, shorter-behind}
 use Rattle.find.specs.declared.ValueSpan.{ValueSpan}
 use Rattle.find.specs.declared.TagFound.{TagFound}
 use Rattle.find.specs.declared.TagFound.the-variants.{At, Absent, Malformed}
-use Rattle.find.specs.Find.{valueSpan, foundHere, firstFound, foundShifted, foundItself, foundNested, foundWithin, foundAfter, foundFromNext, findNext, findTagIn}
+use Rattle.find.specs.Find.{valueSpan, foundIfTagMatches, firstFoundUnlessMalformed, foundShifted, foundIfHeaderTag, foundWithOneLevelLess, foundInContents, foundAfterObject, foundFromNextInTemplate, findTagStep, findTagWithinLevels}
 
 -- ---- finds, concatenated
 
-pub first-absent : (a : TagFound) → firstFound a Absent ≡ a
-unfolding firstFound
+pub first-absent : (a : TagFound) → firstFoundUnlessMalformed a Absent ≡ a
+unfolding firstFoundUnlessMalformed
 first-absent Malformed = refl
 first-absent (At p) = refl
 first-absent Absent = refl
 
-pub absent-first : (a : TagFound) → firstFound Absent a ≡ a
-unfolding firstFound
+pub absent-first : (a : TagFound) → firstFoundUnlessMalformed Absent a ≡ a
+unfolding firstFoundUnlessMalformed
 absent-first a = refl
 
-pub first-malformed : (a : TagFound) → firstFound a Malformed ≡ Malformed
-unfolding firstFound
+pub first-malformed : (a : TagFound) → firstFoundUnlessMalformed a Malformed ≡ Malformed
+unfolding firstFoundUnlessMalformed
 first-malformed Malformed = refl
 first-malformed (At p) = refl
 first-malformed Absent = refl
 
-pub malformed-first : (a : TagFound) → firstFound Malformed a ≡ Malformed
-unfolding firstFound
+pub malformed-first : (a : TagFound) → firstFoundUnlessMalformed Malformed a ≡ Malformed
+unfolding firstFoundUnlessMalformed
 malformed-first a = refl
 
-pub first-assoc : (a b r : TagFound) → firstFound (firstFound a b) r ≡ firstFound a (firstFound b r)
-unfolding firstFound
+pub first-assoc : (a b r : TagFound) → firstFoundUnlessMalformed (firstFoundUnlessMalformed a b) r ≡ firstFoundUnlessMalformed a (firstFoundUnlessMalformed b r)
+unfolding firstFoundUnlessMalformed
 first-assoc Malformed b r = refl
 first-assoc Absent b r = refl
 first-assoc (At p) Malformed r = refl
@@ -57,15 +57,15 @@ first-assoc (At p) (At q) Absent = refl
 first-assoc (At p) (At q) (At o) = refl
 
 -- what was found before stays
-pub first-kept : (f : TagFound) (p : ValueSpan) → f ≡ At p → (same : Bool) (a n : ℕ) → At p ≡ firstFound f (foundHere same a n)
-unfolding firstFound if
-first-kept f p e true a n = ap (λ (x : TagFound). firstFound x (At (valueSpan a n))) (sym e)
-first-kept f p e false a n = ap (λ (x : TagFound). firstFound x Absent) (sym e)
+pub first-kept : (f : TagFound) (p : ValueSpan) → f ≡ At p → (same : Bool) (a n : ℕ) → At p ≡ firstFoundUnlessMalformed f (foundIfTagMatches same a n)
+unfolding firstFoundUnlessMalformed if
+first-kept f p e true a n = ap (λ (x : TagFound). firstFoundUnlessMalformed x (At (valueSpan a n))) (sym e)
+first-kept f p e false a n = ap (λ (x : TagFound). firstFoundUnlessMalformed x Absent) (sym e)
 
 -- ---- shifted
 
-pub shift-first : (n : ℕ) (a b : TagFound) → foundShifted n (firstFound a b) ≡ firstFound (foundShifted n a) (foundShifted n b)
-unfolding firstFound foundShifted
+pub shift-first : (n : ℕ) (a b : TagFound) → foundShifted n (firstFoundUnlessMalformed a b) ≡ firstFoundUnlessMalformed (foundShifted n a) (foundShifted n b)
+unfolding firstFoundUnlessMalformed foundShifted
 shift-first n Malformed b = refl
 shift-first n Absent b = refl
 shift-first n (At p) Malformed = refl
@@ -84,7 +84,7 @@ shift-zero Malformed = refl
 shift-zero Absent = refl
 shift-zero (At p) = let e : 0 + p .start ≡ p .start = omega arith in ap (λ (k : ℕ). At (valueSpan k (p .len))) e
 
-pub shift-here : (n : ℕ) (same : Bool) (a k : ℕ) → foundShifted n (foundHere same a k) ≡ foundHere same (n + a) k
+pub shift-here : (n : ℕ) (same : Bool) (a k : ℕ) → foundShifted n (foundIfTagMatches same a k) ≡ foundIfTagMatches same (n + a) k
 unfolding foundShifted if
 shift-here n true a k = refl
 shift-here n false a k = refl
@@ -102,70 +102,70 @@ shift-malformed n = refl
 abbrev Finder : Type 0
 Finder = List ℕ → ℕ → TagFound
 
-nested-same : (k k′ : ℕ → TagFound) (l : ℕ) → ((m : ℕ) → k m ≡ k′ m) → foundNested k l ≡ foundNested k′ l
+nested-same : (k k′ : ℕ → TagFound) (l : ℕ) → ((m : ℕ) → k m ≡ k′ m) → foundWithOneLevelLess k l ≡ foundWithOneLevelLess k′ l
 nested-same k k′ zero p = refl
 nested-same k k′ (suc l) p = p l
 
 from-same : (tag : ℕ) (k k′ : Finder) (s : List ℕ) (l : ℕ) → ((v : List ℕ) → length v < length s → (m : ℕ) → k v m ≡ k′ v m)
-    → (x : Following) → nextOf s ≡ x → foundFromNext tag k s l x ≡ foundFromNext tag k′ s l x
+    → (x : NextInTemplate) → nextInTemplate s ≡ x → foundFromNextInTemplate tag k s l x ≡ foundFromNextInTemplate tag k′ s l x
 from-same tag k k′ s l same following.End e = refl
 from-same tag k k′ s l same following.Malformed e = refl
 from-same tag k k′ s l same (following.Inner h) e =
     let f = next-fits s h e in
-    ap (firstFound (foundItself tag h))
-    (ap₂ firstFound
+    ap (firstFoundUnlessMalformed (foundIfHeaderTag tag h))
+    (ap₂ firstFoundUnlessMalformed
     (ap (λ (x : TagFound). if (h .template) (foundShifted (h .start) x) Absent) (nested-same (k (headerValue s h)) (k′ (headerValue s h)) l (same (headerValue s h) (shorter-value f))))
     (ap (foundShifted (h .start + h .len)) (same (behindObject s h) (shorter-behind f) l)))
 
-next-same : (tag : ℕ) → AsksShorter (findNext tag)
+next-same : (tag : ℕ) → AsksShorter (findTagStep tag)
 next-same tag k k′ s same =
-    λ i l. from-same tag k k′ s l (λ v h m. ap (λ (p : ℕ → TagFound). p m) (same v h)) (nextOf s) refl i
+    λ i l. from-same tag k k′ s l (λ v h m. ap (λ (p : ℕ → TagFound). p m) (same v h)) (nextInTemplate s) refl i
 
 module _ (tag l : ℕ) (s : List ℕ) where
-  pub unroll : findTagIn tag l s ≡ foundFromNext tag (λ v m. findTagIn tag m v) s l (nextOf s)
-  unfolding findTagIn
-  unroll = ap (λ (p : ℕ → TagFound). p l) (recurse-unroll (λ l. Malformed) (findNext tag) (next-same tag) s)
+  pub unroll : findTagWithinLevels tag l s ≡ foundFromNextInTemplate tag (λ v m. findTagWithinLevels tag m v) s l (nextInTemplate s)
+  unfolding findTagWithinLevels
+  unroll = ap (λ (p : ℕ → TagFound). p l) (recurse-unroll (λ l. Malformed) (findTagStep tag) (next-same tag) s)
 
   -- ---- one law for each thing that can be next
 
-  at : (x : Following) → nextOf s ≡ x → findTagIn tag l s ≡ foundFromNext tag (λ v m. findTagIn tag m v) s l x
-  at x e = unroll ∙ ap (foundFromNext tag (λ v m. findTagIn tag m v) s l) e
+  at : (x : NextInTemplate) → nextInTemplate s ≡ x → findTagWithinLevels tag l s ≡ foundFromNextInTemplate tag (λ v m. findTagWithinLevels tag m v) s l x
+  at x e = unroll ∙ ap (foundFromNextInTemplate tag (λ v m. findTagWithinLevels tag m v) s l) e
 
-  pub found-end : nextOf s ≡ following.End → findTagIn tag l s ≡ Absent
+  pub found-end : nextInTemplate s ≡ following.End → findTagWithinLevels tag l s ≡ Absent
   found-end e = at following.End e
 
-  pub found-malformed : nextOf s ≡ following.Malformed → findTagIn tag l s ≡ Malformed
+  pub found-malformed : nextInTemplate s ≡ following.Malformed → findTagWithinLevels tag l s ≡ Malformed
   found-malformed e = at following.Malformed e
 
-  module _ (h : TlvHeader) (e : nextOf s ≡ following.Inner h) where
+  module _ (h : TlvHeader) (e : nextInTemplate s ≡ following.Inner h) where
     abbrev own : TagFound
-    own = foundHere (eqb (h .tag) tag) (h .start) (h .len)
+    own = foundIfTagMatches (eqb (h .tag) tag) (h .start) (h .len)
 
     abbrev rest : TagFound
-    rest = foundShifted (h .start + h .len) (findTagIn tag l (behindObject s h))
+    rest = foundShifted (h .start + h .len) (findTagWithinLevels tag l (behindObject s h))
 
     -- a primitive object: itself, then what is after it
-    pub found-leaf : h .template ≡ false → findTagIn tag l s ≡ firstFound own rest
-    found-leaf t = at (following.Inner h) e ∙ ap (λ (x : TagFound). firstFound own (firstFound x rest)) (if-no _ _ t) ∙ ap (firstFound own) (absent-first rest)
+    pub found-leaf : h .template ≡ false → findTagWithinLevels tag l s ≡ firstFoundUnlessMalformed own rest
+    found-leaf t = at (following.Inner h) e ∙ ap (λ (x : TagFound). firstFoundUnlessMalformed own (firstFoundUnlessMalformed x rest)) (if-no _ _ t) ∙ ap (firstFoundUnlessMalformed own) (absent-first rest)
 
     -- a template: itself, then what it holds with a level less, then what is after it
     pub found-node : h .template ≡ true → (l ≡ 0 → ⊥)
-        → findTagIn tag l s ≡ firstFound own (firstFound (foundShifted (h .start) (findTagIn tag (l - 1) (headerValue s h))) rest)
+        → findTagWithinLevels tag l s ≡ firstFoundUnlessMalformed own (firstFoundUnlessMalformed (foundShifted (h .start) (findTagWithinLevels tag (l - 1) (headerValue s h))) rest)
     found-node t n =
         at (following.Inner h) e
-        ∙ ap (λ (x : TagFound). firstFound own (firstFound x rest)) (if-yes _ _ t ∙ ap (foundShifted (h .start)) (nested-at l n))
+        ∙ ap (λ (x : TagFound). firstFoundUnlessMalformed own (firstFoundUnlessMalformed x rest)) (if-yes _ _ t ∙ ap (foundShifted (h .start)) (nested-at l n))
       where
-        nested-at : (m : ℕ) → (m ≡ 0 → ⊥) → foundNested (λ m. findTagIn tag m (headerValue s h)) m ≡ findTagIn tag (m - 1) (headerValue s h)
+        nested-at : (m : ℕ) → (m ≡ 0 → ⊥) → foundWithOneLevelLess (λ m. findTagWithinLevels tag m (headerValue s h)) m ≡ findTagWithinLevels tag (m - 1) (headerValue s h)
         nested-at zero n = absurd (n refl)
         nested-at (suc m) n = rw (sub-one (suc m))
 
     -- a template with no level left
-    pub found-deep : h .template ≡ true → l ≡ 0 → findTagIn tag l s ≡ Malformed
+    pub found-deep : h .template ≡ true → l ≡ 0 → findTagWithinLevels tag l s ≡ Malformed
     found-deep t z =
         at (following.Inner h) e
-        ∙ ap (λ (x : TagFound). firstFound own (firstFound x rest)) (if-yes _ _ t ∙ ap (foundShifted (h .start)) (nested-deep l z) ∙ shift-malformed (h .start))
-        ∙ ap (firstFound own) (malformed-first rest) ∙ first-malformed own
+        ∙ ap (λ (x : TagFound). firstFoundUnlessMalformed own (firstFoundUnlessMalformed x rest)) (if-yes _ _ t ∙ ap (foundShifted (h .start)) (nested-deep l z) ∙ shift-malformed (h .start))
+        ∙ ap (firstFoundUnlessMalformed own) (malformed-first rest) ∙ first-malformed own
       where
-        nested-deep : (m : ℕ) → m ≡ 0 → foundNested (λ m. findTagIn tag m (headerValue s h)) m ≡ Malformed
+        nested-deep : (m : ℕ) → m ≡ 0 → foundWithOneLevelLess (λ m. findTagWithinLevels tag m (headerValue s h)) m ≡ Malformed
         nested-deep zero z = refl
         nested-deep (suc m) z = absurd (omega arith)

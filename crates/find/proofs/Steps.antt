@@ -12,14 +12,14 @@ use lib.Dec.{eqb}
 use lib.ListN.{length, take, drop, getD, set, length-take, length-drop, length-set}
 use lib.Seq.{take-take, take-nil, drop-drop, take-all, getD-set-same, getD-set-other}
 use Rattle.tlv.specs.declared.TlvHeader.{TlvHeader}
-use Rattle.tlv.specs.declared.Following.the-variants as following
+use Rattle.tlv.specs.declared.NextInTemplate.the-variants as following
 use Rattle.tlv.specs.Object.{headerValue, behindObject}
-use Rattle.tlv.specs.Tree.{nextOf}
+use Rattle.tlv.specs.Tree.{nextInTemplate}
 use Rattle.tlv.proofs.Laws.{HeaderFits}
 use Rattle.tlv.proofs.NextObject.{next-fits}
 use Rattle.find.specs.declared.TagFound.{TagFound}
 use Rattle.find.specs.declared.TagFound.the-variants.{At, Absent, Malformed}
-use Rattle.find.specs.Find.{foundHere, firstFound, foundShifted, findTagIn}
+use Rattle.find.specs.Find.{foundIfTagMatches, firstFoundUnlessMalformed, foundShifted, findTagWithinLevels}
 use Rattle.find.proofs.Laws.{first-absent, absent-first, first-malformed, malformed-first, first-assoc, shift-first, shift-shift, shift-zero, shift-here, shift-absent, shift-malformed, found-end, found-malformed, found-leaf, found-node, found-deep}
 
 -- ---- a part of the bytes, as the code makes it, and the parts of an object in it
@@ -33,7 +33,7 @@ drop-take (suc m) zero l = let e : 0 ≡ 0 - suc m = omega arith in ap (λ (k : 
 drop-take (suc m) (suc n) [] = sym (take-nil (suc n - suc m))
 drop-take (suc m) (suc n) (x ∷ l) = let e : n - m ≡ suc n - suc m = omega arith in drop-take m n l ∙ ap (λ (k : ℕ). take k (drop m l)) e
 
-module _ (s : List ℕ) (a e : ℕ) (h : TlvHeader) (x : nextOf (part s a e) ≡ following.Inner h) where
+module _ (s : List ℕ) (a e : ℕ) (h : TlvHeader) (x : nextInTemplate (part s a e) ≡ following.Inner h) where
   -- an object lies inside its part
   object-inside : h .start + h .len ≤ e - a
   object-inside = let f = next-fits _ h x in let i = simp length-take at (f .inside) in omega arith
@@ -97,35 +97,35 @@ rising-most n e (x ∷ r) h = let i = rising-most n x r (h .1) in omega arith
 module _ (s : List ℕ) (tag : ℕ) where
   -- of one level, from a to e, with so many templates open around it
   abbrev level : ℕ → ℕ → ℕ → TagFound
-  level n a e = foundShifted a (findTagIn tag (4 - n) (part s a e))
+  level n a e = foundShifted a (findTagWithinLevels tag (4 - n) (part s a e))
 
   -- after the open templates
   unfoldable pub outer : ℕ → List ℕ → TagFound
   outer e [] = Absent
-  outer e (x ∷ r) = firstFound (level (length r) e x) (outer x r)
+  outer e (x ∷ r) = firstFoundUnlessMalformed (level (length r) e x) (outer x r)
 
   abbrev pub left : ℕ → ℕ → List ℕ → TagFound
-  left a e r = firstFound (level (length r) a e) (outer e r)
+  left a e r = firstFoundUnlessMalformed (level (length r) a e) (outer e r)
 
   module _ (a e : ℕ) (r : List ℕ) where
     abbrev rest : TagFound
     rest = outer e r
 
-    level-gone : (x : TagFound) → findTagIn tag (4 - length r) (part s a e) ≡ x → left a e r ≡ firstFound (foundShifted a x) rest
-    level-gone x q = ap (λ (y : TagFound). firstFound (foundShifted a y) rest) q
+    level-gone : (x : TagFound) → findTagWithinLevels tag (4 - length r) (part s a e) ≡ x → left a e r ≡ firstFoundUnlessMalformed (foundShifted a x) rest
+    level-gone x q = ap (λ (y : TagFound). firstFoundUnlessMalformed (foundShifted a y) rest) q
 
-    left-end : nextOf (part s a e) ≡ following.End → left a e r ≡ rest
-    left-end q = level-gone Absent (found-end tag _ _ q) ∙ ap (λ (x : TagFound). firstFound x rest) (shift-absent a) ∙ absent-first rest
+    left-end : nextInTemplate (part s a e) ≡ following.End → left a e r ≡ rest
+    left-end q = level-gone Absent (found-end tag _ _ q) ∙ ap (λ (x : TagFound). firstFoundUnlessMalformed x rest) (shift-absent a) ∙ absent-first rest
 
-    broken : findTagIn tag (4 - length r) (part s a e) ≡ Malformed → left a e r ≡ Malformed
-    broken q = level-gone Malformed q ∙ ap (λ (x : TagFound). firstFound x rest) (shift-malformed a) ∙ malformed-first rest
+    broken : findTagWithinLevels tag (4 - length r) (part s a e) ≡ Malformed → left a e r ≡ Malformed
+    broken q = level-gone Malformed q ∙ ap (λ (x : TagFound). firstFoundUnlessMalformed x rest) (shift-malformed a) ∙ malformed-first rest
 
-    left-malformed : nextOf (part s a e) ≡ following.Malformed → left a e r ≡ Malformed
+    left-malformed : nextInTemplate (part s a e) ≡ following.Malformed → left a e r ≡ Malformed
     left-malformed q = broken (found-malformed tag _ _ q)
 
-    module _ (h : TlvHeader) (q : nextOf (part s a e) ≡ following.Inner h) where
+    module _ (h : TlvHeader) (q : nextInTemplate (part s a e) ≡ following.Inner h) where
       abbrev own : TagFound
-      own = foundHere (eqb (h .tag) tag) (a + h .start) (h .len)
+      own = foundIfTagMatches (eqb (h .tag) tag) (a + h .start) (h .len)
 
       abbrev start : ℕ
       start = a + h .start
@@ -136,26 +136,26 @@ module _ (s : List ℕ) (tag : ℕ) where
       left-deep : h .template ≡ true → 4 - length r ≡ 0 → left a e r ≡ Malformed
       left-deep t z = broken (found-deep tag _ _ h q t z)
 
-      behind-at : foundShifted a (foundShifted (h .start + h .len) (findTagIn tag (4 - length r) (behindObject (part s a e) h))) ≡ level (length r) stop e
+      behind-at : foundShifted a (foundShifted (h .start + h .len) (findTagWithinLevels tag (4 - length r) (behindObject (part s a e) h))) ≡ level (length r) stop e
       behind-at =
           let m : a + (h .start + h .len) ≡ stop = omega arith in
-          shift-shift a (h .start + h .len) _ ∙ ap₂ (λ (k : ℕ) (v : List ℕ). foundShifted k (findTagIn tag (4 - length r) v)) m (behind-part s a e h q)
+          shift-shift a (h .start + h .len) _ ∙ ap₂ (λ (k : ℕ) (v : List ℕ). foundShifted k (findTagWithinLevels tag (4 - length r) v)) m (behind-part s a e h q)
 
-      left-leaf : h .template ≡ false → left a e r ≡ firstFound own (left stop e r)
+      left-leaf : h .template ≡ false → left a e r ≡ firstFoundUnlessMalformed own (left stop e r)
       left-leaf t =
           level-gone _ (found-leaf tag _ _ h q t)
-          ∙ ap (λ (x : TagFound). firstFound x rest) (shift-first a _ _ ∙ ap₂ firstFound (shift-here a _ _ _) behind-at)
+          ∙ ap (λ (x : TagFound). firstFoundUnlessMalformed x rest) (shift-first a _ _ ∙ ap₂ firstFoundUnlessMalformed (shift-here a _ _ _) behind-at)
           ∙ first-assoc own (level (length r) stop e) rest
 
-      left-node : h .template ≡ true → length r < 4 → left a e r ≡ firstFound own (left start stop (e ∷ r))
+      left-node : h .template ≡ true → length r < 4 → left a e r ≡ firstFoundUnlessMalformed own (left start stop (e ∷ r))
       unfolding outer
       left-node t l =
           let m : 4 - length r - 1 ≡ 4 - suc (length r) = omega arith in
-          let v : foundShifted a (foundShifted (h .start) (findTagIn tag (4 - length r - 1) (headerValue (part s a e) h))) ≡ level (suc (length r)) start stop
-          = shift-shift a (h .start) _ ∙ ap₂ (λ (k : ℕ) (v : List ℕ). foundShifted start (findTagIn tag k v)) m (value-part s a e h q) in
+          let v : foundShifted a (foundShifted (h .start) (findTagWithinLevels tag (4 - length r - 1) (headerValue (part s a e) h))) ≡ level (suc (length r)) start stop
+          = shift-shift a (h .start) _ ∙ ap₂ (λ (k : ℕ) (v : List ℕ). foundShifted start (findTagWithinLevels tag k v)) m (value-part s a e h q) in
           level-gone _ (found-node tag _ _ h q t (λ z. omega arith))
-          ∙ ap (λ (x : TagFound). firstFound x rest) (shift-first a _ _ ∙ ap₂ firstFound (shift-here a _ _ _) (shift-first a _ _ ∙ ap₂ firstFound v behind-at))
-          ∙ first-assoc own _ rest ∙ ap (firstFound own) (first-assoc (level (suc (length r)) start stop) (level (length r) stop e) rest)
+          ∙ ap (λ (x : TagFound). firstFoundUnlessMalformed x rest) (shift-first a _ _ ∙ ap₂ firstFoundUnlessMalformed (shift-here a _ _ _) (shift-first a _ _ ∙ ap₂ firstFoundUnlessMalformed v behind-at))
+          ∙ first-assoc own _ rest ∙ ap (firstFoundUnlessMalformed own) (first-assoc (level (suc (length r)) start stop) (level (length r) stop e) rest)
 
 -- ---- the invariant, and each iteration of the walk
 
@@ -165,7 +165,7 @@ pub record Reached (s : List ℕ) (tag : ℕ) (ends : List ℕ) (depth a e : ℕ
   pub ahead : a ≤ e
   pub inside : e ≤ length s
   pub rising : Rising (length s) e (around ends depth)
-  pub same : findTagIn tag 4 s ≡ firstFound f (left s tag a e (around ends depth))
+  pub same : findTagWithinLevels tag 4 s ≡ firstFoundUnlessMalformed f (left s tag a e (around ends depth))
 
 -- at the front nothing is found and no template is open
 pub begin : (s : List ℕ) (tag : ℕ) (ends : List ℕ) → length ends ≡ 4 → Reached s tag ends 0 0 (length s) Absent
@@ -176,7 +176,7 @@ begin s tag ends four = record {
   ahead = omega arith;
   inside = omega arith;
   rising = omega arith;
-  same = sym (absent-first _ ∙ first-absent _ ∙ shift-zero _ ∙ ap (findTagIn tag 4) whole);
+  same = sym (absent-first _ ∙ first-absent _ ∙ shift-zero _ ∙ ap (findTagWithinLevels tag 4) whole);
 }
   where
     whole : part s 0 (length s) ≡ s
@@ -184,7 +184,7 @@ begin s tag ends four = record {
 
 module _ {s : List ℕ} {tag : ℕ} {ends : List ℕ} {depth a e : ℕ} {f : TagFound} (w : Reached s tag ends depth a e f) where
   abbrev all : TagFound
-  all = findTagIn tag 4 s
+  all = findTagWithinLevels tag 4 s
 
   abbrev opened : List ℕ
   opened = around ends depth
@@ -192,18 +192,18 @@ module _ {s : List ℕ} {tag : ℕ} {ends : List ℕ} {depth a e : ℕ} {f : Tag
   levels : length opened ≡ depth
   levels = around-length ends depth
 
-  same-with : (x : TagFound) → left s tag a e opened ≡ x → all ≡ firstFound f x
-  same-with x q = w .same ∙ ap (firstFound f) q
+  same-with : (x : TagFound) → left s tag a e opened ≡ x → all ≡ firstFoundUnlessMalformed f x
+  same-with x q = w .same ∙ ap (firstFoundUnlessMalformed f) q
 
-  pub done : nextOf (part s a e) ≡ following.End → depth ≡ 0 → f ≡ all
+  pub done : nextInTemplate (part s a e) ≡ following.End → depth ≡ 0 → f ≡ all
   unfolding around outer
   done q z =
       sym (same-with _ (left-end s tag a e opened q ∙ ap (λ (k : ℕ). outer s tag e (around ends k)) z) ∙ first-absent f)
 
-  pub failed : nextOf (part s a e) ≡ following.Malformed → Malformed ≡ all
+  pub failed : nextInTemplate (part s a e) ≡ following.Malformed → Malformed ≡ all
   failed q = sym (same-with Malformed (left-malformed s tag a e opened q) ∙ first-malformed f)
 
-  pub close : nextOf (part s a e) ≡ following.End → (depth ≡ 0 → ⊥) → Reached s tag ends (depth - 1) e (getD ends (depth - 1) 0) f
+  pub close : nextInTemplate (part s a e) ≡ following.End → (depth ≡ 0 → ⊥) → Reached s tag ends (depth - 1) e (getD ends (depth - 1) 0) f
   unfolding Rising outer
   close q z =
       let p = around-pop ends depth z in
@@ -217,7 +217,7 @@ module _ {s : List ℕ} {tag : ℕ} {ends : List ℕ} {depth a e : ℕ} {f : Tag
         same = same-with _ (left-end s tag a e opened q ∙ ap (outer s tag e) p);
       }
 
-  module _ (h : TlvHeader) (q : nextOf (part s a e) ≡ following.Inner h) where
+  module _ (h : TlvHeader) (q : nextInTemplate (part s a e) ≡ following.Inner h) where
     pub deep : h .template ≡ true → depth ≡ 4 → Malformed ≡ all
     deep t z =
         let n = levels in
@@ -229,11 +229,11 @@ module _ {s : List ℕ} {tag : ℕ} {ends : List ℕ} {depth a e : ℕ} {f : Tag
     bounds = let i = object-inside s a e h q in (object-two s a e h q, (omega arith, w .inside))
 
     abbrev here-found : TagFound
-    here-found = foundHere (eqb (h .tag) tag) (a + h .start) (h .len)
+    here-found = foundIfTagMatches (eqb (h .tag) tag) (a + h .start) (h .len)
 
-    module _ (g : TagFound) (own : g ≡ firstFound f here-found) where
-      found-so : (x : TagFound) → left s tag a e opened ≡ firstFound here-found x → all ≡ firstFound g x
-      found-so x p = same-with _ p ∙ sym (first-assoc f _ x) ∙ ap (λ (y : TagFound). firstFound y x) (sym own)
+    module _ (g : TagFound) (own : g ≡ firstFoundUnlessMalformed f here-found) where
+      found-so : (x : TagFound) → left s tag a e opened ≡ firstFoundUnlessMalformed here-found x → all ≡ firstFoundUnlessMalformed g x
+      found-so x p = same-with _ p ∙ sym (first-assoc f _ x) ∙ ap (λ (y : TagFound). firstFoundUnlessMalformed y x) (sym own)
 
       pub leaf : h .template ≡ false → Reached s tag ends depth (a + h .start + h .len) e g
       leaf t =
@@ -260,5 +260,5 @@ module _ {s : List ℕ} {tag : ℕ} {ends : List ℕ} {depth a e : ℕ} {f : Tag
             ahead = omega arith;
             inside = omega arith;
             rising = subst (Rising (length s) (a + h .start + h .len)) (sym p) (le, w .rising);
-            same = found-so _ (left-node s tag a e opened h q t (omega arith) ∙ ap (λ (r : List ℕ). firstFound here-found (left s tag (a + h .start) (a + h .start + h .len) r)) (sym p));
+            same = found-so _ (left-node s tag a e opened h q t (omega arith) ∙ ap (λ (r : List ℕ). firstFoundUnlessMalformed here-found (left s tag (a + h .start) (a + h .start + h .len) r)) (sym p));
           }

@@ -13,8 +13,8 @@ use Rattle.find.specs.declared.TagFound.{TagFound}
 use Rattle.find.specs.declared.TagFound.the-variants.{At, Absent, Malformed}
 
 -- the tree of a card's bytes: at most 65,535 of them, templates nested at most four levels deep
-abbrev pub cardTree : Bytes → Option Forest
-cardTree bytes = if length bytes ≤? 65535 then parseTree 4 bytes else none
+abbrev pub treeOfCardBytes : Bytes → Option Forest
+treeOfCardBytes bytes = if length bytes ≤? 65535 then parseTree 4 bytes else none
 
 -- an object's value: the bytes of a primitive one, the objects that a template holds
 pub data TreeValue : Type 0 where
@@ -27,29 +27,29 @@ treeValueOr none y = y
 treeValueOr (some v) y = some v
 
 -- the value of the tree's first object of the tag, a template before what it holds
-unfoldable pub firstInTree : Tag → Forest → Option TreeValue
-firstInTree tag end = none
-firstInTree tag (leaf t v r) = if t =? tag then some (primitive v) else firstInTree tag r
-firstInTree tag (node t f r) =
+unfoldable pub firstValueOfTagInTree : Tag → Forest → Option TreeValue
+firstValueOfTagInTree tag end = none
+firstValueOfTagInTree tag (leaf t v r) = if t =? tag then some (primitive v) else firstValueOfTagInTree tag r
+firstValueOfTagInTree tag (node t f r) =
     if t =? tag then some (template f)
-    else treeValueOr (firstInTree tag f) (firstInTree tag r)
+    else treeValueOr (firstValueOfTagInTree tag f) (firstValueOfTagInTree tag r)
 
 -- these bytes are that value: of a template, bytes that parse to what it holds
-abbrev pub IsTreeValue : TreeValue → Bytes → Type 0
-IsTreeValue (primitive v) s = s ≡ v
-IsTreeValue (template f) s = parseTree 3 s ≡ some f
+abbrev pub BytesAreTreeValue : TreeValue → Bytes → Type 0
+BytesAreTreeValue (primitive v) s = s ≡ v
+BytesAreTreeValue (template f) s = parseTree 3 s ≡ some f
 
 -- a place inside the bytes, with that value in it
-pub record StandsAt (bytes : Bytes) (v : TreeValue) (p : ValueSpan) : Type 0 where
-  pub inside : p .start + p .len ≤ length bytes
-  pub value : IsTreeValue v (take (p .len) (drop (p .start) bytes))
+pub record TreeValueAtSpan (bytes : Bytes) (treeValue : TreeValue) (span : ValueSpan) : Type 0 where
+  pub inside : span .start + span .len ≤ length bytes
+  pub value : BytesAreTreeValue treeValue (take (span .len) (drop (span .start) bytes))
 
 -- what is found of such a value
-abbrev pub FindsValue : Bytes → Option TreeValue → TagFound → Type 0
-FindsValue bytes none r = r ≡ Absent
-FindsValue bytes (some v) r = (p : ValueSpan) × ((r ≡ At p) × StandsAt bytes v p)
+abbrev pub TagFoundMatchesValue : Bytes → Option TreeValue → TagFound → Type 0
+TagFoundMatchesValue bytes none r = r ≡ Absent
+TagFoundMatchesValue bytes (some v) r = (p : ValueSpan) × ((r ≡ At p) × TreeValueAtSpan bytes v p)
 
 -- what is found of a tag in bytes of this tree
-abbrev pub FindsTag : Tag → Bytes → Option Forest → TagFound → Type 0
-FindsTag tag bytes none r = r ≡ Malformed
-FindsTag tag bytes (some f) r = FindsValue bytes (firstInTree tag f) r
+abbrev pub TagFoundMatchesTree : Tag → Bytes → Option Forest → TagFound → Type 0
+TagFoundMatchesTree tag bytes none r = r ≡ Malformed
+TagFoundMatchesTree tag bytes (some f) r = TagFoundMatchesValue bytes (firstValueOfTagInTree tag f) r

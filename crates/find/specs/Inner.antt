@@ -6,7 +6,7 @@ use Rattle.find.specs.declared.TagFound.{TagFound}
 use Rattle.find.specs.declared.TagFound.the-variants.{At, Absent, Malformed}
 
 -- a value within the first 65,535 bytes, so that place and length each have room
-abbrev pub SpanFits : TagFound → Type 0
-SpanFits (At p) = p .start + p .len ≤ 65535
-SpanFits Absent = Unit {0}
-SpanFits Malformed = Unit {0}
+abbrev pub FoundSpanWithin65535Bytes : TagFound → Type 0
+FoundSpanWithin65535Bytes (At p) = p .start + p .len ≤ 65535
+FoundSpanWithin65535Bytes Absent = Unit {0}
+FoundSpanWithin65535Bytes Malformed = Unit {0}

@@ -2,12 +2,12 @@
 //
 // The bytes are read as the contents of a template are, at most 65,535 of them and templates at most four levels deep.
 // `find` reports the place; `find_word` reports it as one word, for a host in C.
-use tlv::Following;
+use tlv::NextInTemplate;
 ghost use mathlib.Core.Path.{_≡_};
-ghost use Rattle.find.specs.Find.{foundHere, firstFound, findTagIn, findTag};
-ghost use Rattle.find.specs.InTree.{FindsTag, cardTree};
+ghost use Rattle.find.specs.Find.{foundIfTagMatches, firstFoundUnlessMalformed, findTagWithinLevels, findTag};
+ghost use Rattle.find.specs.InTree.{TagFoundMatchesTree, treeOfCardBytes};
 ghost use Rattle.find.specs.Word.{findWord};
-ghost use Rattle.find.specs.Inner.{SpanFits};
+ghost use Rattle.find.specs.Inner.{FoundSpanWithin65535Bytes};
 
 // The most bytes that are searched.
 pub const MOST: usize = 65535;
@@ -37,7 +37,7 @@ pub enum TagFound {
 // The first object of a tag.
 pub fn find(bytes: &[u8], tag: u32) -> TagFound
     ensures found { λ r. ⌜ r ≡ findTag tag (now (bytes .entry)) ⌝ }
-    ensures tree { λ r. ⌜ FindsTag tag (now (bytes .entry)) (cardTree (now (bytes .entry))) r ⌝ }
+    ensures tree { λ r. ⌜ TagFoundMatchesTree tag (now (bytes .entry)) (treeOfCardBytes (now (bytes .entry))) r ⌝ }
 {
     if MOST < bytes.len() {
         return TagFound::Malformed;
@@ -55,7 +55,7 @@ pub fn find_word(bytes: &[u8], tag: u32) -> u64
 
 // A find as one word: the place in bits 32 to 63, the length in bits 0 to 31.
 fn word(found: TagFound) -> u64
-    requires { ⌜ SpanFits found ⌝ }
+    requires { ⌜ FoundSpanWithin65535Bytes found ⌝ }
     ensures { λ r. ⌜ r ≡ findWord found ⌝ }
 {
     match found {
@@ -68,7 +68,7 @@ fn word(found: TagFound) -> u64
 // The objects one by one, a template before what it holds. `end` is where the innermost open template ends,
 // and `ends` has, for each open template, where the bytes around it end.
 fn walk(bytes: &[u8], tag: u32) -> TagFound
-    ensures { λ r. ⌜ r ≡ findTagIn tag 4 (now (bytes .entry)) ⌝ }
+    ensures { λ r. ⌜ r ≡ findTagWithinLevels tag 4 (now (bytes .entry)) ⌝ }
 {
     let mut ends = [0usize; LEVELS];
     let mut depth = 0;
@@ -76,10 +76,10 @@ fn walk(bytes: &[u8], tag: u32) -> TagFound
     let mut end = bytes.len();
     let mut found = TagFound::Absent;
     loop {
-        let following = tlv::behind_padding(&bytes[at..end]);
+        let following = tlv::next_behind_padding(&bytes[at..end]);
         match following {
-            Following::Malformed => return TagFound::Malformed,
-            Following::End => {
+            NextInTemplate::Malformed => return TagFound::Malformed,
+            NextInTemplate::End => {
                 if depth == 0 {
                     return found;
                 }
@@ -87,7 +87,7 @@ fn walk(bytes: &[u8], tag: u32) -> TagFound
                 at = end;
                 end = ends[depth];
             }
-            Following::Inner(h) => {
+            NextInTemplate::Inner(h) => {
                 let start = at + h.start;
                 let e = start + h.len;
                 found = first(found, h.tag == tag, start, h.len);
@@ -109,7 +109,7 @@ fn walk(bytes: &[u8], tag: u32) -> TagFound
 
 // What was found before, or else the value here, where the tag is the one searched for.
 fn first(found: TagFound, same: bool, start: usize, len: usize) -> TagFound
-    ensures { λ r. ⌜ r ≡ firstFound found (foundHere same start len) ⌝ }
+    ensures { λ r. ⌜ r ≡ firstFoundUnlessMalformed found (foundIfTagMatches same start len) ⌝ }
 {
     match found {
         TagFound::Malformed => TagFound::Malformed,

@@ -13,98 +13,98 @@ use lib.Dec.{eqb, ltb}
 use lib.ListN.{length, getD, take, drop, set, replicate, length-take, length-replicate, getD-replicate, replicate-append-replicate}
 use lib.Seq.{take-all, take-length, take-suc-set}
 use borrow.Author.Tests.{lt-ltb, le-ltb}
-use Rattle.basics.specs.Front.{withPrefix}
-use Rattle.basics.specs.Reason.{refusedRanges}
+use Rattle.basics.specs.Front.{writtenOverFront}
+use Rattle.basics.specs.Reason.{refusalRecordOutOfRanges}
 use Rattle.basics.proofs.Laws.{if-yes, if-no, if-ind}
 use Rattle.basics.proofs.Order.{le-or-gt}
 use Rattle.dictionary.specs.Rows.{dictionaryRows, rowCount, storeSize, findRow}
 use Rattle.dictionary.specs.declared.RowFound.{RowFound}
 use Rattle.dictionary.proofs.Find.{found}
-use Rattle.store.specs.Place.{bytesOfValue, isPresent, rowValue, rowOffset}
+use Rattle.store.specs.Place.{bytesOrEmptyIfAbsent, isPresent, rowValue, rowOffset}
 use Rattle.store.specs.Held.{lacksObject, storedBytes}
 use Rattle.store.proofs.Laws.{storedLength, value-bytes, no-place, by-row, unknown-absent}
 use Rattle.store.proofs.Rows.{row-inside, rows-length}
 use Rattle.session_record.specs.declared.Session.{Session}
 use Rattle.session_record.specs.Session.{storeBytes, sessionOf}
-use Rattle.session_record.specs.Ranges.{inRanges}
-use Rattle.layout.specs.declared.RecordHead.{RecordHead}
-use Rattle.layout.specs.declared.RecordHeld.{RecordHeld}
-use Rattle.layout.specs.Layout.{layoutVersion, headSize, recordSize, decodedSession, recordHeld, storeOfSession}
+use Rattle.session_record.specs.Ranges.{sessionRecordInRanges}
+use Rattle.layout.specs.declared.SessionRecordHead.{SessionRecordHead}
+use Rattle.layout.specs.declared.DecodedRecordHead.{DecodedRecordHead}
+use Rattle.layout.specs.Layout.{layoutVersion, recordHeadSize, sessionRecordSize, decodedSession, decodedRecordHead, decodedStoreOrUnchanged}
 use Rattle.layout.specs.Word.{refusalWord}
 use Rattle.layout.proofs.Laws.{held-none, held-some, was-record, decoded-short, decoded-version}
-use Rattle.host.specs.Object.{absentWord, unknownWord, neededWord, ObjectCopied, DidCopyObject, wordAlone, rowIsFound, objectCopiedFrom, objectOfSession}
+use Rattle.host.specs.Object.{objectAbsentWord, tagUnknownWord, lengthNeededWord, ObjectCopied, ReturnsObjectCopied, nothingCopied, rowIsFound, objectCopiedFromStore, objectCopiedFromSession}
 
 -- ---- an object of a store
 
 -- a value has at most 254 bytes
-pub value-small : (b : List ℕ) (k : ℕ) → k < rowCount → length (bytesOfValue (rowValue dictionaryRows b k)) ≤ 254
+pub value-small : (b : List ℕ) (k : ℕ) → k < rowCount → length (bytesOrEmptyIfAbsent (rowValue dictionaryRows b k)) ≤ 254
 unfolding storedLength
 value-small b k h = go (le-or-gt (length b) (rowOffset dictionaryRows k))
   where
-    go : (length b ≤ rowOffset dictionaryRows k) ⊎ (rowOffset dictionaryRows k < length b) → length (bytesOfValue (rowValue dictionaryRows b k)) ≤ 254
+    go : (length b ≤ rowOffset dictionaryRows k) ⊎ (rowOffset dictionaryRows k < length b) → length (bytesOrEmptyIfAbsent (rowValue dictionaryRows b k)) ≤ 254
     go (inl f) = rw (no-place dictionaryRows b k f) (omega arith)
     go (inr f) = rw (value-bytes dictionaryRows b k f) (simp length-take (omega (arith, row-inside k h)))
 
 module _ (b : List ℕ) (t : ℕ) (l : List ℕ) where
-  pub object-unknown : findRow dictionaryRows t ≡ RowFound.Unknown → DidCopyObject unknownWord l (objectCopiedFrom b t l)
-  unfolding objectCopiedFrom
-  object-unknown e = subst⁻¹ (DidCopyObject unknownWord l) (if-yes _ _ (ap (λ (f : RowFound). not (rowIsFound f)) e)) (record { word = refl; buffer = refl })
+  pub object-unknown : findRow dictionaryRows t ≡ RowFound.Unknown → ReturnsObjectCopied tagUnknownWord l (objectCopiedFromStore b t l)
+  unfolding objectCopiedFromStore
+  object-unknown e = subst⁻¹ (ReturnsObjectCopied tagUnknownWord l) (if-yes _ _ (ap (λ (f : RowFound). not (rowIsFound f)) e)) (record { word = refl; buffer = refl })
 
   module _ (k : ℕ) (e : findRow dictionaryRows t ≡ RowFound.At k) where
     known-no : not (rowIsFound (findRow dictionaryRows t)) ≡ false
     known-no = ap (λ (f : RowFound). not (rowIsFound f)) e
 
-    pub object-absent : isPresent (rowValue dictionaryRows b k) ≡ false → DidCopyObject absentWord l (objectCopiedFrom b t l)
-    unfolding objectCopiedFrom
+    pub object-absent : isPresent (rowValue dictionaryRows b k) ≡ false → ReturnsObjectCopied objectAbsentWord l (objectCopiedFromStore b t l)
+    unfolding objectCopiedFromStore
     object-absent f =
-        subst⁻¹ (DidCopyObject absentWord l) (if-no _ _ known-no ∙ if-yes _ _ (ap not (ap isPresent (by-row dictionaryRows b t k e) ∙ f)))
+        subst⁻¹ (ReturnsObjectCopied objectAbsentWord l) (if-no _ _ known-no ∙ if-yes _ _ (ap not (ap isPresent (by-row dictionaryRows b t k e) ∙ f)))
         (record { word = refl; buffer = refl })
 
-    module _ (f : isPresent (rowValue dictionaryRows b k) ≡ true) (v : List ℕ) (g : v ≡ bytesOfValue (rowValue dictionaryRows b k)) where
+    module _ (f : isPresent (rowValue dictionaryRows b k) ≡ true) (v : List ℕ) (g : v ≡ bytesOrEmptyIfAbsent (rowValue dictionaryRows b k)) where
       value-is : storedBytes b t ≡ v
-      value-is = ap bytesOfValue (by-row dictionaryRows b t k e) ∙ sym g
+      value-is = ap bytesOrEmptyIfAbsent (by-row dictionaryRows b t k e) ∙ sym g
 
       lacks-no : lacksObject b t ≡ false
       lacks-no = ap not (ap isPresent (by-row dictionaryRows b t k e) ∙ f)
 
-      pub object-needed : length l < length v → DidCopyObject (neededWord (length v)) l (objectCopiedFrom b t l)
-      unfolding objectCopiedFrom
+      pub object-needed : length l < length v → ReturnsObjectCopied (lengthNeededWord (length v)) l (objectCopiedFromStore b t l)
+      unfolding objectCopiedFromStore
       object-needed h =
-          subst⁻¹ (DidCopyObject (neededWord (length v)) l)
+          subst⁻¹ (ReturnsObjectCopied (lengthNeededWord (length v)) l)
           (if-no _ _ known-no ∙ if-no _ _ lacks-no ∙ if-yes _ _ (ap (λ (x : List ℕ). ltb (length l) (length x)) value-is ∙ lt-ltb _ _ h))
-          (record { word = ap (λ (x : List ℕ). neededWord (length x)) (sym value-is); buffer = refl })
+          (record { word = ap (λ (x : List ℕ). lengthNeededWord (length x)) (sym value-is); buffer = refl })
 
-      pub object-copied : (m : List ℕ) → length v ≤ length l → m ≡ take (length v) v ++ drop (length v) l → DidCopyObject (length v) m (objectCopiedFrom b t l)
-      unfolding objectCopiedFrom
+      pub object-copied : (m : List ℕ) → length v ≤ length l → m ≡ take (length v) v ++ drop (length v) l → ReturnsObjectCopied (length v) m (objectCopiedFromStore b t l)
+      unfolding objectCopiedFromStore
       object-copied m h c =
-          subst⁻¹ (DidCopyObject (length v) m)
+          subst⁻¹ (ReturnsObjectCopied (length v) m)
           (if-no _ _ known-no ∙ if-no _ _ lacks-no ∙ if-no _ _ (ap (λ (x : List ℕ). ltb (length l) (length x)) value-is ∙ le-ltb _ _ h))
           (record {
             word = ap length (sym value-is);
-            buffer = c ∙ ap (λ (x : List ℕ). x ++ drop (length v) l) (take-length v) ∙ ap (λ (x : List ℕ). withPrefix x l) (sym value-is);
+            buffer = c ∙ ap (λ (x : List ℕ). x ++ drop (length v) l) (take-length v) ∙ ap (λ (x : List ℕ). writtenOverFront x l) (sym value-is);
           })
 
 -- ---- an object of the session that bytes hold
 
 -- the session of a record's head and the store after it
-pub session-is : (s : List ℕ) (h : RecordHead) → recordHeld (decodedSession s) ≡ RecordHeld.Record h → decodedSession s ≡ some (sessionOf (h .phase) (h .count) (take storeSize (drop headSize s)))
-session-is s h e = was-record (decodedSession s) h [] _ e (sym (ap (λ (x : Option Session). storeOfSession x []) (held-some s h e .1)))
+pub session-is : (s : List ℕ) (h : SessionRecordHead) → decodedRecordHead (decodedSession s) ≡ DecodedRecordHead.Record h → decodedSession s ≡ some (sessionOf (h .phase) (h .count) (take storeSize (drop recordHeadSize s)))
+session-is s h e = was-record (decodedSession s) h [] _ e (sym (ap (λ (x : Option Session). decodedStoreOrUnchanged x []) (held-some s h e .1)))
 
 module _ (t : ℕ) (l : List ℕ) where
-  pub object-no-record : (x : Option Session) → recordHeld x ≡ RecordHeld.Nothing → (w : ℕ) → w ≡ refusalWord refusedRanges → DidCopyObject w l (objectOfSession x t l)
-  unfolding objectOfSession
-  object-no-record x e w f = subst⁻¹ (λ (y : Option Session). DidCopyObject w l (objectOfSession y t l)) (held-none x e) (record { word = f; buffer = refl })
+  pub object-no-record : (x : Option Session) → decodedRecordHead x ≡ DecodedRecordHead.Nothing → (w : ℕ) → w ≡ refusalWord refusalRecordOutOfRanges → ReturnsObjectCopied w l (objectCopiedFromSession x t l)
+  unfolding objectCopiedFromSession
+  object-no-record x e w f = subst⁻¹ (λ (y : Option Session). ReturnsObjectCopied w l (objectCopiedFromSession y t l)) (held-none x e) (record { word = f; buffer = refl })
 
-  module _ (s : List ℕ) (h : RecordHead) (e : recordHeld (decodedSession s) ≡ RecordHeld.Record h) where
-    pub object-ranges : inRanges (sessionOf (h .phase) (h .count) (take storeSize (drop headSize s))) ≡ false
-        → (w : ℕ) → w ≡ refusalWord refusedRanges → DidCopyObject w l (objectOfSession (decodedSession s) t l)
-    unfolding objectOfSession
-    object-ranges f w g = subst⁻¹ (DidCopyObject w l) (ap (λ (x : Option Session). objectOfSession x t l) (session-is s h e) ∙ if-no _ _ f) (record { word = g; buffer = refl })
+  module _ (s : List ℕ) (h : SessionRecordHead) (e : decodedRecordHead (decodedSession s) ≡ DecodedRecordHead.Record h) where
+    pub object-ranges : sessionRecordInRanges (sessionOf (h .phase) (h .count) (take storeSize (drop recordHeadSize s))) ≡ false
+        → (w : ℕ) → w ≡ refusalWord refusalRecordOutOfRanges → ReturnsObjectCopied w l (objectCopiedFromSession (decodedSession s) t l)
+    unfolding objectCopiedFromSession
+    object-ranges f w g = subst⁻¹ (ReturnsObjectCopied w l) (ap (λ (x : Option Session). objectCopiedFromSession x t l) (session-is s h e) ∙ if-no _ _ f) (record { word = g; buffer = refl })
 
-    pub object-session : inRanges (sessionOf (h .phase) (h .count) (take storeSize (drop headSize s))) ≡ true
-        → (w : ℕ) (m : List ℕ) → DidCopyObject w m (objectCopiedFrom (take storeSize (drop headSize s)) t l) → DidCopyObject w m (objectOfSession (decodedSession s) t l)
-    unfolding objectOfSession
-    object-session f w m d = subst⁻¹ (DidCopyObject w m) (ap (λ (x : Option Session). objectOfSession x t l) (session-is s h e) ∙ if-yes _ _ f) d
+    pub object-session : sessionRecordInRanges (sessionOf (h .phase) (h .count) (take storeSize (drop recordHeadSize s))) ≡ true
+        → (w : ℕ) (m : List ℕ) → ReturnsObjectCopied w m (objectCopiedFromStore (take storeSize (drop recordHeadSize s)) t l) → ReturnsObjectCopied w m (objectCopiedFromSession (decodedSession s) t l)
+    unfolding objectCopiedFromSession
+    object-session f w m d = subst⁻¹ (ReturnsObjectCopied w m) (ap (λ (x : Option Session). objectCopiedFromSession x t l) (session-is s h e) ∙ if-yes _ _ f) d
 
 -- ---- what a word reports
 
@@ -118,14 +118,14 @@ bytes-small b t = go (findRow dictionaryRows t) refl
 
 -- the value of a tag at the front of the caller's bytes
 abbrev valued : Session → ℕ → List ℕ → ObjectCopied
-valued s t l = record { word = length (storedBytes (storeBytes s) t); buffer = withPrefix (storedBytes (storeBytes s) t) l }
+valued s t l = record { word = length (storedBytes (storeBytes s) t); buffer = writtenOverFront (storedBytes (storeBytes s) t) l }
 
 module _ (s : Session) (t : ℕ) (l : List ℕ) where
   -- a word up to 254 is the length of a value that was written
-  pub object-value : objectOfSession (some s) t l .word ≤ 254 → objectOfSession (some s) t l ≡ valued s t l
-  unfolding objectOfSession objectCopiedFrom
+  pub object-value : objectCopiedFromSession (some s) t l .word ≤ 254 → objectCopiedFromSession (some s) t l ≡ valued s t l
+  unfolding objectCopiedFromSession objectCopiedFromStore
   object-value =
-      if-ind P (inRanges s) _ _
+      if-ind P (sessionRecordInRanges s) _ _
       (λ r. if-ind P _ _ _ (λ u h. absurd (omega arith))
       (λ u. if-ind P _ _ _ (λ v h. absurd (omega arith)) (λ v. if-ind P _ _ _ (λ w h. absurd (omega arith)) (λ w h. refl))))
       (λ r h. absurd (omega arith))
@@ -134,11 +134,11 @@ module _ (s : Session) (t : ℕ) (l : List ℕ) where
       P c = c .word ≤ 254 → c ≡ valued s t l
 
 -- any other word leaves the caller's bytes
-pub object-kept : (x : Option Session) (t : ℕ) (l : List ℕ) → 254 < objectOfSession x t l .word → objectOfSession x t l .buffer ≡ l
-unfolding objectOfSession objectCopiedFrom
+pub object-kept : (x : Option Session) (t : ℕ) (l : List ℕ) → 254 < objectCopiedFromSession x t l .word → objectCopiedFromSession x t l .buffer ≡ l
+unfolding objectCopiedFromSession objectCopiedFromStore
 object-kept none t l = λ h. refl
 object-kept (some s) t l =
-    if-ind P (inRanges s) _ _
+    if-ind P (sessionRecordInRanges s) _ _
     (λ r. if-ind P _ _ _ (λ u h. refl)
     (λ u. if-ind P _ _ _ (λ v h. refl) (λ v. if-ind P _ _ _ (λ w h. refl) (λ w h. absurd (omega (arith, bytes-small (storeBytes s) t))))))
     (λ r h. refl)
@@ -162,9 +162,9 @@ wipe-all s i n z h k e =
 
 -- wiped bytes hold no record
 pub wiped-none : (n : ℕ) → decodedSession (replicate n 0) ≡ none
-wiped-none n = go (le-or-gt recordSize n)
+wiped-none n = go (le-or-gt sessionRecordSize n)
   where
-    go : (recordSize ≤ n) ⊎ (n < recordSize) → decodedSession (replicate n 0) ≡ none
+    go : (sessionRecordSize ≤ n) ⊎ (n < sessionRecordSize) → decodedSession (replicate n 0) ≡ none
     go (inl h) =
         let z : getD {A = ℕ} (replicate n 0) 0 0 ≡ 0 = getD-replicate {A = ℕ} n 0 0 0 (omega arith) in
         decoded-version (replicate n 0) (ap (λ (x : ℕ). eqb x layoutVersion) z)

@@ -10,7 +10,7 @@ use Rattle.session_record.specs.declared.CallResult.{CallResult}
 use Rattle.session_record.specs.declared.AwaitedRecord.{AwaitedRecord}
 use Rattle.session_record.specs.declared.Reply.{Reply}
 use Rattle.session_record.specs.declared.Session.{Session}
-use Rattle.basics.specs.Reason.{refusedRanges, reasonMode, reasonLink, reasonStopped}
+use Rattle.basics.specs.Reason.{refusalRecordOutOfRanges, reasonNoSupportedMode, reasonLink, reasonStopped}
 use Rattle.session_record.specs.Session.{storeBytes}
 use Rattle.session.specs.Steps.{Step, leastBuffer, linkFailedStep, stopStep}
 use Rattle.session.specs.Start.{startStep}
@@ -19,8 +19,8 @@ use Rattle.step_laws.proofs.Ways.{GpoWay, RecordsWay, MagStripeWay, RecordWay, 
 
 abbrev pub Small : CallResult → Type 0
 Small (CallResult.Command c) = c .size ≤ leastBuffer
-Small (CallResult.Outcome e) = e .reason ≤ reasonMode
-Small (CallResult.Refused r) = r .number ≤ refusedRanges
+Small (CallResult.Outcome e) = e .reason ≤ reasonNoSupportedMode
+Small (CallResult.Refused r) = r .number ≤ refusalRecordOutOfRanges
 
 abbrev pub SmallStep : Step → Type 0
 SmallStep st = Small (st .reply .answer)
@@ -66,7 +66,7 @@ module _ {buf : List ℕ} where
   small-start (StartWay.unlisted b i q e) = omega arith
   small-start {s} (StartWay.asked b c i q e f) = gpo-proper (storeBytes (loadedSession s b)) c f .most
 
-small-broken : {s : Session} {n : ℕ} {buf : List ℕ} {st : Step} → n ≤ reasonMode → BrokenWay s n buf st → SmallStep st
+small-broken : {s : Session} {n : ℕ} {buf : List ℕ} {st : Step} → n ≤ reasonNoSupportedMode → BrokenWay s n buf st → SmallStep st
 small-broken h (BrokenWay.refused m l) = l
 small-broken h (BrokenWay.broken m i x) = h
 

@@ -5,6 +5,6 @@ use lib.ListN.{length, replicate}
 use Rattle.basics.specs.Types.{Bytes, ResultWord}
 
 -- every byte is 0, and the word too
-pub record Wiped (w : ResultWord) (before after : Bytes) : Type 0 where
-  pub word : w ≡ 0
-  pub session : after ≡ replicate (length before) 0
+pub record SessionWiped (returnedWord : ResultWord) (sessionBytesBefore sessionBytesAfter : Bytes) : Type 0 where
+  pub word : returnedWord ≡ 0
+  pub session : sessionBytesAfter ≡ replicate (length sessionBytesBefore) 0

@@ -7,25 +7,25 @@
 // Besides these `emv_explain` explains why, `emv_object` reads an object of the session back, `emv_find` finds one in
 // other bytes of the card, and `emv_wipe` forgets.
 use dictionary::RowFound;
-use layout::{RecordHead, RecordHeld, HEAD, RECORD_SIZE};
+use layout::{SessionRecordHead, DecodedRecordHead, HEAD, RECORD_SIZE};
 use session_record::{Phase, Transition};
 use session::LEAST_BUFFER;
 ghost use mathlib.Core.Path.{_≡_};
-ghost use Rattle.layout.specs.Layout.{recordSize, decodedSession, withRecordHead};
+ghost use Rattle.layout.specs.Layout.{sessionRecordSize, decodedSession, recordHeadWrittenOverFrontIfRoom};
 ghost use Rattle.layout.specs.Word.{resultWord};
 ghost use Rattle.find.specs.Find.{findTag};
 ghost use Rattle.find.specs.Word.{findWord};
 ghost use Rattle.session.specs.Steps.{linkFailedStep, stopStep};
-ghost use Rattle.host.specs.Hosted.{DidHostCall, HostOpened, hostStepAdmitted, hostStart, hostAnswer, countWord};
+ghost use Rattle.host.specs.Hosted.{ReturnsHostResult, HostOpened, performHostCallIfAdmitted, hostStart, hostAnswer, commandCountOrAllOnes};
 ghost use Rattle.host.specs.Inner.{hostAdmission};
-ghost use Rattle.host.specs.Explain.{explainWord};
-ghost use Rattle.host.specs.Object.{DidCopyObject, objectCopiedFrom, objectOfSession};
-ghost use Rattle.host.specs.Wipe.{Wiped};
+ghost use Rattle.host.specs.Explain.{explanationWordOrRefusal};
+ghost use Rattle.host.specs.Object.{ReturnsObjectCopied, objectCopiedFromStore, objectCopiedFromSession};
+ghost use Rattle.host.specs.Wipe.{SessionWiped};
 ghost use Rattle.host.specs.Version.{versionWord};
 
 // Whether a call is taken, on the record of a head, or the word of its refusal.
 pub enum HostAdmission {
-    Admitted(RecordHead),
+    Admitted(SessionRecordHead),
     Refused(u32),
 }
 
@@ -46,7 +46,7 @@ const PATCH: u32 = 0;
 // How many bytes a host provides for a session.
 #[no_mangle]
 pub extern "C" fn emv_session_size() -> usize
-    ensures { λ r. ⌜ r ≡ recordSize ⌝ }
+    ensures { λ r. ⌜ r ≡ sessionRecordSize ⌝ }
 {
     layout::session_size()
 }
@@ -66,7 +66,7 @@ pub extern "C" fn emv_open(session: &mut [u8]) -> u32
 // Starts a session with the objects that the terminal brings.
 #[no_mangle]
 pub extern "C" fn emv_start(session: &mut [u8], terminal: &[u8], command: &mut [u8]) -> u32
-    ensures { λ r. ⌜ DidHostCall r (now (session .exit)) (now (command .exit))
+    ensures { λ r. ⌜ ReturnsHostResult r (now (session .exit)) (now (command .exit))
         (hostStart (now (terminal .entry)) (now (session .entry)) (now (command .entry))) ⌝ }
 {
     let admission = admit(session, command.len());
@@ -74,7 +74,7 @@ pub extern "C" fn emv_start(session: &mut [u8], terminal: &[u8], command: &mut [
         HostAdmission::Refused(word) => word,
         HostAdmission::Admitted(head) => {
             let phase = head.phase;
-            let transition = session::start_in(phase, head.count, &mut session[HEAD..RECORD_SIZE], terminal, command);
+            let transition = session::start_on_parts(phase, head.count, &mut session[HEAD..RECORD_SIZE], terminal, command);
             finish(transition, session)
         }
     }
@@ -83,7 +83,7 @@ pub extern "C" fn emv_start(session: &mut [u8], terminal: &[u8], command: &mut [
 // Takes the card's answer to the command that was handed out last, status bytes included.
 #[no_mangle]
 pub extern "C" fn emv_answer(session: &mut [u8], card: &[u8], command: &mut [u8]) -> u32
-    ensures { λ r. ⌜ DidHostCall r (now (session .exit)) (now (command .exit))
+    ensures { λ r. ⌜ ReturnsHostResult r (now (session .exit)) (now (command .exit))
         (hostAnswer (now (card .entry)) (now (session .entry)) (now (command .entry))) ⌝ }
 {
     let admission = admit(session, command.len());
@@ -91,7 +91,7 @@ pub extern "C" fn emv_answer(session: &mut [u8], card: &[u8], command: &mut [u8]
         HostAdmission::Refused(word) => word,
         HostAdmission::Admitted(head) => {
             let phase = head.phase;
-            let transition = session::answer_in(phase, head.count, &mut session[HEAD..RECORD_SIZE], card, command);
+            let transition = session::answer_on_parts(phase, head.count, &mut session[HEAD..RECORD_SIZE], card, command);
             finish(transition, session)
         }
     }
@@ -100,15 +100,15 @@ pub extern "C" fn emv_answer(session: &mut [u8], card: &[u8], command: &mut [u8]
 // The link to the card failed.
 #[no_mangle]
 pub extern "C" fn emv_link_failed(session: &mut [u8], command: &mut [u8]) -> u32
-    ensures { λ r. ⌜ DidHostCall r (now (session .exit)) (now (command .exit))
-        (hostStepAdmitted linkFailedStep (now (session .entry)) (now (command .entry))) ⌝ }
+    ensures { λ r. ⌜ ReturnsHostResult r (now (session .exit)) (now (command .exit))
+        (performHostCallIfAdmitted linkFailedStep (now (session .entry)) (now (command .entry))) ⌝ }
 {
     let admission = admit(session, command.len());
     match admission {
         HostAdmission::Refused(word) => word,
         HostAdmission::Admitted(head) => {
             let phase = head.phase;
-            let transition = session::link_failed_in(phase, head.count, &session[HEAD..RECORD_SIZE], command);
+            let transition = session::link_failed_on_parts(phase, head.count, &session[HEAD..RECORD_SIZE], command);
             finish(transition, session)
         }
     }
@@ -117,15 +117,15 @@ pub extern "C" fn emv_link_failed(session: &mut [u8], command: &mut [u8]) -> u32
 // The terminal stops the session.
 #[no_mangle]
 pub extern "C" fn emv_stop(session: &mut [u8], command: &mut [u8]) -> u32
-    ensures { λ r. ⌜ DidHostCall r (now (session .exit)) (now (command .exit))
-        (hostStepAdmitted stopStep (now (session .entry)) (now (command .entry))) ⌝ }
+    ensures { λ r. ⌜ ReturnsHostResult r (now (session .exit)) (now (command .exit))
+        (performHostCallIfAdmitted stopStep (now (session .entry)) (now (command .entry))) ⌝ }
 {
     let admission = admit(session, command.len());
     match admission {
         HostAdmission::Refused(word) => word,
         HostAdmission::Admitted(head) => {
             let phase = head.phase;
-            let transition = session::stop_in(phase, head.count, &session[HEAD..RECORD_SIZE], command);
+            let transition = session::stop_on_parts(phase, head.count, &session[HEAD..RECORD_SIZE], command);
             finish(transition, session)
         }
     }
@@ -134,10 +134,10 @@ pub extern "C" fn emv_stop(session: &mut [u8], command: &mut [u8]) -> u32
 // How many commands the session has handed out; NO_COUNT where the bytes hold no record.
 #[no_mangle]
 pub extern "C" fn emv_count(session: &[u8]) -> u32
-    ensures { λ r. ⌜ r ≡ countWord (decodedSession (now (session .entry))) ⌝ }
+    ensures { λ r. ⌜ r ≡ commandCountOrAllOnes (decodedSession (now (session .entry))) ⌝ }
 {
-    let held = layout::head_in(session);
-    let RecordHeld::Record(head) = held else {
+    let held = layout::decode_record_head(session);
+    let DecodedRecordHead::Record(head) = held else {
         return NO_COUNT;
     };
     basics::widen32(head.count)
@@ -146,28 +146,28 @@ pub extern "C" fn emv_count(session: &[u8]) -> u32
 // Why the session is where it is: the stage that decided, the lowest bit that forced its choice and who holds it.
 #[no_mangle]
 pub extern "C" fn emv_explain(session: &[u8]) -> u32
-    ensures { λ r. ⌜ r ≡ explainWord (decodedSession (now (session .entry))) ⌝ }
+    ensures { λ r. ⌜ r ≡ explanationWordOrRefusal (decodedSession (now (session .entry))) ⌝ }
 {
-    let held = layout::head_in(session);
-    let RecordHeld::Record(head) = held else {
+    let held = layout::decode_record_head(session);
+    let DecodedRecordHead::Record(head) = held else {
         return layout::refusal_word(basics::REFUSED_RANGES);
     };
     let phase = head.phase;
-    explain::explanation_word(explain::explain_in(phase, head.count, &session[HEAD..RECORD_SIZE]))
+    explain::explanation_word(explain::explain_parts(phase, head.count, &session[HEAD..RECORD_SIZE]))
 }
 
 // Reads an object of the session back: its length, with the value at the front of the caller's bytes, or a word that
 // states why not, with all of them as they were.
 #[no_mangle]
 pub extern "C" fn emv_object(session: &[u8], tag: u32, value: &mut [u8]) -> u32
-    ensures { λ r. ⌜ DidCopyObject r (now (value .exit)) (objectOfSession (decodedSession (now (session .entry))) tag (now (value .entry))) ⌝ }
+    ensures { λ r. ⌜ ReturnsObjectCopied r (now (value .exit)) (objectCopiedFromSession (decodedSession (now (session .entry))) tag (now (value .entry))) ⌝ }
 {
-    let held = layout::head_in(session);
-    let RecordHeld::Record(head) = held else {
+    let held = layout::decode_record_head(session);
+    let DecodedRecordHead::Record(head) = held else {
         return layout::refusal_word(basics::REFUSED_RANGES);
     };
     let phase = head.phase;
-    if !session_record::parts_in_ranges(phase, head.count, &session[HEAD..RECORD_SIZE]) {
+    if !session_record::session_parts_in_ranges(phase, head.count, &session[HEAD..RECORD_SIZE]) {
         return layout::refusal_word(basics::REFUSED_RANGES);
     }
     object_in(&session[HEAD..RECORD_SIZE], tag, value)
@@ -184,7 +184,7 @@ pub extern "C" fn emv_find(bytes: &[u8], tag: u32) -> u64
 // Writes 0 over all of the caller's bytes, which hold no record then.
 #[no_mangle]
 pub extern "C" fn emv_wipe(session: &mut [u8]) -> u32
-    ensures { λ r. ⌜ Wiped r (now (session .entry)) (now (session .exit)) ⌝ }
+    ensures { λ r. ⌜ SessionWiped r (now (session .entry)) (now (session .exit)) ⌝ }
 {
     let mut i = 0;
     while i < session.len() {
@@ -209,33 +209,33 @@ fn admit(session: &[u8], size: usize) -> HostAdmission
     if size < LEAST_BUFFER {
         return HostAdmission::Refused(layout::refusal_word(basics::REFUSED_BUFFER));
     }
-    let held = layout::head_in(session);
+    let held = layout::decode_record_head(session);
     match held {
-        RecordHeld::Record(head) => HostAdmission::Admitted(head),
-        RecordHeld::Nothing => HostAdmission::Refused(layout::refusal_word(basics::REFUSED_RANGES)),
+        DecodedRecordHead::Record(head) => HostAdmission::Admitted(head),
+        DecodedRecordHead::Nothing => HostAdmission::Refused(layout::refusal_word(basics::REFUSED_RANGES)),
     }
 }
 
 // Writes the head of a transition at the front of the caller's bytes, whose store the call left in its place, and gives
 // the word of its answer.
 fn finish(transition: Transition, session: &mut [u8]) -> u32
-    ensures { λ r. ⌜ (r ≡ resultWord (transition .answer)) × (now (session .exit) ≡ withRecordHead (transition .phase) (transition .count) (now (session .entry))) ⌝ }
+    ensures { λ r. ⌜ (r ≡ resultWord (transition .answer)) × (now (session .exit) ≡ recordHeadWrittenOverFrontIfRoom (transition .phase) (transition .count) (now (session .entry))) ⌝ }
 {
     let phase = transition.phase;
-    layout::put_head(phase, transition.count, session);
+    layout::write_record_head(phase, transition.count, session);
     let answer = transition.answer;
     layout::result_word(answer)
 }
 
 // The object of a tag in a store: the tag, then whether it is present, then the room for it.
 fn object_in(bytes: &[u8], tag: u32, value: &mut [u8]) -> u32
-    ensures { λ r. ⌜ DidCopyObject r (now (value .exit)) (objectCopiedFrom (now (bytes .entry)) tag (now (value .entry))) ⌝ }
+    ensures { λ r. ⌜ ReturnsObjectCopied r (now (value .exit)) (objectCopiedFromStore (now (bytes .entry)) tag (now (value .entry))) ⌝ }
 {
     let found = dictionary::lookup_row(tag).found;
     let RowFound::At(row) = found else {
         return UNKNOWN;
     };
-    if !store::is_there(bytes, row) {
+    if !store::is_present(bytes, row) {
         return ABSENT;
     }
     let v = store::value(bytes, row);

@@ -13,29 +13,29 @@ use Rattle.session_record.specs.declared.AwaitedResponse.{AwaitedResponse}
 use Rattle.session_record.specs.declared.Phase.{Phase}
 use Rattle.session_record.specs.declared.Session.{Session}
 use Rattle.session_record.specs.Session.{storeBytes, freshSession}
-use Rattle.session.specs.Steps.{Step, stepOf, admittedStep, whileRunning}
-use Rattle.session.specs.Answer.{gpoReason, responseNext, answerStep}
+use Rattle.session.specs.Steps.{Step, stepOfEffect, stepIfAdmitted, effectIfRunning}
+use Rattle.session.specs.Answer.{gpoReason, nextOnResponse, answerStep}
 use Rattle.session.proofs.Results.{isCommand}
 use Rattle.layout.specs.Word.{resultWord}
 use Rattle.session_claim.specs.Calls.{isAnswer, callsAccepted}
 use Rattle.session.specs.Calls.{Call, start, answer, link-failed, stop, callStep, CallMade, callMade, playCalls, isRefusal, callRefused}
-use Rattle.session_claim.specs.Order.{responseAfl, firstAnswer, acceptedAfl}
+use Rattle.session_claim.specs.Order.{aflInGpoResponse, firstAnswer, aflAcceptedFromGpoAnswer}
 use Rattle.session_claim.proofs.Rules.{hands-by-rules, first-on-gpo}
 use Rattle.basics.proofs.Laws.{no}
 use Rattle.host.proofs.Sizes.{Small}
-use Rattle.host_claim.specs.Words.{notRefused, firstAnswerCall, hostAfl}
-use Rattle.host_claim.specs.Claim.{asCompleted}
+use Rattle.host_claim.specs.Words.{hostCallsNotRefused, firstAnswerCall, hostAflAcceptedFromGpoAnswer}
+use Rattle.host_claim.specs.Claim.{hostViewOfCall}
 use Rattle.host_claim.proofs.Read.{word-command, Known, play-known, taken-all, first-all, asRead, first-answers, read-first-taken}
 
 -- an answer that is taken while the answer to GPO is awaited
 module _ (s : Session) (card buf : List ℕ) (q : s .phase ≡ Phase.Waiting AwaitedResponse.Gpo) where
   command-by-rules : isRefusal (answerStep s card buf .reply .answer) ≡ false
       → isCommand (answerStep s card buf .reply .answer) ≡ eqb (gpoReason (storeBytes s) card) 0
-  unfolding admittedStep
+  unfolding stepIfAdmitted
   command-by-rules =
       if-ind P _ _ _ (λ e h. no (sym h))
       (λ e. if-ind P _ _ _ (λ r h. no (sym h))
-      (λ r. subst (λ (p : Phase). P (stepOf s buf (whileRunning p (responseNext (storeBytes s) card)))) (sym q)
+      (λ r. subst (λ (p : Phase). P (stepOfEffect s buf (effectIfRunning p (nextOnResponse (storeBytes s) card)))) (sym q)
       (λ h. hands-by-rules (s .count) (storeBytes s) card buf)))
     where
       P : Step → Type 0
@@ -46,24 +46,24 @@ module _ (s : Session) (card buf : List ℕ) (q : s .phase ≡ Phase.Waiting Awa
 -- an answer, and no other call
 afl-of : (s : Session) (c : Call) (st : Step) → isAnswer c ≡ true → st ≡ callStep s c → Small (st .reply .answer)
     → isRefusal (st .reply .answer) ≡ false → s .phase ≡ Phase.Waiting AwaitedResponse.Gpo
-    → hostAfl (some (asCompleted (callMade s c st))) ≡ acceptedAfl (some (callMade s c st))
+    → hostAflAcceptedFromGpoAnswer (some (hostViewOfCall (callMade s c st))) ≡ aflAcceptedFromGpoAnswer (some (callMade s c st))
 afl-of s (start bytes buf) st a e h t q = no a
 afl-of s (answer card buf) st a e h t q =
     let r = sym (ap (λ (x : Step). isRefusal (x .reply .answer)) e) ∙ t in
-    ap (λ (b : Bool). if b (responseAfl card) none)
+    ap (λ (b : Bool). if b (aflInGpoResponse card) none)
     (word-command (st .reply .answer) h ∙ ap (λ (x : Step). isCommand (x .reply .answer)) e
     ∙ command-by-rules s card buf q r)
 afl-of s (link-failed buf) st a e h t q = no a
 afl-of s (stop buf) st a e h t q = no a
 
 pub read-afl : (cs : List Call)
-    → hostAfl (firstAnswerCall (notRefused (map asCompleted (playCalls freshSession cs)))) ≡ acceptedAfl (firstAnswer (callsAccepted (playCalls freshSession cs)))
-read-afl cs = ap hostAfl (read-first-taken ms (play-known freshSession cs)) ∙ go (firstAnswer (callsAccepted ms)) refl
+    → hostAflAcceptedFromGpoAnswer (firstAnswerCall (hostCallsNotRefused (map hostViewOfCall (playCalls freshSession cs)))) ≡ aflAcceptedFromGpoAnswer (firstAnswer (callsAccepted (playCalls freshSession cs)))
+read-afl cs = ap hostAflAcceptedFromGpoAnswer (read-first-taken ms (play-known freshSession cs)) ∙ go (firstAnswer (callsAccepted ms)) refl
   where
     ms : List CallMade
     ms = playCalls freshSession cs
 
-    go : (x : Option CallMade) → firstAnswer (callsAccepted ms) ≡ x → hostAfl (asRead x) ≡ acceptedAfl x
+    go : (x : Option CallMade) → firstAnswer (callsAccepted ms) ≡ x → hostAflAcceptedFromGpoAnswer (asRead x) ≡ aflAcceptedFromGpoAnswer x
     go none e = refl
     go (some m) e =
         let known = taken-all Known ms (play-known freshSession cs) in

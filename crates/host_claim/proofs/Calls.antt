@@ -12,15 +12,15 @@ use lib.Dec.{leb, eqb}
 use lib.ListN.{length, drop}
 use borrow.Author.Tests.{ne-eqb, le-leb, leb-true}
 use Rattle.basics.specs.Choice.{both, either, every}
-use Rattle.basics.specs.Reason.{refusedRanges}
+use Rattle.basics.specs.Reason.{refusalRecordOutOfRanges}
 use Rattle.basics.proofs.Laws.{if-yes, if-no, bool-cases, both-yes, either-left, either-false}
 use Rattle.session_record.specs.declared.CallResult.{CallResult}
 use Rattle.session_record.specs.declared.Session.{Session}
 use Rattle.session_record.specs.Session.{freshSession}
-use Rattle.session_record.specs.Ranges.{inRanges}
+use Rattle.session_record.specs.Ranges.{sessionRecordInRanges}
 use Rattle.session_record.proofs.Phases.{fresh-keeps}
-use Rattle.layout.specs.Layout.{recordSize, withSessionRecord, decodedSession}
-use Rattle.layout.specs.Word.{wordKind, refusalWord, resultWord}
+use Rattle.layout.specs.Layout.{sessionRecordSize, sessionWrittenOverFrontIfRoom, decodedSession}
+use Rattle.layout.specs.Word.{resultWordKind, refusalWord, resultWord}
 use Rattle.layout.proofs.Laws.{command-below, outcome-kind}
 use Rattle.session.specs.Calls.{Call, callStep, callMade, playCalls, finalSession}
 use Rattle.session_claim.proofs.Trace.{call-keeps}
@@ -28,9 +28,9 @@ use Rattle.basics.proofs.Laws.{no}
 use Rattle.step_laws.proofs.Refusals.{Other, never-ranges}
 use Rattle.host.specs.Hosted.{HostResult, HostOpened, hostOpenWord}
 use Rattle.host.proofs.Sizes.{Small}
-use Rattle.host_claim.specs.Calls.{HostCall, opening, on-session, CompletedCall, completedCalls, bytesAfter}
-use Rattle.host_claim.specs.Words.{isNotRanges, beginsAnew, openingAmong, sinceOpening, hostCommands, notRefused, hostUnanswered, firstAnswerCall, hostAfl, hostLastKind}
-use Rattle.host_claim.specs.Claim.{HostDemand3, sessionCalls, asCompleted, SameAsSession, HostClaim}
+use Rattle.host_claim.specs.Calls.{HostCall, opening, on-session, HostCallMade, playHostCalls, finalSessionBytes}
+use Rattle.host_claim.specs.Words.{hostCallNotRefusedWith25, isAcceptedOpening, hasAcceptedOpening, callsSinceLastAcceptedOpening, hostCommandsHandedOut, hostCallsNotRefused, hostUnansweredCommands, firstAnswerCall, hostAflAcceptedFromGpoAnswer, hostFinalCommandKindByGpoAnswer}
+use Rattle.host_claim.specs.Claim.{HostCallsAndBytesAfterInPublishedOrder, sessionCallsAmong, hostViewOfCall, HostCallsSameAsSessionCalls, HostCallsInOrderAndAsSessionCalls}
 use Rattle.host_claim.proofs.Bytes.{record-held, record-behind, record-enough, record-over, as-session}
 use Rattle.host_claim.proofs.Read.{completedCall, step-small}
 use Rattle.host_claim.proofs.Proper.{session-proper, words-proper, commands-same, taken-same, unanswered-same, afl-same, last-kind-same}
@@ -57,70 +57,70 @@ unfolding either
 none-behind true b e = no (sym e)
 none-behind false b e = e
 
-none-since : (ms : List CompletedCall) → openingAmong ms ≡ false → sinceOpening ms ≡ ms
-unfolding sinceOpening openingAmong
+none-since : (ms : List HostCallMade) → hasAcceptedOpening ms ≡ false → callsSinceLastAcceptedOpening ms ≡ ms
+unfolding callsSinceLastAcceptedOpening hasAcceptedOpening
 none-since [] e = refl
 none-since (m ∷ ms) e =
-    if-no _ _ (none-behind (beginsAnew m) (openingAmong ms) e)
-    ∙ if-no _ _ (none-front (beginsAnew m) (openingAmong ms) e)
+    if-no _ _ (none-behind (isAcceptedOpening m) (hasAcceptedOpening ms) e)
+    ∙ if-no _ _ (none-front (isAcceptedOpening m) (hasAcceptedOpening ms) e)
 
 -- after an accepted opening
-anew-since : (m : CompletedCall) (ms : List CompletedCall) → beginsAnew m ≡ true
-    → sinceOpening (m ∷ ms) ≡ sinceOpening ms
-unfolding sinceOpening
-anew-since m ms a = elim (bool-cases (openingAmong ms)) [
+anew-since : (m : HostCallMade) (ms : List HostCallMade) → isAcceptedOpening m ≡ true
+    → callsSinceLastAcceptedOpening (m ∷ ms) ≡ callsSinceLastAcceptedOpening ms
+unfolding callsSinceLastAcceptedOpening
+anew-since m ms a = elim (bool-cases (hasAcceptedOpening ms)) [
   | inl e ↦ if-yes _ _ e
   | inr e ↦ if-no _ _ e ∙ if-yes _ _ a ∙ sym (none-since ms e)
 ]
 
 -- ---- from a session s on: the calls x are session's, and the bytes l after them hold its session
 
-record Since (before : List ℕ) (s : Session) (x : List CompletedCall) (l : List ℕ) : Type 0 where
-  words : x ≡ map asCompleted (playCalls s (sessionCalls x))
-  after : l ≡ withSessionRecord (finalSession s (sessionCalls x)) before
+record Since (before : List ℕ) (s : Session) (x : List HostCallMade) (l : List ℕ) : Type 0 where
+  words : x ≡ map hostViewOfCall (playCalls s (sessionCallsAmong x))
+  after : l ≡ sessionWrittenOverFrontIfRoom (finalSession s (sessionCallsAmong x)) before
 
-moved : {b : List ℕ} {s t : Session} {x y : List CompletedCall} {l : List ℕ} → s ≡ t → x ≡ y
+moved : {b : List ℕ} {s t : Session} {x y : List HostCallMade} {l : List ℕ} → s ≡ t → x ≡ y
     → Since b s x l → Since b t y l
 moved {b} {s} {t} {x} {y} {l} p q h =
-    subst (λ (z : List CompletedCall). Since b t z l) q (subst (λ (z : Session). Since b z x l) p h)
+    subst (λ (z : List HostCallMade). Since b t z l) q (subst (λ (z : Session). Since b z x l) p h)
 
 -- a session's call as the host sees it, and one more at the front
-abbrev called : Session → Call → CompletedCall
-called s c = asCompleted (callMade s c (callStep s c))
+abbrev called : Session → Call → HostCallMade
+called s c = hostViewOfCall (callMade s c (callStep s c))
 
-longer : {b : List ℕ} (s : Session) (c : Call) {x : List CompletedCall} {l : List ℕ}
+longer : {b : List ℕ} (s : Session) (c : Call) {x : List HostCallMade} {l : List ℕ}
     → Since b (callStep s c .reply .session) x l → Since b s (called s c ∷ x) l
-unfolding playCalls finalSession sessionCalls
-longer s c h = record { words = ap (λ (y : List CompletedCall). called s c ∷ y) (h .words); after = h .after }
+unfolding playCalls finalSession sessionCallsAmong
+longer s c h = record { words = ap (λ (y : List HostCallMade). called s c ∷ y) (h .words); after = h .after }
 
 -- all calls of a list from s on, and none of them refused with 25
-record Through (before : List ℕ) (s : Session) (ms : List CompletedCall) (l : List ℕ) : Type 0 where
-  since : Since before (origin (openingAmong ms) s) (sinceOpening ms) l
-  not-25 : every isNotRanges ms ≡ true
+record Through (before : List ℕ) (s : Session) (ms : List HostCallMade) (l : List ℕ) : Type 0 where
+  since : Since before (origin (hasAcceptedOpening ms) s) (callsSinceLastAcceptedOpening ms) l
+  not-25 : every hostCallNotRefusedWith25 ms ≡ true
 
 -- an accepted opening at the front: the rest is from a fresh session on
-after-opening : {b : List ℕ} (s : Session) {ms : List CompletedCall} {l : List ℕ}
+after-opening : {b : List ℕ} (s : Session) {ms : List HostCallMade} {l : List ℕ}
     → Through b freshSession ms l → Through b s (completedCall opening 0 [] ∷ ms) l
-unfolding openingAmong both every
+unfolding hasAcceptedOpening both every
 after-opening s {ms} t =
     record {
       since = moved
-          (origin-fresh (openingAmong ms)
-          ∙ sym (ap (λ (x : Bool). origin x s) (either-left true (openingAmong ms) refl)))
+          (origin-fresh (hasAcceptedOpening ms)
+          ∙ sym (ap (λ (x : Bool). origin x s) (either-left true (hasAcceptedOpening ms) refl)))
           (sym (anew-since (completedCall opening 0 []) ms refl)) (t .since);
       not-25 = t .not-25;
     }
 
 -- a call of the session at the front
-among : (s : Session) (c : Call) (ms : List CompletedCall) → openingAmong (called s c ∷ ms) ≡ openingAmong ms
-unfolding openingAmong both
-among s c ms = either-false (openingAmong ms) refl
+among : (s : Session) (c : Call) (ms : List HostCallMade) → hasAcceptedOpening (called s c ∷ ms) ≡ hasAcceptedOpening ms
+unfolding hasAcceptedOpening both
+among s c ms = either-false (hasAcceptedOpening ms) refl
 
-call-since : {b : List ℕ} (s : Session) (c : Call) {ms : List CompletedCall} {l : List ℕ}
+call-since : {b : List ℕ} (s : Session) (c : Call) {ms : List HostCallMade} {l : List ℕ}
     → Through b (callStep s c .reply .session) ms l
-    → Since b (origin (openingAmong (called s c ∷ ms)) s) (sinceOpening (called s c ∷ ms)) l
-unfolding sinceOpening both
-call-since s c {ms} t = elim (bool-cases (openingAmong ms)) [
+    → Since b (origin (hasAcceptedOpening (called s c ∷ ms)) s) (callsSinceLastAcceptedOpening (called s c ∷ ms)) l
+unfolding callsSinceLastAcceptedOpening both
+call-since s c {ms} t = elim (bool-cases (hasAcceptedOpening ms)) [
   | inl e ↦
       moved
       (ap (λ (x : Bool). origin x (callStep s c .reply .session)) e
@@ -131,41 +131,41 @@ call-since s c {ms} t = elim (bool-cases (openingAmong ms)) [
       (longer s c (moved (ap (λ (x : Bool). origin x (callStep s c .reply .session)) e) (none-since ms e) (t .since)))
 ]
 
-after-call : {b : List ℕ} (s : Session) (c : Call) {ms : List CompletedCall} {l : List ℕ}
-    → isNotRanges (called s c) ≡ true → Through b (callStep s c .reply .session) ms l → Through b s (called s c ∷ ms) l
+after-call : {b : List ℕ} (s : Session) (c : Call) {ms : List HostCallMade} {l : List ℕ}
+    → hostCallNotRefusedWith25 (called s c) ≡ true → Through b (callStep s c .reply .session) ms l → Through b s (called s c ∷ ms) l
 unfolding every
 after-call s c n t = record { since = call-since s c t; not-25 = both-yes _ _ n (t .not-25) }
 
 -- ---- no word of a session in its ranges is that of refusal 25
 
-other-word : (a : CallResult) → Small a → Other a → not (eqb (resultWord a) (refusalWord refusedRanges)) ≡ true
-other-word a h o = ap not (ne-eqb (resultWord a) (refusalWord refusedRanges) (apart a h o))
+other-word : (a : CallResult) → Small a → Other a → not (eqb (resultWord a) (refusalWord refusalRecordOutOfRanges)) ≡ true
+other-word a h o = ap not (ne-eqb (resultWord a) (refusalWord refusalRecordOutOfRanges) (apart a h o))
   where
-    apart : (a : CallResult) → Small a → Other a → resultWord a ≡ refusalWord refusedRanges → ⊥
+    apart : (a : CallResult) → Small a → Other a → resultWord a ≡ refusalWord refusalRecordOutOfRanges → ⊥
     apart (CallResult.Command c) h o e = omega (arith, command-below (c .size))
-    apart (CallResult.Outcome x) h o e = let k = outcome-kind x (omega arith) in let m = ap wordKind e in omega arith
+    apart (CallResult.Outcome x) h o e = let k = outcome-kind x (omega arith) in let m = ap resultWordKind e in omega arith
     apart (CallResult.Refused r) h o e = o (omega arith)
 
 -- ---- every list of calls
 
-final-keeps : (s : Session) (cs : List Call) → inRanges s ≡ true → inRanges (finalSession s cs) ≡ true
+final-keeps : (s : Session) (cs : List Call) → sessionRecordInRanges s ≡ true → sessionRecordInRanges (finalSession s cs) ≡ true
 unfolding finalSession
 final-keeps s [] i = i
 final-keeps s (c ∷ cs) i = final-keeps (callStep s c .reply .session) cs (call-keeps s c i)
 
-module _ (before : List ℕ) (enough : recordSize ≤ length before) where
+module _ (before : List ℕ) (enough : sessionRecordSize ≤ length before) where
   -- a call that does h, and the calls of a list after it
   abbrev AllOf : Session → HostCall → List HostCall → HostResult → Type 0
   AllOf s c cs h =
-      Through before s (completedCall c (h .word) (h .buffer) ∷ completedCalls (h .session) cs)
-      (bytesAfter (h .session) cs)
+      Through before s (completedCall c (h .word) (h .buffer) ∷ playHostCalls (h .session) cs)
+      (finalSessionBytes (h .session) cs)
 
-  through : (cs : List HostCall) (s : Session) → inRanges s ≡ true
-      → Through before s (completedCalls (withSessionRecord s before) cs) (bytesAfter (withSessionRecord s before) cs)
-  unfolding completedCalls bytesAfter openingAmong sinceOpening playCalls finalSession sessionCalls every
+  through : (cs : List HostCall) (s : Session) → sessionRecordInRanges s ≡ true
+      → Through before s (playHostCalls (sessionWrittenOverFrontIfRoom s before) cs) (finalSessionBytes (sessionWrittenOverFrontIfRoom s before) cs)
+  unfolding playHostCalls finalSessionBytes hasAcceptedOpening callsSinceLastAcceptedOpening playCalls finalSession sessionCallsAmong every
   through [] s i = record { since = record { words = refl; after = refl }; not-25 = refl }
   through (opening ∷ cs) s i =
-      let w : hostOpenWord (withSessionRecord s before) ≡ 0 = if-yes _ _ (le-leb recordSize _ (record-enough s i before enough)) in
+      let w : hostOpenWord (sessionWrittenOverFrontIfRoom s before) ≡ 0 = if-yes _ _ (le-leb sessionRecordSize _ (record-enough s i before enough)) in
       let o = record-over s i before enough freshSession in
       subst (AllOf s opening cs) (λ j. record { word = sym w j; session = sym o j; buffer = [] })
       (after-opening s (through cs freshSession fresh-keeps))
@@ -175,49 +175,49 @@ module _ (before : List ℕ) (enough : recordSize ≤ length before) where
       let n = other-word (callStep s c .reply .answer) (step-small s c) (never-ranges s c i) in
       subst (AllOf s (on-session c) cs)
       ((λ j. record { word = called s c .word; session = sym o j; buffer = called s c .buffer })
-      ∙ sym (as-session (withSessionRecord s before) s c (record-held s i before enough)))
+      ∙ sym (as-session (sessionWrittenOverFrontIfRoom s before) s c (record-held s i before enough)))
       (after-call s c n (through cs t (call-keeps s c i)))
 
   -- the calls since the last accepted opening, as session's
-  module _ {x : List CompletedCall} {l : List ℕ} (h : Since before freshSession x l) where
+  module _ {x : List HostCallMade} {l : List ℕ} (h : Since before freshSession x l) where
     abbrev cs : List Call
-    cs = sessionCalls x
+    cs = sessionCallsAmong x
 
-    ranges : inRanges (finalSession freshSession cs) ≡ true
+    ranges : sessionRecordInRanges (finalSession freshSession cs) ≡ true
     ranges = final-keeps freshSession cs fresh-keeps
 
-    same-session : SameAsSession before x l
+    same-session : HostCallsSameAsSessionCalls before x l
     same-session =
         record {
           words = h .words;
           record-after = h .after;
-          behind = ap (drop recordSize) (h .after) ∙ record-behind (finalSession freshSession cs) ranges before enough;
+          behind = ap (drop sessionRecordSize) (h .after) ∙ record-behind (finalSession freshSession cs) ranges before enough;
           proper = session-proper cs;
-          same-commands = ap hostCommands (h .words) ∙ commands-same cs;
-          same-taken = ap notRefused (h .words) ∙ taken-same cs;
-          same-unanswered = ap hostUnanswered (h .words) ∙ unanswered-same cs;
-          same-afl = ap (λ (xs : List CompletedCall). hostAfl (firstAnswerCall (notRefused xs))) (h .words) ∙ afl-same cs;
-          same-last-kind = ap (λ (xs : List CompletedCall). hostLastKind (firstAnswerCall (notRefused xs))) (h .words) ∙ last-kind-same cs;
+          same-commands = ap hostCommandsHandedOut (h .words) ∙ commands-same cs;
+          same-taken = ap hostCallsNotRefused (h .words) ∙ taken-same cs;
+          same-unanswered = ap hostUnansweredCommands (h .words) ∙ unanswered-same cs;
+          same-afl = ap (λ (xs : List HostCallMade). hostAflAcceptedFromGpoAnswer (firstAnswerCall (hostCallsNotRefused xs))) (h .words) ∙ afl-same cs;
+          same-last-kind = ap (λ (xs : List HostCallMade). hostFinalCommandKindByGpoAnswer (firstAnswerCall (hostCallsNotRefused xs))) (h .words) ∙ last-kind-same cs;
         }
 
-    since-proper : HostDemand3 x l
+    since-proper : HostCallsAndBytesAfterInPublishedOrder x l
     since-proper =
-        subst (λ (y : List CompletedCall). HostDemand3 y l) (sym (h .words))
+        subst (λ (y : List HostCallMade). HostCallsAndBytesAfterInPublishedOrder y l) (sym (h .words))
         (words-proper cs l (ap decodedSession (h .after) ∙ record-held (finalSession freshSession cs) ranges before enough))
 
 -- an opening that gives 0 was accepted: the bytes are enough
-accepted-enough : (l : List ℕ) → hostOpenWord l ≡ 0 → recordSize ≤ length l
-accepted-enough l e = elim (bool-cases (leb recordSize (length l))) [
-  | inl t ↦ leb-true recordSize (length l) t
-  | inr t ↦ let q : refusalWord refusedRanges ≡ 0 = sym (if-no _ _ t) ∙ e in absurd (omega arith)
+accepted-enough : (l : List ℕ) → hostOpenWord l ≡ 0 → sessionRecordSize ≤ length l
+accepted-enough l e = elim (bool-cases (leb sessionRecordSize (length l))) [
+  | inl t ↦ leb-true sessionRecordSize (length l) t
+  | inr t ↦ let q : refusalWord refusalRecordOutOfRanges ≡ 0 = sym (if-no _ _ t) ∙ e in absurd (omega arith)
 ]
 
 pub always : (before l : List ℕ) (cs : List HostCall) → HostOpened 0 before l
-    → HostClaim before (completedCalls l cs) (bytesAfter l cs)
+    → HostCallsInOrderAndAsSessionCalls before (playHostCalls l cs) (finalSessionBytes l cs)
 always before l cs e =
     let n = accepted-enough before (sym (e .word)) in
     let t = subst
-    (λ (y : List ℕ). Through before freshSession (completedCalls y cs) (bytesAfter y cs))
+    (λ (y : List ℕ). Through before freshSession (playHostCalls y cs) (finalSessionBytes y cs))
     (sym (e .session)) (through before n cs freshSession fresh-keeps) in
-    let h = moved (origin-fresh (openingAmong (completedCalls l cs))) refl (t .since) in
+    let h = moved (origin-fresh (hasAcceptedOpening (playHostCalls l cs))) refl (t .since) in
     record { demand-3 = since-proper before n h; as-session = same-session before n h; never-25 = t .not-25 }

@@ -7,9 +7,9 @@ use mathlib.Core.List.{List, [], _∷_, map}
 use Prim.Native.Nat.{ℕ}
 use Rattle.basics.specs.Choice.{if, both, either}
 use Rattle.session.specs.Calls.{start, answer, link-failed}
-use Rattle.host_claim.specs.Calls.{opening, on-session, CompletedCall}
+use Rattle.host_claim.specs.Calls.{opening, on-session, HostCallMade}
 use Rattle.host_claim.proofs.Read.{completedCall}
-use Rattle.host_claim.specs.Words.{isCommandWord, isOutcomeWord, isRefusalWord, openingAmong, sinceOpening, hostCommands, notRefused, answerAmong, withoutAnswer, hostUnanswered}
+use Rattle.host_claim.specs.Words.{isCommandWord, isOutcomeWord, isRefusalWord, hasAcceptedOpening, callsSinceLastAcceptedOpening, hostCommandsHandedOut, hostCallsNotRefused, hasAnswerCall, hostCommandsWithNoLaterAnswer, hostUnansweredCommands}
 
 -- a command of 8 and of 261 bytes; approved with no CVM, with a signature; ended by a failed link; refusals 21 and 25
 abbrev some-words : List ℕ
@@ -25,43 +25,43 @@ kinds-refusal : map isRefusalWord some-words ≡ false ∷ false ∷ false ∷ f
 kinds-refusal = refl
 
 -- a start that hands out two bytes, a second one that is refused (21), an answer that hands out three, the link fails
-abbrev first : CompletedCall
+abbrev first : HostCallMade
 first = completedCall (on-session (start [] [])) 2 (1 ∷ 2 ∷ 9 ∷ 9 ∷ [])
 
-abbrev again : CompletedCall
+abbrev again : HostCallMade
 again = completedCall (on-session (start [] [])) 0x20015 (9 ∷ 9 ∷ [])
 
-abbrev next : CompletedCall
+abbrev next : HostCallMade
 next = completedCall (on-session (answer [] [])) 3 (3 ∷ 4 ∷ 5 ∷ 9 ∷ [])
 
-abbrev broken : CompletedCall
+abbrev broken : HostCallMade
 broken = completedCall (on-session (link-failed [])) 0x0F010309 []
 
-sent : hostCommands (first ∷ again ∷ next ∷ broken ∷ []) ≡ (1 ∷ 2 ∷ []) ∷ (3 ∷ 4 ∷ 5 ∷ []) ∷ []
-unfolding hostCommands if
+sent : hostCommandsHandedOut (first ∷ again ∷ next ∷ broken ∷ []) ≡ (1 ∷ 2 ∷ []) ∷ (3 ∷ 4 ∷ 5 ∷ []) ∷ []
+unfolding hostCommandsHandedOut if
 sent = refl
 
-not-refused : notRefused (first ∷ again ∷ next ∷ broken ∷ []) ≡ first ∷ next ∷ broken ∷ []
-unfolding notRefused if
+not-refused : hostCallsNotRefused (first ∷ again ∷ next ∷ broken ∷ []) ≡ first ∷ next ∷ broken ∷ []
+unfolding hostCallsNotRefused if
 not-refused = refl
 
 -- the answer leaves its own command unanswered; a refused one answers nothing
-unanswered-next : hostUnanswered (first ∷ again ∷ next ∷ []) ≡ (3 ∷ 4 ∷ 5 ∷ []) ∷ []
-unfolding hostUnanswered notRefused withoutAnswer answerAmong if either
+unanswered-next : hostUnansweredCommands (first ∷ again ∷ next ∷ []) ≡ (3 ∷ 4 ∷ 5 ∷ []) ∷ []
+unfolding hostUnansweredCommands hostCallsNotRefused hostCommandsWithNoLaterAnswer hasAnswerCall if either
 unanswered-next = refl
 
-unanswered-first : hostUnanswered (first ∷ completedCall (on-session (answer [] [])) 0x20016 [] ∷ [])
+unanswered-first : hostUnansweredCommands (first ∷ completedCall (on-session (answer [] [])) 0x20016 [] ∷ [])
     ≡ (1 ∷ 2 ∷ []) ∷ []
-unfolding hostUnanswered notRefused withoutAnswer answerAmong if either
+unfolding hostUnansweredCommands hostCallsNotRefused hostCommandsWithNoLaterAnswer hasAnswerCall if either
 unanswered-first = refl
 
 -- an opening begins anew, one that is refused (25) does not
-anew : sinceOpening (first ∷ completedCall opening 0 [] ∷ again ∷ completedCall opening 0 [] ∷ first ∷ next ∷ [])
+anew : callsSinceLastAcceptedOpening (first ∷ completedCall opening 0 [] ∷ again ∷ completedCall opening 0 [] ∷ first ∷ next ∷ [])
     ≡ first ∷ next ∷ []
-unfolding sinceOpening openingAmong if both either
+unfolding callsSinceLastAcceptedOpening hasAcceptedOpening if both either
 anew = refl
 
-not-anew : sinceOpening (first ∷ completedCall opening 0x20019 [] ∷ next ∷ [])
+not-anew : callsSinceLastAcceptedOpening (first ∷ completedCall opening 0x20019 [] ∷ next ∷ [])
     ≡ first ∷ completedCall opening 0x20019 [] ∷ next ∷ []
-unfolding sinceOpening openingAmong if both either
+unfolding callsSinceLastAcceptedOpening hasAcceptedOpening if both either
 not-anew = refl

@@ -13,13 +13,13 @@ use Rattle.session_record.proofs.Phases.{fresh-keeps}
 use Rattle.layout.specs.Layout.{decodedSession}
 use Rattle.session_claim.specs.Calls.{commandsSent, callsAccepted, unansweredCommands, lastElement}
 use Rattle.session.specs.Calls.{Call, CallMade, playCalls, finalSession}
-use Rattle.session_claim.specs.Order.{commandKind, firstAnswer, publishedOrder, lastKind, acceptedAfl}
-use Rattle.session_claim.specs.Claim.{mostCommandsFor, SessionProper}
+use Rattle.session_claim.specs.Order.{commandKind, firstAnswer, publishedOrder, finalCommandKindByGpoAnswer, aflAcceptedFromGpoAnswer}
+use Rattle.session_claim.specs.Claim.{mostCommandsForAcceptedAfl, CallsAndSessionAfterInPublishedOrder}
 use Rattle.session_claim.proofs.Trace.{always}
-use Rattle.host.specs.Hosted.{countWord}
-use Rattle.host_claim.specs.Calls.{CompletedCall}
-use Rattle.host_claim.specs.Words.{hostCommands, notRefused, hostUnanswered, firstAnswerCall, hostAfl, hostLastKind}
-use Rattle.host_claim.specs.Claim.{HostDemand3, asCompleted}
+use Rattle.host.specs.Hosted.{commandCountOrAllOnes}
+use Rattle.host_claim.specs.Calls.{HostCallMade}
+use Rattle.host_claim.specs.Words.{hostCommandsHandedOut, hostCallsNotRefused, hostUnansweredCommands, firstAnswerCall, hostAflAcceptedFromGpoAnswer, hostFinalCommandKindByGpoAnswer}
+use Rattle.host_claim.specs.Claim.{HostCallsAndBytesAfterInPublishedOrder, hostViewOfCall}
 use Rattle.host_claim.proofs.Read.{All, Known, play-known, read-commands, read-taken, read-unanswered, read-last-kind, read-stage}
 use Rattle.host_claim.proofs.Afl.{read-afl}
 
@@ -27,8 +27,8 @@ module _ (cs : List Call) where
   abbrev ms : List CallMade
   ms = playCalls freshSession cs
 
-  abbrev hs : List CompletedCall
-  hs = map asCompleted ms
+  abbrev hs : List HostCallMade
+  hs = map hostViewOfCall ms
 
   abbrev last : Session
   last = finalSession freshSession cs
@@ -36,31 +36,31 @@ module _ (cs : List Call) where
   known : All Known ms
   known = play-known freshSession cs
 
-  pub session-proper : SessionProper ms last
+  pub session-proper : CallsAndSessionAfterInPublishedOrder ms last
   session-proper = always freshSession cs refl fresh-keeps
 
-  pub commands-same : hostCommands hs ≡ commandsSent ms
+  pub commands-same : hostCommandsHandedOut hs ≡ commandsSent ms
   commands-same = read-commands ms known
 
-  pub taken-same : notRefused hs ≡ map asCompleted (callsAccepted ms)
+  pub taken-same : hostCallsNotRefused hs ≡ map hostViewOfCall (callsAccepted ms)
   taken-same = read-taken ms known
 
-  pub unanswered-same : hostUnanswered hs ≡ unansweredCommands ms
+  pub unanswered-same : hostUnansweredCommands hs ≡ unansweredCommands ms
   unanswered-same = read-unanswered ms known
 
-  pub afl-same : hostAfl (firstAnswerCall (notRefused hs)) ≡ acceptedAfl (firstAnswer (callsAccepted ms))
+  pub afl-same : hostAflAcceptedFromGpoAnswer (firstAnswerCall (hostCallsNotRefused hs)) ≡ aflAcceptedFromGpoAnswer (firstAnswer (callsAccepted ms))
   afl-same = read-afl cs
 
-  pub last-kind-same : hostLastKind (firstAnswerCall (notRefused hs)) ≡ lastKind (firstAnswer (callsAccepted ms))
+  pub last-kind-same : hostFinalCommandKindByGpoAnswer (firstAnswerCall (hostCallsNotRefused hs)) ≡ finalCommandKindByGpoAnswer (firstAnswer (callsAccepted ms))
   last-kind-same = read-last-kind ms known
 
-  taken-number : length (notRefused hs) ≡ length (callsAccepted ms)
-  taken-number = ap length taken-same ∙ length-map (callsAccepted ms) asCompleted
+  taken-number : length (hostCallsNotRefused hs) ≡ length (callsAccepted ms)
+  taken-number = ap length taken-same ∙ length-map (callsAccepted ms) hostViewOfCall
 
-  number : length (hostCommands hs) ≡ length (commandsSent ms)
+  number : length (hostCommandsHandedOut hs) ≡ length (commandsSent ms)
   number = ap length commands-same
 
-  pub words-proper : (l : List ℕ) → decodedSession l ≡ some last → HostDemand3 hs l
+  pub words-proper : (l : List ℕ) → decodedSession l ≡ some last → HostCallsAndBytesAfterInPublishedOrder hs l
   words-proper l e =
       let p = session-proper in
       record {
@@ -68,8 +68,8 @@ module _ (cs : List Call) where
         held = e;
         order = ap (map commandKind) commands-same ∙ p .order
             ∙ (λ i. take (length (sym commands-same i)) (publishedOrder (sym last-kind-same i) (sym afl-same i)));
-        count = ap countWord e ∙ p .count ∙ sym number;
-        bound = omega (arith, p .bound, number, ap mostCommandsFor afl-same);
+        count = ap commandCountOrAllOnes e ∙ p .count ∙ sym number;
+        bound = omega (arith, p .bound, number, ap mostCommandsForAcceptedAfl afl-same);
         never-over = omega (arith, p .never-over, number);
         stage = p .stage ∙ sym (read-stage ms known);
         one-unanswered = λ w. ap length unanswered-same ∙ p .one-unanswered w;

@@ -14,57 +14,57 @@ use Rattle.basics.specs.Choice.{if, either}
 use Rattle.basics.proofs.Laws.{if-yes, if-no, if-ap, if-ind}
 use Rattle.session_record.specs.declared.CallResult.{CallResult}
 use Rattle.session_record.specs.declared.Session.{Session}
-use Rattle.layout.specs.Word.{wordKind, kindCommand, kindOutcome, kindRefusal, resultWord}
-use Rattle.session_claim.specs.Calls.{commandsSent, callsAccepted, lastElement, isAnswer, hasAnswer, notAnswered, unansweredCommands}
+use Rattle.layout.specs.Word.{resultWordKind, wordKindCommand, wordKindOutcome, wordKindRefusal, resultWord}
+use Rattle.session_claim.specs.Calls.{commandsSent, callsAccepted, lastElement, isAnswer, hasAnswer, commandsWithNoLaterAnswer, unansweredCommands}
 use Rattle.session.specs.Calls.{Call, start, answer, link-failed, stop, callStep, CallMade, playCalls, isRefusal, callResult, callRefused, commandSent}
 use Rattle.session.proofs.Results.{isCommand, isOutcome}
-use Rattle.session_claim.specs.Order.{firstAnswer, lastKind}
-use Rattle.session_claim.specs.Claim.{stageBy, stageAfter}
+use Rattle.session_claim.specs.Order.{firstAnswer, finalCommandKindByGpoAnswer}
+use Rattle.session_claim.specs.Claim.{stageAfterAcceptedResult, stageAfterLastAcceptedCall}
 use Rattle.host.proofs.Sizes.{Small, SmallStep, start-small, answer-small, link-small, stop-small}
 use Rattle.host.proofs.Laws.{tells}
-use Rattle.host_claim.specs.Calls.{HostCall, CompletedCall}
-use Rattle.host_claim.specs.Words.{isCommandWord, isOutcomeWord, isRefusalWord, hostCommands, notRefused, answerAmong, withoutAnswer, hostUnanswered, firstAnswerCall, hostLastKind, stageByWord, hostStage}
-use Rattle.host_claim.specs.Claim.{asCompleted}
+use Rattle.host_claim.specs.Calls.{HostCall, HostCallMade}
+use Rattle.host_claim.specs.Words.{isCommandWord, isOutcomeWord, isRefusalWord, hostCommandsHandedOut, hostCallsNotRefused, hasAnswerCall, hostCommandsWithNoLaterAnswer, hostUnansweredCommands, firstAnswerCall, hostFinalCommandKindByGpoAnswer, stageAfterAcceptedWord, hostStageAfterLastAcceptedCall}
+use Rattle.host_claim.specs.Claim.{hostViewOfCall}
 
 -- a call that was made, of its parts
-abbrev pub completedCall : HostCall → ℕ → List ℕ → CompletedCall
+abbrev pub completedCall : HostCall → ℕ → List ℕ → HostCallMade
 completedCall c w buf = record { call = c; word = w; buffer = buf }
 
 -- ---- a word
 
 -- the number of its kind
 abbrev kindNumber : CallResult → ℕ
-kindNumber (CallResult.Command c) = kindCommand
-kindNumber (CallResult.Outcome e) = kindOutcome
-kindNumber (CallResult.Refused r) = kindRefusal
+kindNumber (CallResult.Command c) = wordKindCommand
+kindNumber (CallResult.Outcome e) = wordKindOutcome
+kindNumber (CallResult.Refused r) = wordKindRefusal
 
-kind-is : (a : CallResult) → Small a → wordKind (resultWord a) ≡ kindNumber a
+kind-is : (a : CallResult) → Small a → resultWordKind (resultWord a) ≡ kindNumber a
 kind-is (CallResult.Command c) h = tells (CallResult.Command c) h .2
 kind-is (CallResult.Outcome e) h = tells (CallResult.Outcome e) h .1
 kind-is (CallResult.Refused r) h = tells (CallResult.Refused r) h .1
 
 -- so the word's kind is compared as the answer's is
 module _ (a : CallResult) (h : Small a) (n : ℕ) where
-  kind-read : eqb (wordKind (resultWord a)) n ≡ eqb (kindNumber a) n
+  kind-read : eqb (resultWordKind (resultWord a)) n ≡ eqb (kindNumber a) n
   kind-read = ap (λ (k : ℕ). eqb k n) (kind-is a h)
 
 pub word-command : (a : CallResult) → Small a → isCommandWord (resultWord a) ≡ isCommand a
-word-command (CallResult.Command c) h = kind-read (CallResult.Command c) h kindCommand
-word-command (CallResult.Outcome e) h = kind-read (CallResult.Outcome e) h kindCommand
-word-command (CallResult.Refused r) h = kind-read (CallResult.Refused r) h kindCommand
+word-command (CallResult.Command c) h = kind-read (CallResult.Command c) h wordKindCommand
+word-command (CallResult.Outcome e) h = kind-read (CallResult.Outcome e) h wordKindCommand
+word-command (CallResult.Refused r) h = kind-read (CallResult.Refused r) h wordKindCommand
 
 word-outcome : (a : CallResult) → Small a → isOutcomeWord (resultWord a) ≡ isOutcome a
-word-outcome (CallResult.Command c) h = kind-read (CallResult.Command c) h kindOutcome
-word-outcome (CallResult.Outcome e) h = kind-read (CallResult.Outcome e) h kindOutcome
-word-outcome (CallResult.Refused r) h = kind-read (CallResult.Refused r) h kindOutcome
+word-outcome (CallResult.Command c) h = kind-read (CallResult.Command c) h wordKindOutcome
+word-outcome (CallResult.Outcome e) h = kind-read (CallResult.Outcome e) h wordKindOutcome
+word-outcome (CallResult.Refused r) h = kind-read (CallResult.Refused r) h wordKindOutcome
 
 word-refusal : (a : CallResult) → Small a → isRefusalWord (resultWord a) ≡ isRefusal a
-word-refusal (CallResult.Command c) h = kind-read (CallResult.Command c) h kindRefusal
-word-refusal (CallResult.Outcome e) h = kind-read (CallResult.Outcome e) h kindRefusal
-word-refusal (CallResult.Refused r) h = kind-read (CallResult.Refused r) h kindRefusal
+word-refusal (CallResult.Command c) h = kind-read (CallResult.Command c) h wordKindRefusal
+word-refusal (CallResult.Outcome e) h = kind-read (CallResult.Outcome e) h wordKindRefusal
+word-refusal (CallResult.Refused r) h = kind-read (CallResult.Refused r) h wordKindRefusal
 
 -- the stage that a word reports is the one of the answer
-word-stage : (a : CallResult) → Small a → stageByWord (resultWord a) ≡ stageBy a
+word-stage : (a : CallResult) → Small a → stageAfterAcceptedWord (resultWord a) ≡ stageAfterAcceptedResult a
 word-stage (CallResult.Command c) h = if-yes _ _ (word-command (CallResult.Command c) h)
 word-stage (CallResult.Outcome e) h = if-no _ _ (word-command (CallResult.Outcome e) h) ∙ if-yes _ _ (word-outcome (CallResult.Outcome e) h)
 word-stage (CallResult.Refused r) h = if-no _ _ (word-command (CallResult.Refused r) h) ∙ if-no _ _ (word-outcome (CallResult.Refused r) h)
@@ -135,28 +135,28 @@ last-all P (x ∷ y ∷ ms) m k e = last-all P (y ∷ ms) m (k .1) e
 
 -- ---- the readings
 
-pub read-commands : (ms : List CallMade) → All Known ms → hostCommands (map asCompleted ms) ≡ commandsSent ms
-unfolding hostCommands commandsSent
+pub read-commands : (ms : List CallMade) → All Known ms → hostCommandsHandedOut (map hostViewOfCall ms) ≡ commandsSent ms
+unfolding hostCommandsHandedOut commandsSent
 read-commands [] k = refl
 read-commands (m ∷ ms) k =
     ap₂ (λ (x y : List (List ℕ)). x ++ y) (command-read (callResult m) (m .step .buffer) (k .0 .small))
     (read-commands ms (k .1))
 
-pub read-taken : (ms : List CallMade) → All Known ms → notRefused (map asCompleted ms) ≡ map asCompleted (callsAccepted ms)
-unfolding notRefused callsAccepted
+pub read-taken : (ms : List CallMade) → All Known ms → hostCallsNotRefused (map hostViewOfCall ms) ≡ map hostViewOfCall (callsAccepted ms)
+unfolding hostCallsNotRefused callsAccepted
 read-taken [] k = refl
 read-taken (m ∷ ms) k =
-    ap₂ (λ (b : Bool) (x : List CompletedCall). if b x (asCompleted m ∷ x)) (word-refusal (callResult m) (k .0 .small))
+    ap₂ (λ (b : Bool) (x : List HostCallMade). if b x (hostViewOfCall m ∷ x)) (word-refusal (callResult m) (k .0 .small))
     (read-taken ms (k .1))
-    ∙ sym (if-ap (map asCompleted) (callRefused m) (callsAccepted ms) (m ∷ callsAccepted ms))
+    ∙ sym (if-ap (map hostViewOfCall) (callRefused m) (callsAccepted ms) (m ∷ callsAccepted ms))
 
-read-answers : (ms : List CallMade) → answerAmong (map asCompleted ms) ≡ hasAnswer ms
-unfolding answerAmong hasAnswer
+read-answers : (ms : List CallMade) → hasAnswerCall (map hostViewOfCall ms) ≡ hasAnswer ms
+unfolding hasAnswerCall hasAnswer
 read-answers [] = refl
 read-answers (m ∷ ms) = ap (either (isAnswer (m .call))) (read-answers ms)
 
-read-out : (ms : List CallMade) → All Known ms → withoutAnswer (map asCompleted ms) ≡ notAnswered ms
-unfolding withoutAnswer notAnswered
+read-out : (ms : List CallMade) → All Known ms → hostCommandsWithNoLaterAnswer (map hostViewOfCall ms) ≡ commandsWithNoLaterAnswer ms
+unfolding hostCommandsWithNoLaterAnswer commandsWithNoLaterAnswer
 read-out [] k = refl
 read-out (m ∷ ms) k =
     let c = command-read (callResult m) (m .step .buffer) (k .0 .small) in
@@ -167,46 +167,46 @@ known-of : (ms : List CallMade) → All (λ m. Known m × (callRefused m ≡ fal
 known-of [] k = tt
 known-of (m ∷ ms) k = (k .0 .0, known-of ms (k .1))
 
-pub read-unanswered : (ms : List CallMade) → All Known ms → hostUnanswered (map asCompleted ms) ≡ unansweredCommands ms
-unfolding hostUnanswered unansweredCommands
+pub read-unanswered : (ms : List CallMade) → All Known ms → hostUnansweredCommands (map hostViewOfCall ms) ≡ unansweredCommands ms
+unfolding hostUnansweredCommands unansweredCommands
 read-unanswered ms k =
-    ap withoutAnswer (read-taken ms k) ∙ read-out (callsAccepted ms) (known-of (callsAccepted ms) (taken-all Known ms k))
+    ap hostCommandsWithNoLaterAnswer (read-taken ms k) ∙ read-out (callsAccepted ms) (known-of (callsAccepted ms) (taken-all Known ms k))
 
 -- the first answer and the last call, if there is one
-abbrev pub asRead : Option CallMade → Option CompletedCall
+abbrev pub asRead : Option CallMade → Option HostCallMade
 asRead none = none
-asRead (some m) = some (asCompleted m)
+asRead (some m) = some (hostViewOfCall m)
 
-read-first : (ms : List CallMade) → firstAnswerCall (map asCompleted ms) ≡ asRead (firstAnswer ms)
+read-first : (ms : List CallMade) → firstAnswerCall (map hostViewOfCall ms) ≡ asRead (firstAnswer ms)
 unfolding firstAnswerCall firstAnswer
 read-first [] = refl
 read-first (m ∷ ms) =
-    ap (if (isAnswer (m .call)) (some (asCompleted m))) (read-first ms)
+    ap (if (isAnswer (m .call)) (some (hostViewOfCall m))) (read-first ms)
     ∙ sym (if-ap asRead (isAnswer (m .call)) (some m) (firstAnswer ms))
 
 pub read-first-taken : (ms : List CallMade) → All Known ms
-    → firstAnswerCall (notRefused (map asCompleted ms)) ≡ asRead (firstAnswer (callsAccepted ms))
+    → firstAnswerCall (hostCallsNotRefused (map hostViewOfCall ms)) ≡ asRead (firstAnswer (callsAccepted ms))
 read-first-taken ms k = ap firstAnswerCall (read-taken ms k) ∙ read-first (callsAccepted ms)
 
-read-last : (ms : List CallMade) → lastElement (map asCompleted ms) ≡ asRead (lastElement ms)
+read-last : (ms : List CallMade) → lastElement (map hostViewOfCall ms) ≡ asRead (lastElement ms)
 unfolding lastElement
 read-last [] = refl
 read-last (x ∷ []) = refl
 read-last (x ∷ y ∷ ms) = read-last (y ∷ ms)
 
-by-kind : (x : Option CallMade) → hostLastKind (asRead x) ≡ lastKind x
+by-kind : (x : Option CallMade) → hostFinalCommandKindByGpoAnswer (asRead x) ≡ finalCommandKindByGpoAnswer x
 by-kind none = refl
 by-kind (some m) = refl
 
 pub read-last-kind : (ms : List CallMade) → All Known ms
-    → hostLastKind (firstAnswerCall (notRefused (map asCompleted ms))) ≡ lastKind (firstAnswer (callsAccepted ms))
-read-last-kind ms k = ap hostLastKind (read-first-taken ms k) ∙ by-kind (firstAnswer (callsAccepted ms))
+    → hostFinalCommandKindByGpoAnswer (firstAnswerCall (hostCallsNotRefused (map hostViewOfCall ms))) ≡ finalCommandKindByGpoAnswer (firstAnswer (callsAccepted ms))
+read-last-kind ms k = ap hostFinalCommandKindByGpoAnswer (read-first-taken ms k) ∙ by-kind (firstAnswer (callsAccepted ms))
 
 -- ---- what the last call taken says
 
-pub read-stage : (ms : List CallMade) → All Known ms → hostStage (lastElement (notRefused (map asCompleted ms))) ≡ stageAfter (lastElement (callsAccepted ms))
-read-stage ms k = ap hostStage (ap lastElement (read-taken ms k) ∙ read-last (callsAccepted ms)) ∙ go (lastElement (callsAccepted ms)) refl
+pub read-stage : (ms : List CallMade) → All Known ms → hostStageAfterLastAcceptedCall (lastElement (hostCallsNotRefused (map hostViewOfCall ms))) ≡ stageAfterLastAcceptedCall (lastElement (callsAccepted ms))
+read-stage ms k = ap hostStageAfterLastAcceptedCall (ap lastElement (read-taken ms k) ∙ read-last (callsAccepted ms)) ∙ go (lastElement (callsAccepted ms)) refl
   where
-    go : (x : Option CallMade) → lastElement (callsAccepted ms) ≡ x → hostStage (asRead x) ≡ stageAfter x
+    go : (x : Option CallMade) → lastElement (callsAccepted ms) ≡ x → hostStageAfterLastAcceptedCall (asRead x) ≡ stageAfterLastAcceptedCall x
     go none e = refl
     go (some m) e = word-stage (callResult m) (last-all Known (callsAccepted ms) m (known-of (callsAccepted ms) (taken-all Known ms k)) e .small)

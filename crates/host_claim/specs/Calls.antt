@@ -7,9 +7,9 @@ use mathlib.Core.List.{List, [], _∷_}
 use Rattle.basics.specs.Types.{Bytes, Buffer, ResultWord}
 use Rattle.session_record.specs.Session.{freshSession}
 use Rattle.session.specs.Steps.{linkFailedStep, stopStep}
-use Rattle.layout.specs.Layout.{withSessionRecord}
+use Rattle.layout.specs.Layout.{sessionWrittenOverFrontIfRoom}
 use Rattle.session.specs.Calls.{Call, start, answer, link-failed, stop}
-use Rattle.host.specs.Hosted.{HostResult, hostStepAdmitted, hostStart, hostAnswer, hostOpenWord}
+use Rattle.host.specs.Hosted.{HostResult, performHostCallIfAdmitted, hostStart, hostAnswer, hostOpenWord}
 
 -- ---- the calls
 
@@ -20,32 +20,33 @@ pub data HostCall : Type 0 where
   on-session : Call → HostCall
 
 -- what one of the four does on the session's bytes l: the promises of the exported functions
-abbrev pub callOver : Bytes → Call → HostResult
-callOver l (start bytes buf) = hostStart bytes l buf
-callOver l (answer card buf) = hostAnswer card l buf
-callOver l (link-failed buf) = hostStepAdmitted linkFailedStep l buf
-callOver l (stop buf) = hostStepAdmitted stopStep l buf
+abbrev pub hostResultOfCall : Bytes → Call → HostResult
+hostResultOfCall l (start bytes buf) = hostStart bytes l buf
+hostResultOfCall l (answer card buf) = hostAnswer card l buf
+hostResultOfCall l (link-failed buf) = performHostCallIfAdmitted linkFailedStep l buf
+hostResultOfCall l (stop buf) = performHostCallIfAdmitted stopStep l buf
 
 -- what a call does; `emv_open` has no command buffer
 abbrev pub hostStep : Bytes → HostCall → HostResult
-hostStep l opening = record { word = hostOpenWord l; session = withSessionRecord freshSession l; buffer = [] }
-hostStep l (on-session c) = callOver l c
+hostStep l opening =
+    record { word = hostOpenWord l; session = sessionWrittenOverFrontIfRoom freshSession l; buffer = [] }
+hostStep l (on-session c) = hostResultOfCall l c
 
 -- ---- a list of calls
 
 -- a call that was made, with its result word and the command buffer after it
-pub record CompletedCall : Type 0 where
+pub record HostCallMade : Type 0 where
   pub call : HostCall
   pub word : ResultWord
   pub buffer : Buffer
 
 -- the calls of a list, each on the bytes that the call before it left
-unfoldable pub completedCalls : Bytes → List HostCall → List CompletedCall
-completedCalls l [] = []
-completedCalls l (c ∷ cs) =
-    let r = hostStep l c in record { call = c; word = r .word; buffer = r .buffer } ∷ completedCalls (r .session) cs
+unfoldable pub playHostCalls : Bytes → List HostCall → List HostCallMade
+playHostCalls l [] = []
+playHostCalls l (c ∷ cs) =
+    let r = hostStep l c in record { call = c; word = r .word; buffer = r .buffer } ∷ playHostCalls (r .session) cs
 
 -- the bytes that the last call left
-unfoldable pub bytesAfter : Bytes → List HostCall → Bytes
-bytesAfter l [] = l
-bytesAfter l (c ∷ cs) = bytesAfter (hostStep l c .session) cs
+unfoldable pub finalSessionBytes : Bytes → List HostCall → Bytes
+finalSessionBytes l [] = l
+finalSessionBytes l (c ∷ cs) = finalSessionBytes (hostStep l c .session) cs

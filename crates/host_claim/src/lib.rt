@@ -9,15 +9,15 @@ ghost use Prim.Native.Nat.{ℕ};
 ghost use Rattle.session_record.specs.declared.Session.{Session};
 ghost use Rattle.session.specs.Calls.{Call, callStep};
 ghost use Rattle.layout.specs.Layout.{decodedSession};
-ghost use Rattle.host.specs.Hosted.{HostOpened, hostStepDone};
-ghost use Rattle.host_claim.specs.Calls.{HostCall, opening, callOver, hostStep, completedCalls, bytesAfter};
-ghost use Rattle.host_claim.specs.Claim.{HostClaim};
+ghost use Rattle.host.specs.Hosted.{HostOpened, hostResultOfStep};
+ghost use Rattle.host_claim.specs.Calls.{HostCall, opening, hostResultOfCall, hostStep, playHostCalls, finalSessionBytes};
+ghost use Rattle.host_claim.specs.Claim.{HostCallsInOrderAndAsSessionCalls};
 
 // Carries the claim, and does nothing.
-pub fn demand_3_over_host_calls()
+pub fn host_calls_follow_published_order()
     ensures claim { λ _. ⌜ ((before l : List ℕ) (cs : List HostCall) → HostOpened 0 before l
-        → HostClaim before (completedCalls l cs) (bytesAfter l cs)) ⌝ }
+        → HostCallsInOrderAndAsSessionCalls before (playHostCalls l cs) (finalSessionBytes l cs)) ⌝ }
     ensures open { λ _. ⌜ ((l : List ℕ) → HostOpened (hostStep l opening .word) l (hostStep l opening .session)) ⌝ }
     ensures session { λ _. ⌜ ((l : List ℕ) (s : Session) (c : Call) → decodedSession l ≡ some s
-        → callOver l c ≡ hostStepDone l (callStep s c)) ⌝ }
+        → hostResultOfCall l c ≡ hostResultOfStep l (callStep s c)) ⌝ }
 {}

@@ -14,7 +14,7 @@ use Rattle.basics.specs.Choice.{both, every}
 use Rattle.basics.proofs.Laws.{if-yes, if-no, both-yes}
 use Rattle.store.specs.Held.{isZeroByte}
 use Rattle.session.specs.Calls.{start, answer, link-failed, stop}
-use Rattle.journal.specs.Record.{journalBuffer, recordLength, recordDataIn, recordFits, isLongAnswer, longAnswer, mostAnswerInRecord, zeroPadded, lengthAndPadded, answerBody, journalCallRecord, callFrom}
+use Rattle.journal.specs.Record.{journalCommandBuffer, journalRecordLengthField, journalRecordData, journalLengthAndZeroPaddingValid, isTooLongAnswerRecord, answerOf259ZeroBytes, mostAnswerBytesInJournalRecord, zeroPadded, lengthThenPaddedBytes, answerRecordBody, journalCallRecord, callFromJournalRecord}
 use Rattle.journal.proofs.Reading.{kind-start, kind-answer, kind-link, kind-stop, long-no}
 
 zeros : (n : ℕ) → every isZeroByte (replicate n 0) ≡ true
@@ -26,40 +26,40 @@ two-bytes : (n : ℕ) → n < 65536 → n / 256 % 256 * 256 + n % 256 ≡ n
 two-bytes n h = omega arith
 
 module _ (k n : ℕ) (v : List ℕ) (f : length v ≤ n) (small : n < 65535) where
-  pub length-read : recordLength (k ∷ lengthAndPadded n v) ≡ length v
+  pub length-read : journalRecordLengthField (k ∷ lengthThenPaddedBytes n v) ≡ length v
   length-read = two-bytes (length v) (omega arith)
 
-  brought-read : recordDataIn (k ∷ lengthAndPadded n v) ≡ v
+  brought-read : journalRecordData (k ∷ lengthThenPaddedBytes n v) ≡ v
   brought-read = ap (λ (m : ℕ). take m (zeroPadded n v)) length-read ∙ take-append-seam v (replicate (n - length v) 0)
 
-  fits-read : recordFits n (k ∷ lengthAndPadded n v) ≡ true
-  unfolding recordFits
+  fits-read : journalLengthAndZeroPaddingValid n (k ∷ lengthThenPaddedBytes n v) ≡ true
+  unfolding journalLengthAndZeroPaddingValid
   fits-read =
-      both-yes _ _ (le-leb (recordLength (k ∷ lengthAndPadded n v)) n (let e = length-read in omega arith))
+      both-yes _ _ (le-leb (journalRecordLengthField (k ∷ lengthThenPaddedBytes n v)) n (let e = length-read in omega arith))
       (ap (λ (m : ℕ). every isZeroByte (drop m (zeroPadded n v))) length-read
       ∙ ap (every isZeroByte) (drop-append-seam v (replicate (n - length v) 0)) ∙ zeros (n - length v))
 
-pub start-back : (v : List ℕ) → length v ≤ 1024 → callFrom (journalCallRecord (start v journalBuffer)) ≡ some (start v journalBuffer)
+pub start-back : (v : List ℕ) → length v ≤ 1024 → callFromJournalRecord (journalCallRecord (start v journalCommandBuffer)) ≡ some (start v journalCommandBuffer)
 start-back v h =
-    kind-start _ refl ∙ if-yes _ _ (fits-read 1 1024 v h (omega arith)) ∙ ap (λ (b : List ℕ). some (start b journalBuffer)) (brought-read 1 1024 v h (omega arith))
+    kind-start _ refl ∙ if-yes _ _ (fits-read 1 1024 v h (omega arith)) ∙ ap (λ (b : List ℕ). some (start b journalCommandBuffer)) (brought-read 1 1024 v h (omega arith))
 
-pub answer-back : (v : List ℕ) → length v ≤ 258 → callFrom (journalCallRecord (answer v journalBuffer)) ≡ some (answer v journalBuffer)
+pub answer-back : (v : List ℕ) → length v ≤ 258 → callFromJournalRecord (journalCallRecord (answer v journalCommandBuffer)) ≡ some (answer v journalCommandBuffer)
 answer-back v h =
-    ap (λ (b : List ℕ). callFrom (2 ∷ b)) (if-yes _ _ (le-leb (length v) 258 h))
-    ∙ kind-answer _ refl ∙ if-no _ _ (long-no (2 ∷ lengthAndPadded 258 v) (λ z. let e = length-read 2 258 v h (omega arith) in omega arith))
-    ∙ if-yes _ _ (fits-read 2 258 v h (omega arith)) ∙ ap (λ (b : List ℕ). some (answer b journalBuffer)) (brought-read 2 258 v h (omega arith))
+    ap (λ (b : List ℕ). callFromJournalRecord (2 ∷ b)) (if-yes _ _ (le-leb (length v) 258 h))
+    ∙ kind-answer _ refl ∙ if-no _ _ (long-no (2 ∷ lengthThenPaddedBytes 258 v) (λ z. let e = length-read 2 258 v h (omega arith) in omega arith))
+    ∙ if-yes _ _ (fits-read 2 258 v h (omega arith)) ∙ ap (λ (b : List ℕ). some (answer b journalCommandBuffer)) (brought-read 2 258 v h (omega arith))
 
-long-is : isLongAnswer (2 ∷ 0xFF ∷ 0xFF ∷ replicate 258 0) ≡ true
-unfolding isLongAnswer
+long-is : isTooLongAnswerRecord (2 ∷ 0xFF ∷ 0xFF ∷ replicate 258 0) ≡ true
+unfolding isTooLongAnswerRecord
 long-is = both-yes _ _ refl (zeros 258)
 
 -- one that is too long for a record is read as such a one
-pub long-back : (v : List ℕ) → 258 < length v → callFrom (journalCallRecord (answer v journalBuffer)) ≡ some (answer longAnswer journalBuffer)
+pub long-back : (v : List ℕ) → 258 < length v → callFromJournalRecord (journalCallRecord (answer v journalCommandBuffer)) ≡ some (answer answerOf259ZeroBytes journalCommandBuffer)
 long-back v h =
-    ap (λ (b : List ℕ). callFrom (2 ∷ b)) (if-no _ _ (lt-leb (length v) 258 h)) ∙ kind-answer (2 ∷ 0xFF ∷ 0xFF ∷ replicate 258 0) refl ∙ if-yes _ _ long-is
+    ap (λ (b : List ℕ). callFromJournalRecord (2 ∷ b)) (if-no _ _ (lt-leb (length v) 258 h)) ∙ kind-answer (2 ∷ 0xFF ∷ 0xFF ∷ replicate 258 0) refl ∙ if-yes _ _ long-is
 
-pub link-back : callFrom (journalCallRecord (link-failed journalBuffer)) ≡ some (link-failed journalBuffer)
+pub link-back : callFromJournalRecord (journalCallRecord (link-failed journalCommandBuffer)) ≡ some (link-failed journalCommandBuffer)
 link-back = kind-link (3 ∷ []) refl
 
-pub stop-back : callFrom (journalCallRecord (stop journalBuffer)) ≡ some (stop journalBuffer)
+pub stop-back : callFromJournalRecord (journalCallRecord (stop journalCommandBuffer)) ≡ some (stop journalCommandBuffer)
 stop-back = kind-stop (4 ∷ []) refl

@@ -15,63 +15,63 @@ use lib.Seq.{length-take-le, take-suc-set, take-take, take-append-seam, getD-tak
 use borrow.Author.Tests.{lt-ltb, le-ltb, le-leb, lt-leb, ltb-true, ltb-false}
 use Rattle.basics.proofs.Laws.{if-yes, if-no, if-ind, bool-cases, both-yes, both-no-left, both-no-right}
 use Rattle.basics.specs.Choice.{if}
-use Rattle.journal.specs.declared.CheckState.{CheckState}
+use Rattle.journal.specs.declared.JournalCheckState.{JournalCheckState}
 use Rattle.journal.specs.declared.JournalChecker.{JournalChecker}
 use Rattle.journal.specs.Record.{journalRecordSize}
-use Rattle.journal.specs.Verdict.{ExpectedNext, expectedNext, recordJudged, firstRecordSize}
-use Rattle.journal.specs.Inner.{expectedIn, checkStateOf, checkStateBy, checkerHolding, checkerJudging, judgedIfWhole, checkerPushed}
+use Rattle.journal.specs.Verdict.{ExpectedNext, expectedNext, judgeRecord, firstRecordSize}
+use Rattle.journal.specs.Inner.{expectedNextInState, checkStateOf, checkStateAfterRecord, checkerHoldingOneMoreByte, checkerAfterJudgingRecord, checkerJudgingOnceRecordWhole, checkerAfterByte}
 use Rattle.journal.proofs.Pushed.{State, state, judgedState, wholeState, stepBy}
 
 -- ---- every way out of a push
 
 module _ (c : JournalChecker) (b : ℕ) where
-  pub stays-wrong : c .standing .conforming ≡ false → c ≡ checkerPushed c b
-  unfolding checkerPushed
+  pub stays-wrong : c .standing .conforming ≡ false → c ≡ checkerAfterByte c b
+  unfolding checkerAfterByte
   stays-wrong e = sym (if-no _ _ (both-no-left _ _ e))
 
-  pub stays-length : 1027 ≤ c .length → c ≡ checkerPushed c b
-  unfolding checkerPushed
+  pub stays-length : 1027 ≤ c .length → c ≡ checkerAfterByte c b
+  unfolding checkerAfterByte
   stays-length h = sym (if-no _ _ (both-no-right _ _ (both-no-left _ _ (le-ltb (c .length) 1027 h))))
 
-  pub stays-size : 264 < c .standing .size → c ≡ checkerPushed c b
-  unfolding checkerPushed
+  pub stays-size : 264 < c .standing .size → c ≡ checkerAfterByte c b
+  unfolding checkerAfterByte
   stays-size h = sym (if-no _ _ (both-no-right _ _ (both-no-right _ _ (both-no-left _ _ (lt-leb (c .standing .size) 264 h)))))
 
-  pub stays-records : 1000 ≤ c .records → c ≡ checkerPushed c b
-  unfolding checkerPushed
+  pub stays-records : 1000 ≤ c .records → c ≡ checkerAfterByte c b
+  unfolding checkerAfterByte
   stays-records h = sym (if-no _ _ (both-no-right _ _ (both-no-right _ _ (both-no-right _ _ (le-ltb (c .records) 1000 h)))))
 
   module _ (r : c .standing .conforming ≡ true) (l : c .length < 1027) (s : c .standing .size ≤ 264) (n : c .records < 1000) where
-    pub goes : judgedIfWhole c (set (c .held) (c .length) b) ≡ checkerPushed c b
-    unfolding checkerPushed
+    pub goes : checkerJudgingOnceRecordWhole c (set (c .held) (c .length) b) ≡ checkerAfterByte c b
+    unfolding checkerAfterByte
     goes =
         sym (if-yes _ _ (both-yes _ _ r (both-yes _ _ (lt-ltb (c .length) 1027 l)
         (both-yes _ _ (le-leb (c .standing .size) 264 s) (lt-ltb (c .records) 1000 n)))))
 
     pub holds-more : (size : ℕ) → size ≡ firstRecordSize (set (c .held) (c .length) b) → c .length + 1 < size
-        → checkerHolding c (set (c .held) (c .length) b) ≡ checkerPushed c b
-    unfolding judgedIfWhole
+        → checkerHoldingOneMoreByte c (set (c .held) (c .length) b) ≡ checkerAfterByte c b
+    unfolding checkerJudgingOnceRecordWhole
     holds-more size e h = sym (if-yes _ _ (lt-ltb (c .length + 1) _ (let g = e in omega arith))) ∙ goes
 
-    pub judges : (size : ℕ) (x : CheckState) → size ≡ firstRecordSize (set (c .held) (c .length) b) → size ≤ c .length + 1
-        → x ≡ checkStateBy (c .standing) (recordJudged (expectedIn (c .standing)) (take size (set (c .held) (c .length) b)))
-        → record { standing = x; held = set (c .held) (c .length) b; length = 0; records = c .records + 1 } ≡ checkerPushed c b
-    unfolding judgedIfWhole
+    pub judges : (size : ℕ) (x : JournalCheckState) → size ≡ firstRecordSize (set (c .held) (c .length) b) → size ≤ c .length + 1
+        → x ≡ checkStateAfterRecord (c .standing) (judgeRecord (expectedNextInState (c .standing)) (take size (set (c .held) (c .length) b)))
+        → record { standing = x; held = set (c .held) (c .length) b; length = 0; records = c .records + 1 } ≡ checkerAfterByte c b
+    unfolding checkerJudgingOnceRecordWhole
     judges size x e h j =
-        ap (λ (y : CheckState). record { standing = y; held = set (c .held) (c .length) b; length = 0; records = c .records + 1 })
-        (j ∙ ap (λ (m : ℕ). checkStateBy (c .standing) (recordJudged (expectedIn (c .standing)) (take m (set (c .held) (c .length) b)))) e)
+        ap (λ (y : JournalCheckState). record { standing = y; held = set (c .held) (c .length) b; length = 0; records = c .records + 1 })
+        (j ∙ ap (λ (m : ℕ). checkStateAfterRecord (c .standing) (judgeRecord (expectedNextInState (c .standing)) (take m (set (c .held) (c .length) b)))) e)
         ∙ sym (if-no _ _ (le-ltb (c .length + 1) (firstRecordSize (set (c .held) (c .length) b)) (let g = e in omega arith))) ∙ goes
 
 -- ---- the state
 
 abbrev pub stateOf : JournalChecker → State
-stateOf c = state (c .standing .conforming) (expectedIn (c .standing)) (c .records) (take (c .length) (c .held))
+stateOf c = state (c .standing .conforming) (expectedNextInState (c .standing)) (c .records) (take (c .length) (c .held))
 
 -- what is expected is read back
 pub due-back : (e : ExpectedNext) → take (length (e .due)) (checkStateOf e .due) ≡ e .due
 due-back e = take-append-seam (e .due) _
 
-judged-state : (s : CheckState) (n : ℕ) (o : Option ExpectedNext) → state (checkStateBy s o .conforming) (expectedIn (checkStateBy s o)) n [] ≡ judgedState (expectedIn s) n o
+judged-state : (s : JournalCheckState) (n : ℕ) (o : Option ExpectedNext) → state (checkStateAfterRecord s o .conforming) (expectedNextInState (checkStateAfterRecord s o)) n [] ≡ judgedState (expectedNextInState s) n o
 judged-state s n none = refl
 judged-state s n (some e) = ap (λ (d : List ℕ). state true (expectedNext (e .session) d) n []) (due-back e)
 
@@ -102,18 +102,18 @@ module _ (c : JournalChecker) (b : ℕ) (f : Fine c) where
   room : c .length < length (c .held)
   room = let l = f .part in omega (arith, f .held)
 
-  whole-state : c .standing .conforming ≡ true → stateOf (judgedIfWhole c (set (c .held) (c .length) b))
-      ≡ wholeState (expectedIn (c .standing)) (c .records) (take (c .length) (c .held) ++ (b ∷ []))
-  unfolding judgedIfWhole wholeState
+  whole-state : c .standing .conforming ≡ true → stateOf (checkerJudgingOnceRecordWhole c (set (c .held) (c .length) b))
+      ≡ wholeState (expectedNextInState (c .standing)) (c .records) (take (c .length) (c .held) ++ (b ∷ []))
+  unfolding checkerJudgingOnceRecordWhole wholeState
   whole-state r =
-      if-ind (λ (x : JournalChecker). stateOf x ≡ wholeState (expectedIn (c .standing)) (c .records) l) (ltb (c .length + 1) (firstRecordSize h)) (checkerHolding c h) (checkerJudging c h)
+      if-ind (λ (x : JournalChecker). stateOf x ≡ wholeState (expectedNextInState (c .standing)) (c .records) l) (ltb (c .length + 1) (firstRecordSize h)) (checkerHoldingOneMoreByte c h) (checkerAfterJudgingRecord c h)
       (λ w.
-        ap (λ (x : Bool). state x (expectedIn (c .standing)) (c .records) (take (c .length + 1) h)) r
-        ∙ ap (state true (expectedIn (c .standing)) (c .records)) (longer (c .held) (c .length) b room)
+        ap (λ (x : Bool). state x (expectedNextInState (c .standing)) (c .records) (take (c .length + 1) h)) r
+        ∙ ap (state true (expectedNextInState (c .standing)) (c .records)) (longer (c .held) (c .length) b room)
         ∙ sym (if-yes _ _ (lt-ltb (length l) (firstRecordSize l) (omega (arith, ltb-true (c .length + 1) (firstRecordSize h) w, long, size)))))
       (λ w.
-        judged-state (c .standing) (c .records + 1) (recordJudged (expectedIn (c .standing)) (take (firstRecordSize h) h))
-        ∙ ap (λ (v : List ℕ). judgedState (expectedIn (c .standing)) (c .records + 1) (recordJudged (expectedIn (c .standing)) v))
+        judged-state (c .standing) (c .records + 1) (judgeRecord (expectedNextInState (c .standing)) (take (firstRecordSize h) h))
+        ∙ ap (λ (v : List ℕ). judgedState (expectedNextInState (c .standing)) (c .records + 1) (judgeRecord (expectedNextInState (c .standing)) v))
         (same-record (c .held) (c .length) b room (ltb-false (c .length + 1) (firstRecordSize h) w))
         ∙ sym (if-no _ _ (le-ltb (length l) (firstRecordSize l) (omega (arith, ltb-false (c .length + 1) (firstRecordSize h) w, long, size)))))
     where
@@ -129,13 +129,13 @@ module _ (c : JournalChecker) (b : ℕ) (f : Fine c) where
       size : firstRecordSize (take (c .length) (c .held) ++ (b ∷ [])) ≡ firstRecordSize (set (c .held) (c .length) b)
       size = same-size (c .held) (c .length) b room
 
-  pub state-step : stateOf (checkerPushed c b) ≡ stepBy (c .standing .conforming) (expectedIn (c .standing)) (c .records) (take (c .length) (c .held)) b
+  pub state-step : stateOf (checkerAfterByte c b) ≡ stepBy (c .standing .conforming) (expectedNextInState (c .standing)) (c .records) (take (c .length) (c .held)) b
   state-step = elim (bool-cases (c .standing .conforming)) [
     | inl r ↦
-        ap stateOf (sym (goes c b r (f .part) (f .size) (f .records))) ∙ whole-state r ∙ sym (ap (λ (x : Bool). stepBy x (expectedIn (c .standing)) (c .records) (take (c .length) (c .held)) b) r)
+        ap stateOf (sym (goes c b r (f .part) (f .size) (f .records))) ∙ whole-state r ∙ sym (ap (λ (x : Bool). stepBy x (expectedNextInState (c .standing)) (c .records) (take (c .length) (c .held)) b) r)
     | inr r ↦
-        ap stateOf (sym (stays-wrong c b r)) ∙ ap (λ (x : Bool). state x (expectedIn (c .standing)) (c .records) (take (c .length) (c .held))) r
-        ∙ sym (ap (λ (x : Bool). stepBy x (expectedIn (c .standing)) (c .records) (take (c .length) (c .held)) b) r)
+        ap stateOf (sym (stays-wrong c b r)) ∙ ap (λ (x : Bool). state x (expectedNextInState (c .standing)) (c .records) (take (c .length) (c .held))) r
+        ∙ sym (ap (λ (x : Bool). stepBy x (expectedNextInState (c .standing)) (c .records) (take (c .length) (c .held)) b) r)
   ]
 
 -- ---- the size of a record

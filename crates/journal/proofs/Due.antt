@@ -13,12 +13,12 @@ use Rattle.basics.specs.Alike.{bytesEqual}
 use Rattle.basics.specs.Choice.{if}
 use Rattle.session_record.specs.declared.Session.{Session}
 use Rattle.session_record.specs.declared.Reply.{Reply}
-use Rattle.session.specs.Steps.{Step, DidStep}
+use Rattle.session.specs.Steps.{Step, ReturnsStep}
 use Rattle.step_laws.proofs.EveryCall.{Came}
-use Rattle.journal.specs.declared.CheckState.{CheckState}
-use Rattle.journal.specs.Record.{twoByteLength, zeroPadded, mostCommandInRecord, journalBuffer, journalReplyRecord}
-use Rattle.journal.specs.Verdict.{ExpectedNext, expectedNext, replyExpected, recordJudgedBy}
-use Rattle.journal.specs.Inner.{replyRecordWithBuffer, checkStateOf, checkStateBy}
+use Rattle.journal.specs.declared.JournalCheckState.{JournalCheckState}
+use Rattle.journal.specs.Record.{lengthInTwoBytes, zeroPadded, mostCommandBytesInJournalRecord, journalCommandBuffer, journalReplyRecord}
+use Rattle.journal.specs.Verdict.{ExpectedNext, expectedNext, expectReplyUnlessEmpty, judgeRecordBy}
+use Rattle.journal.specs.Inner.{replyRecordWithWholeBuffer, checkStateOf, checkStateAfterRecord}
 use Rattle.journal.proofs.Walk.{replyExpectedAfter}
 
 -- ---- zeros
@@ -34,34 +34,34 @@ in-front c n =
     ap (λ (l : List ℕ). c ++ l) (drop-zeros (length c) n)
     ∙ ap (zeroPadded n) (sym (take-append-seam c (drop (length c) (replicate n 0))))
 
-pub whole-is : {s : Session} {st : Step} → Came s journalBuffer st → replyRecordWithBuffer (st .reply .answer) (st .buffer) ≡ journalReplyRecord (st .reply .answer) (st .buffer)
+pub whole-is : {s : Session} {st : Step} → Came s journalCommandBuffer st → replyRecordWithWholeBuffer (st .reply .answer) (st .buffer) ≡ journalReplyRecord (st .reply .answer) (st .buffer)
 whole-is (Came.refused n) = refl
 whole-is (Came.ended y b o n) = refl
-whole-is (Came.sent b p c l) = ap (λ (v : List ℕ). 5 ∷ (twoByteLength (length c) ++ v)) (in-front c mostCommandInRecord)
+whole-is (Came.sent b p c l) = ap (λ (v : List ℕ). 5 ∷ (lengthInTwoBytes (length c) ++ v)) (in-front c mostCommandBytesInJournalRecord)
 
 -- ---- the standing after a record
 
-pub stands-as : {x : CheckState} (y : CheckState) {a b : Option ExpectedNext} → a ≡ b → x ≡ checkStateBy y a → x ≡ checkStateBy y b
-stands-as y e h = h ∙ ap (checkStateBy y) e
+pub stands-as : {x : JournalCheckState} (y : JournalCheckState) {a b : Option ExpectedNext} → a ≡ b → x ≡ checkStateAfterRecord y a → x ≡ checkStateAfterRecord y b
+stands-as y e h = h ∙ ap (checkStateAfterRecord y) e
 
 -- the reply that the code got is the step's
-pub did-due : {s : Session} {st : Step} {q : Reply} {buf : List ℕ} {x : CheckState} (y : CheckState) → Came s journalBuffer st → DidStep q buf st
-    → x ≡ checkStateBy y (replyExpected (q .session) (replyRecordWithBuffer (q .answer) buf)) → x ≡ checkStateBy y (replyExpectedAfter st)
+pub did-due : {s : Session} {st : Step} {q : Reply} {buf : List ℕ} {x : JournalCheckState} (y : JournalCheckState) → Came s journalCommandBuffer st → ReturnsStep q buf st
+    → x ≡ checkStateAfterRecord y (expectReplyUnlessEmpty (q .session) (replyRecordWithWholeBuffer (q .answer) buf)) → x ≡ checkStateAfterRecord y (replyExpectedAfter st)
 did-due {s} {st} {q} {buf} y c d h =
     stands-as y
-    (ap (λ (y : Reply). replyExpected (y .session) (replyRecordWithBuffer (y .answer) buf)) (d .reply)
-    ∙ ap (λ (v : List ℕ). replyExpected (st .reply .session) (replyRecordWithBuffer (st .reply .answer) v)) (d .buffer)
-    ∙ ap (replyExpected (st .reply .session)) (whole-is c)) h
+    (ap (λ (y : Reply). expectReplyUnlessEmpty (y .session) (replyRecordWithWholeBuffer (y .answer) buf)) (d .reply)
+    ∙ ap (λ (v : List ℕ). expectReplyUnlessEmpty (st .reply .session) (replyRecordWithWholeBuffer (st .reply .answer) v)) (d .buffer)
+    ∙ ap (expectReplyUnlessEmpty (st .reply .session)) (whole-is c)) h
 
 -- ---- where a reply is expected
 
-pub reply-due : (s : Session) (d r : List ℕ) → 0 < length d → recordJudgedBy s d r ≡ if (bytesEqual r d) (some (expectedNext s [])) none
+pub reply-due : (s : Session) (d r : List ℕ) → 0 < length d → judgeRecordBy s d r ≡ if (bytesEqual r d) (some (expectedNext s [])) none
 reply-due s [] r h = absurd (omega arith)
 reply-due s (b ∷ d) r h = refl
 
 -- ---- what the code builds
 
-abbrev standing : Session → List ℕ → ℕ → CheckState
+abbrev standing : Session → List ℕ → ℕ → JournalCheckState
 standing s d n = record { session = s; due = d; size = n; conforming = true }
 
 -- a command's record is filled whole

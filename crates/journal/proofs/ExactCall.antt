@@ -16,29 +16,29 @@ use Rattle.basics.proofs.Laws.{if-yes, if-no, if-ind, both-left, both-right}
 use Rattle.basics.proofs.Order.{le-or-gt}
 use Rattle.store.specs.Held.{isZeroByte}
 use Rattle.session.specs.Calls.{Call, answer}
-use Rattle.journal.specs.Record.{journalRecordSize, lengthAndPadded, recordLength, recordDataIn, recordFits, isLongAnswer, journalBuffer, longAnswer}
-use Rattle.journal.specs.Record.{journalCallRecord, startCallFrom, answerCallFrom, callFrom}
-use Rattle.journal.specs.ConformingRecords.{AllBytes, CallOfBytes}
+use Rattle.journal.specs.Record.{journalRecordSize, lengthThenPaddedBytes, journalRecordLengthField, journalRecordData, journalLengthAndZeroPaddingValid, isTooLongAnswerRecord, journalCommandBuffer, answerOf259ZeroBytes}
+use Rattle.journal.specs.Record.{journalCallRecord, startCallFromRecord, answerCallFromRecord, callFromJournalRecord}
+use Rattle.journal.specs.ConformingRecords.{AllEntriesBelow256, CallBytesAllBelow256}
 use Rattle.journal.proofs.Reading.{fits-length, size-start, size-answer}
 
 -- ---- bytes
 
-pub bytes-front : (r more : List ℕ) → AllBytes (r ++ more) → AllBytes r
+pub bytes-front : (r more : List ℕ) → AllEntriesBelow256 (r ++ more) → AllEntriesBelow256 r
 bytes-front r more g i = elim (le-or-gt (length r) i) [
   | inl h ↦ omega (arith, List·getD-eq-default r 0 h)
   | inr h ↦ omega (arith, List·getD-append r more 0 i h, g i)
 ]
 
-pub bytes-behind : (r more : List ℕ) → AllBytes (r ++ more) → AllBytes more
+pub bytes-behind : (r more : List ℕ) → AllEntriesBelow256 (r ++ more) → AllEntriesBelow256 more
 bytes-behind r more g i = omega (arith, getD-append-add r more i 0, g (length r + i))
 
-bytes-take : (n : ℕ) (l : List ℕ) → AllBytes l → AllBytes (take n l)
-bytes-take n l g = bytes-front (take n l) (drop n l) (subst AllBytes (sym (take-append-drop n l)) g)
+bytes-take : (n : ℕ) (l : List ℕ) → AllEntriesBelow256 l → AllEntriesBelow256 (take n l)
+bytes-take n l g = bytes-front (take n l) (drop n l) (subst AllEntriesBelow256 (sym (take-append-drop n l)) g)
 
-bytes-drop : (n : ℕ) (l : List ℕ) → AllBytes l → AllBytes (drop n l)
-bytes-drop n l g = bytes-behind (take n l) (drop n l) (subst AllBytes (sym (take-append-drop n l)) g)
+bytes-drop : (n : ℕ) (l : List ℕ) → AllEntriesBelow256 l → AllEntriesBelow256 (drop n l)
+bytes-drop n l g = bytes-behind (take n l) (drop n l) (subst AllEntriesBelow256 (sym (take-append-drop n l)) g)
 
-bytes-zeros : (n : ℕ) → AllBytes (replicate n 0)
+bytes-zeros : (n : ℕ) → AllEntriesBelow256 (replicate n 0)
 bytes-zeros zero i = omega arith
 bytes-zeros (suc n) zero = omega arith
 bytes-zeros (suc n) (suc i) = bytes-zeros n i
@@ -50,16 +50,16 @@ unfolding every
 zeros-only [] e = refl
 zeros-only (x ∷ l) e = ap₂ (λ (a : ℕ) (t : List ℕ). a ∷ t) (eqb-true x 0 (both-left _ _ e)) (zeros-only l (both-right _ _ e))
 
-fits-zeros : (n : ℕ) (r : List ℕ) → recordFits n r ≡ true → every isZeroByte (drop (recordLength r) (drop 3 r)) ≡ true
-unfolding recordFits
+fits-zeros : (n : ℕ) (r : List ℕ) → journalLengthAndZeroPaddingValid n r ≡ true → every isZeroByte (drop (journalRecordLengthField r) (drop 3 r)) ≡ true
+unfolding journalLengthAndZeroPaddingValid
 fits-zeros n r e = both-right _ _ e
 
-long-length : (r : List ℕ) → isLongAnswer r ≡ true → recordLength r ≡ 65535
-unfolding isLongAnswer
-long-length r e = eqb-true (recordLength r) 65535 (both-left _ _ e)
+long-length : (r : List ℕ) → isTooLongAnswerRecord r ≡ true → journalRecordLengthField r ≡ 65535
+unfolding isTooLongAnswerRecord
+long-length r e = eqb-true (journalRecordLengthField r) 65535 (both-left _ _ e)
 
-long-zeros : (r : List ℕ) → isLongAnswer r ≡ true → every isZeroByte (drop 3 r) ≡ true
-unfolding isLongAnswer
+long-zeros : (r : List ℕ) → isTooLongAnswerRecord r ≡ true → every isZeroByte (drop 3 r) ≡ true
+unfolding isTooLongAnswerRecord
 long-zeros r e = both-right _ _ e
 
 -- ---- a length and its bytes
@@ -68,7 +68,7 @@ bytes-same : {a b c d : ℕ} {s t : List ℕ} → a ≡ b → c ≡ d → s ≡ 
 bytes-same p q r = cc
 
 module _ (n a b : ℕ) (body : List ℕ) (high : a < 256) (low : b < 256) (whole : length body ≡ n) where
-  sized-back : (k : ℕ) → recordFits n (k ∷ a ∷ b ∷ body) ≡ true → lengthAndPadded n (recordDataIn (k ∷ a ∷ b ∷ body)) ≡ a ∷ b ∷ body
+  sized-back : (k : ℕ) → journalLengthAndZeroPaddingValid n (k ∷ a ∷ b ∷ body) ≡ true → lengthThenPaddedBytes n (journalRecordData (k ∷ a ∷ b ∷ body)) ≡ a ∷ b ∷ body
   sized-back k f =
       let m : a * 256 + b ≤ n = fits-length n (k ∷ a ∷ b ∷ body) f in
       let l : length (take (a * 256 + b) body) ≡ a * 256 + b = length-take-le (a * 256 + b) body (omega arith) in
@@ -78,7 +78,7 @@ module _ (n a b : ℕ) (body : List ℕ) (high : a < 256) (low : b < 256) (whole
       ∙ ap (λ (v : List ℕ). take (a * 256 + b) body ++ v) (sym (zeros-only (drop (a * 256 + b) body) (fits-zeros n (k ∷ a ∷ b ∷ body) f)))
       ∙ take-append-drop (a * 256 + b) body)
 
-  long-back : (k : ℕ) → isLongAnswer (k ∷ a ∷ b ∷ body) ≡ true → 255 ∷ 255 ∷ replicate n 0 ≡ a ∷ b ∷ body
+  long-back : (k : ℕ) → isTooLongAnswerRecord (k ∷ a ∷ b ∷ body) ≡ true → 255 ∷ 255 ∷ replicate n 0 ≡ a ∷ b ∷ body
   long-back k f =
       let l : a * 256 + b ≡ 65535 = long-length (k ∷ a ∷ b ∷ body) f in
       bytes-same (omega arith) (omega arith) (ap (λ (x : ℕ). replicate x 0) (sym whole) ∙ sym (zeros-only body (long-zeros (k ∷ a ∷ b ∷ body) f)))
@@ -97,7 +97,7 @@ Is r c o = o ≡ some c → journalCallRecord c ≡ r
 found : (r : List ℕ) (c d : Call) → journalCallRecord d ≡ r → Is r c (some d)
 found r c d e q = subst (λ (x : Call). journalCallRecord x ≡ r) (same-some q) e
 
-start-is : (r : List ℕ) (c : Call) → AllBytes r → length r ≡ 1027 → getD r 0 0 ≡ 1 → Is r c (startCallFrom r)
+start-is : (r : List ℕ) (c : Call) → AllEntriesBelow256 r → length r ≡ 1027 → getD r 0 0 ≡ 1 → Is r c (startCallFromRecord r)
 start-is [] c g l e = absurd (omega arith)
 start-is (k ∷ []) c g l e = absurd (omega arith)
 start-is (k ∷ a ∷ []) c g l e = absurd (omega arith)
@@ -107,20 +107,20 @@ start-is (k ∷ a ∷ b ∷ body) c g l e =
       (ap₂ (λ (x : ℕ) (v : List ℕ). x ∷ v) (sym e) (sized-back 1024 a b body (g 1) (g 2) (omega arith) k f)))
     (λ f q. nothing q)
 
-module _ (k a b : ℕ) (body : List ℕ) (g : AllBytes (k ∷ a ∷ b ∷ body)) (l : length body ≡ 258) (e : k ≡ 2) where
-  long-is : isLongAnswer (k ∷ a ∷ b ∷ body) ≡ true → journalCallRecord (answer longAnswer journalBuffer) ≡ k ∷ a ∷ b ∷ body
+module _ (k a b : ℕ) (body : List ℕ) (g : AllEntriesBelow256 (k ∷ a ∷ b ∷ body)) (l : length body ≡ 258) (e : k ≡ 2) where
+  long-is : isTooLongAnswerRecord (k ∷ a ∷ b ∷ body) ≡ true → journalCallRecord (answer answerOf259ZeroBytes journalCommandBuffer) ≡ k ∷ a ∷ b ∷ body
   long-is f =
       ap₂ (λ (x : ℕ) (v : List ℕ). x ∷ v) (sym e)
-      (if-no _ _ (lt-leb (length longAnswer) 258 (omega (arith, length-replicate {A = ℕ} 259 0))) ∙ long-back 258 a b body (g 1) (g 2) l k f)
+      (if-no _ _ (lt-leb (length answerOf259ZeroBytes) 258 (omega (arith, length-replicate {A = ℕ} 259 0))) ∙ long-back 258 a b body (g 1) (g 2) l k f)
 
-  brought-is : recordFits 258 (k ∷ a ∷ b ∷ body) ≡ true → journalCallRecord (answer (recordDataIn (k ∷ a ∷ b ∷ body)) journalBuffer) ≡ k ∷ a ∷ b ∷ body
+  brought-is : journalLengthAndZeroPaddingValid 258 (k ∷ a ∷ b ∷ body) ≡ true → journalCallRecord (answer (journalRecordData (k ∷ a ∷ b ∷ body)) journalCommandBuffer) ≡ k ∷ a ∷ b ∷ body
   brought-is f =
       let m : a * 256 + b ≤ 258 = fits-length 258 (k ∷ a ∷ b ∷ body) f in
       let n : length (take (a * 256 + b) body) ≤ 258 = omega (arith, length-take-le (a * 256 + b) body (omega arith)) in
       ap₂ (λ (x : ℕ) (v : List ℕ). x ∷ v) (sym e)
       (if-yes _ _ (le-leb (length (take (a * 256 + b) body)) 258 n) ∙ sized-back 258 a b body (g 1) (g 2) l k f)
 
-answer-is : (r : List ℕ) (c : Call) → AllBytes r → length r ≡ 261 → getD r 0 0 ≡ 2 → Is r c (answerCallFrom r)
+answer-is : (r : List ℕ) (c : Call) → AllEntriesBelow256 r → length r ≡ 261 → getD r 0 0 ≡ 2 → Is r c (answerCallFromRecord r)
 answer-is [] c g l e = absurd (omega arith)
 answer-is (k ∷ []) c g l e = absurd (omega arith)
 answer-is (k ∷ a ∷ []) c g l e = absurd (omega arith)
@@ -140,8 +140,8 @@ unfolding journalRecordSize if
 size-alone k (inl e) = ap journalRecordSize e
 size-alone k (inr e) = ap journalRecordSize e
 
-pub call-is : (r : List ℕ) (c : Call) → AllBytes r → length r ≡ journalRecordSize (getD r 0 0) → callFrom r ≡ some c → journalCallRecord c ≡ r
-unfolding callFrom
+pub call-is : (r : List ℕ) (c : Call) → AllEntriesBelow256 r → length r ≡ journalRecordSize (getD r 0 0) → callFromJournalRecord r ≡ some c → journalCallRecord c ≡ r
+unfolding callFromJournalRecord
 call-is r c g l =
     if-ind (Is r c) _ _ _ (λ e. let k = eqb-true (getD r 0 0) 1 e in start-is r c g (l ∙ size-start (getD r 0 0) k) k)
     (λ _. if-ind (Is r c) _ _ _ (λ e. let k = eqb-true (getD r 0 0) 2 e in answer-is r c g (l ∙ size-answer (getD r 0 0) k) k)
@@ -152,16 +152,16 @@ call-is r c g l =
 -- ---- and the call is of bytes
 
 abbrev Brings : Call → Option Call → Type 0
-Brings c o = o ≡ some c → CallOfBytes c
+Brings c o = o ≡ some c → CallBytesAllBelow256 c
 
-brings : (c d : Call) → CallOfBytes d → Brings c (some d)
-brings c d g q = subst CallOfBytes (same-some q) g
+brings : (c d : Call) → CallBytesAllBelow256 d → Brings c (some d)
+brings c d g q = subst CallBytesAllBelow256 (same-some q) g
 
-pub call-bytes : (r : List ℕ) (c : Call) → AllBytes r → callFrom r ≡ some c → CallOfBytes c
-unfolding callFrom
+pub call-bytes : (r : List ℕ) (c : Call) → AllEntriesBelow256 r → callFromJournalRecord r ≡ some c → CallBytesAllBelow256 c
+unfolding callFromJournalRecord
 call-bytes r c g =
-    let z : AllBytes journalBuffer = bytes-zeros 261 in
-    let b : AllBytes (recordDataIn r) = bytes-take (recordLength r) (drop 3 r) (bytes-drop 3 r g) in
+    let z : AllEntriesBelow256 journalCommandBuffer = bytes-zeros 261 in
+    let b : AllEntriesBelow256 (journalRecordData r) = bytes-take (journalRecordLengthField r) (drop 3 r) (bytes-drop 3 r g) in
     if-ind (Brings c) _ _ _ (λ _. if-ind (Brings c) _ _ _ (λ _. brings c _ (b, z)) (λ _ q. nothing q))
     (λ _. if-ind (Brings c) _ _ _
       (λ _. if-ind (Brings c) _ _ _ (λ _. brings c _ (bytes-zeros 259, z)) (λ _. if-ind (Brings c) _ _ _ (λ _. brings c _ (b, z)) (λ _ q. nothing q)))

@@ -16,9 +16,9 @@ use Rattle.session_record.specs.declared.Session.{Session}
 use Rattle.session.specs.Steps.{Step}
 use Rattle.session.specs.Calls.{Call, CallMade, callStep, playCalls, isRefusal, callRefused}
 use Rattle.step_laws.proofs.EveryCall.{Came}
-use Rattle.journal.specs.Record.{journalCallRecord, callFrom, journalOf, concatenated}
-use Rattle.journal.specs.Verdict.{ExpectedNext, expectedNext, callJudged, recordJudged, recordJudgedBy}
-use Rattle.journal.specs.ConformingRecords.{AllBytes, CallOfBytes, KernelWritesBytes}
+use Rattle.journal.specs.Record.{journalCallRecord, callFromJournalRecord, journalRecordsOf, journalOfRecords}
+use Rattle.journal.specs.Verdict.{ExpectedNext, expectedNext, judgeCall, judgeRecord, judgeRecordBy}
+use Rattle.journal.specs.ConformingRecords.{AllEntriesBelow256, CallBytesAllBelow256, ByteCallsWriteJournalBeginningWith}
 use Rattle.journal.proofs.Walk.{replyExpectedAfter}
 use Rattle.journal.proofs.Kept.{call-came}
 use Rattle.journal.proofs.WrittenBuffer.{dueBy}
@@ -31,7 +31,7 @@ use Rattle.journal.proofs.ExactCall.{same-some, nothing, bytes-front, b
 record Taken (s : Session) (r : List ℕ) (t : ExpectedNext) : Type 0 where
   call : Call
   written : journalCallRecord call ≡ r
-  bytes : CallOfBytes call
+  bytes : CallBytesAllBelow256 call
   taken : isRefusal (callStep s call .reply .answer) ≡ false
   due : t ≡ expectedNext (callStep s call .reply .session) (dueBy (callStep s call))
   there : 0 < length (t .due)
@@ -49,7 +49,7 @@ replied-by t (Came.ended y b o n) e =
 replied-by t (Came.sent b p c l) e =
     let d = same-some e in record { taken = refl; due = sym d; there = omega (arith, ap (λ (x : ExpectedNext). length (x .due)) d) }
 
-taken-by : (s : Session) (r : List ℕ) (t : ExpectedNext) (o : Option Call) → ((c : Call) → o ≡ some c → (journalCallRecord c ≡ r) × CallOfBytes c) → callJudged s o ≡ some t → Taken s r t
+taken-by : (s : Session) (r : List ℕ) (t : ExpectedNext) (o : Option Call) → ((c : Call) → o ≡ some c → (journalCallRecord c ≡ r) × CallBytesAllBelow256 c) → judgeCall s o ≡ some t → Taken s r t
 taken-by s r t none f e = nothing e
 taken-by s r t (some c) f e =
     let w = replied-by t (call-came s c) e in
@@ -61,7 +61,7 @@ record Replied (e : ExpectedNext) (r : List ℕ) (t : ExpectedNext) : Type 0 whe
   reply : e .due ≡ r
   then : t ≡ expectedNext (e .session) []
 
-replied-is : (s : Session) (d r : List ℕ) (t : ExpectedNext) → 0 < length d → recordJudgedBy s d r ≡ some t → Replied (expectedNext s d) r t
+replied-is : (s : Session) (d r : List ℕ) (t : ExpectedNext) → 0 < length d → judgeRecordBy s d r ≡ some t → Replied (expectedNext s d) r t
 replied-is s [] r t h = absurd (omega arith)
 replied-is s (b ∷ d) r t h =
     if-ind (λ (o : Option ExpectedNext). o ≡ some t → Replied (expectedNext s (b ∷ d)) r t) (bytesEqual r (b ∷ d)) _ _
@@ -70,8 +70,8 @@ replied-is s (b ∷ d) r t h =
 -- ---- one more call before it
 
 journal-cons : (s : Session) (c : Call) (cs : List Call) → isRefusal (callStep s c .reply .answer) ≡ false
-    → journalOf (playCalls s (c ∷ cs)) ≡ journalCallRecord c ∷ dueBy (callStep s c) ∷ journalOf (playCalls (callStep s c .reply .session) cs)
-unfolding journalOf playCalls
+    → journalRecordsOf (playCalls s (c ∷ cs)) ≡ journalCallRecord c ∷ dueBy (callStep s c) ∷ journalRecordsOf (playCalls (callStep s c .reply .session) cs)
+unfolding journalRecordsOf playCalls
 journal-cons s c cs r = if-no _ _ r
 
 abbrev noneRefused : List CallMade → Bool
@@ -82,7 +82,7 @@ taken-cons : (s : Session) (c : Call) (cs : List Call) → isRefusal (callStep s
 unfolding every playCalls
 taken-cons s c cs r h = both-yes _ _ (ap not r) h
 
-no-calls : (s : Session) → KernelWritesBytes s []
+no-calls : (s : Session) → ByteCallsWriteJournalBeginningWith s []
 unfolding every playCalls
 no-calls s = record { writes = record { calls = []; taken = refl; first = refl }; bytes = tt }
 
@@ -90,7 +90,7 @@ module _ (s : Session) (r : List ℕ) (t : ExpectedNext) (w : Taken s r t) where
   abbrev next : Session
   next = callStep s (w .call) .reply .session
 
-  one-record : KernelWritesBytes s (r ∷ [])
+  one-record : ByteCallsWriteJournalBeginningWith s (r ∷ [])
   unfolding no-calls
   one-record =
       record {
@@ -103,7 +103,7 @@ module _ (s : Session) (r : List ℕ) (t : ExpectedNext) (w : Taken s r t) where
         bytes = (w .bytes, tt)
       }
 
-  two-records : (rs : List (List ℕ)) → KernelWritesBytes next rs → KernelWritesBytes s (r ∷ dueBy (callStep s (w .call)) ∷ rs)
+  two-records : (rs : List (List ℕ)) → ByteCallsWriteJournalBeginningWith next rs → ByteCallsWriteJournalBeginningWith s (r ∷ dueBy (callStep s (w .call)) ∷ rs)
   two-records rs k =
       record {
         writes =
@@ -119,16 +119,16 @@ module _ (s : Session) (r : List ℕ) (t : ExpectedNext) (w : Taken s r t) where
 
 -- ---- all of them
 
-pub writes : {e u : ExpectedNext} {rs : List (List ℕ)} → Walks e rs u → (s : Session) → e ≡ expectedNext s [] → AllBytes (concatenated rs) → KernelWritesBytes s rs
-unfolding concatenated
+pub writes : {e u : ExpectedNext} {rs : List (List ℕ)} → Walks e rs u → (s : Session) → e ≡ expectedNext s [] → AllEntriesBelow256 (journalOfRecords rs) → ByteCallsWriteJournalBeginningWith s rs
+unfolding journalOfRecords
 writes Walks.done s q g = no-calls s
 writes (Walks.next {t = t} {r = r} h z j Walks.done) s q g =
-    one-record s r t (taken-by s r t (callFrom r) (λ c e. let b = bytes-front r [] g in (call-is r c b z e, call-bytes r c b e)) (sym (ap (λ (x : ExpectedNext). recordJudged x r) q) ∙ j))
+    one-record s r t (taken-by s r t (callFromJournalRecord r) (λ c e. let b = bytes-front r [] g in (call-is r c b z e, call-bytes r c b e)) (sym (ap (λ (x : ExpectedNext). judgeRecord x r) q) ∙ j))
 writes (Walks.next {t = t} {r = r} h z j (Walks.next {t = t′} {r = r′} {rs = rs} h′ z′ j′ w)) s q g =
-    let a = taken-by s r t (callFrom r) (λ c e. let b = bytes-front r (r′ ++ concatenated rs) g in (call-is r c b z e, call-bytes r c b e)) (sym (ap (λ (x : ExpectedNext). recordJudged x r) q) ∙ j) in
+    let a = taken-by s r t (callFromJournalRecord r) (λ c e. let b = bytes-front r (r′ ++ journalOfRecords rs) g in (call-is r c b z e, call-bytes r c b e)) (sym (ap (λ (x : ExpectedNext). judgeRecord x r) q) ∙ j) in
     let b = replied-is (t .session) (t .due) r′ t′ (a .there) j′ in
     let n : t .session ≡ callStep s (a .call) .reply .session = ap (λ (x : ExpectedNext). x .session) (a .due) in
     let d : dueBy (callStep s (a .call)) ≡ r′ = sym (ap (λ (x : ExpectedNext). x .due) (a .due)) ∙ b .reply in
-    subst (λ (x : List ℕ). KernelWritesBytes s (r ∷ x ∷ rs)) d
+    subst (λ (x : List ℕ). ByteCallsWriteJournalBeginningWith s (r ∷ x ∷ rs)) d
     (two-records s r t a rs
-    (writes w (callStep s (a .call) .reply .session) (b .then ∙ ap (λ (x : Session). expectedNext x []) n) (bytes-behind r′ (concatenated rs) (bytes-behind r (r′ ++ concatenated rs) g))))
+    (writes w (callStep s (a .call) .reply .session) (b .then ∙ ap (λ (x : Session). expectedNext x []) n) (bytes-behind r′ (journalOfRecords rs) (bytes-behind r (r′ ++ journalOfRecords rs) g))))

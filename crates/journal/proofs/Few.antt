@@ -12,7 +12,7 @@ use Rattle.basics.proofs.Laws.{if-ind}
 use Rattle.basics.proofs.Recursion.{shorter-first}
 use Rattle.journal.specs.declared.JournalVerdict.{JournalVerdict}
 use Rattle.journal.specs.Record.{journalRecordSize}
-use Rattle.journal.specs.Verdict.{ExpectedNext, expectedAtStart, recordJudged, verdictFrom, journalVerdictOf}
+use Rattle.journal.specs.Verdict.{ExpectedNext, expectedAtStart, judgeRecord, verdictFrom, journalVerdictOf}
 use Rattle.journal.proofs.Walk.{verdictContinues, unroll}
 use Rattle.journal.proofs.Kept.{Kept, first-kept, judged-kept, few-records}
 
@@ -39,7 +39,7 @@ few-next [] k e n m h q = omega (arith, same-number n m (sym (unroll e n []) ∙
 few-next (b ∷ s) k e n m h q =
     if-ind (λ (v : JournalVerdict). v ≡ JournalVerdict.Accepted m → m ≤ 262) (eqb (journalRecordSize b) 0) _ _ (λ w r. not-mismatch (n + 1) m r)
     (λ w. if-ind (λ (v : JournalVerdict). v ≡ JournalVerdict.Accepted m → m ≤ 262) (ltb (length (b ∷ s)) (journalRecordSize b)) _ _ (λ v r. not-cut (n + 1) m r)
-    (λ v r. few-behind _ (n + 1) m (recordJudged e (take (journalRecordSize b) (b ∷ s)))
+    (λ v r. few-behind _ (n + 1) m (judgeRecord e (take (journalRecordSize b) (b ∷ s)))
     (λ t j x. k (drop (journalRecordSize b) (b ∷ s)) (shorter (eqb-false (journalRecordSize b) 0 w)) t (n + 1) m (judged-kept (e .session) (e .due) _ n t h j) x) r)) (sym (unroll e n (b ∷ s)) ∙ q)
   where
     shorter : (journalRecordSize b ≡ 0 → ⊥) → length (drop (journalRecordSize b) (b ∷ s)) < length (b ∷ s)

@@ -17,7 +17,7 @@ use Rattle.basics.proofs.Laws.{if-ind}
 use Rattle.basics.proofs.Order.{equal-or-not}
 use Rattle.basics.proofs.Laws.{no}
 use Rattle.journal.specs.declared.JournalVerdict.{JournalVerdict}
-use Rattle.journal.specs.Verdict.{ExpectedNext, recordJudged, verdictFrom, journalVerdictOf, expectedAtStart, firstRecordSize, replyDueAfter, expectedReplyBy, expectedReplyOf}
+use Rattle.journal.specs.Verdict.{ExpectedNext, judgeRecord, verdictFrom, journalVerdictOf, expectedAtStart, firstRecordSize, replyDueAfter, expectedReplyAtMismatch, expectedReplyAtFirstMismatch}
 use Rattle.journal.proofs.Walk.{verdictContinues, replyDueThen, ends, unknown, cut, whole, due-whole, nothing-judged}
 use Rattle.journal.proofs.Kept.{nothing, Kept, first-kept, judged-kept, few-records}
 
@@ -40,7 +40,7 @@ judgedState e n none = state false e n []
 judgedState e n (some t) = state true t n []
 
 unfoldable pub wholeState : ExpectedNext → ℕ → List ℕ → State
-wholeState e n l = if (ltb (length l) (firstRecordSize l)) (state true e n l) (judgedState e (n + 1) (recordJudged e (take (firstRecordSize l) l)))
+wholeState e n l = if (ltb (length l) (firstRecordSize l)) (state true e n l) (judgedState e (n + 1) (judgeRecord e (take (firstRecordSize l) l)))
 
 -- one more byte
 abbrev pub stepBy : Bool → ExpectedNext → ℕ → List ℕ → ℕ → State
@@ -86,27 +86,27 @@ just-whole (x ∷ p) b (inr h) l z = omega (arith, one-more p b)
 
 -- what is said after a record that is judged
 behind : (e : ExpectedNext) (n : ℕ) (l more : List ℕ) → 0 < length l → ((firstRecordSize l ≡ 0 → ⊥) → length l ≡ firstRecordSize l)
-    → verdictContinues (λ t. verdictFrom t (n + 1) more) (n + 1) (recordJudged e (take (firstRecordSize l) l)) ≡ verdictFrom e n (l ++ more)
+    → verdictContinues (λ t. verdictFrom t (n + 1) more) (n + 1) (judgeRecord e (take (firstRecordSize l) l)) ≡ verdictFrom e n (l ++ more)
 behind e n l more h w =
     elim (equal-or-not (firstRecordSize l) 0) [
       | inl z ↦
-          ap (λ (k : ℕ). verdictContinues (λ t. verdictFrom t (n + 1) more) (n + 1) (recordJudged e (take k l))) z
+          ap (λ (k : ℕ). verdictContinues (λ t. verdictFrom t (n + 1) more) (n + 1) (judgeRecord e (take k l))) z
           ∙ ap (verdictContinues (λ t. verdictFrom t (n + 1) more) (n + 1)) (nothing-judged e) ∙ sym (unknown e n l more h z)
       | inr z ↦
           let q = w z in
-          ap (λ (r : List ℕ). verdictContinues (λ t. verdictFrom t (n + 1) more) (n + 1) (recordJudged e r)) (take-all (firstRecordSize l) l (omega arith))
+          ap (λ (r : List ℕ). verdictContinues (λ t. verdictFrom t (n + 1) more) (n + 1) (judgeRecord e r)) (take-all (firstRecordSize l) l (omega arith))
           ∙ sym (whole e n l more h q)
     ]
 
 -- what is expected after it
 behind-due : (k : ℕ) (e t : ExpectedNext) (l more : List ℕ) → 0 < length l → ((firstRecordSize l ≡ 0 → ⊥) → length l ≡ firstRecordSize l)
-    → recordJudged e (take (firstRecordSize l) l) ≡ some t → replyDueAfter k t more ≡ replyDueAfter (suc k) e (l ++ more)
+    → judgeRecord e (take (firstRecordSize l) l) ≡ some t → replyDueAfter k t more ≡ replyDueAfter (suc k) e (l ++ more)
 behind-due k e t l more h w j =
     elim (equal-or-not (firstRecordSize l) 0) [
-      | inl z ↦ nothing (sym (nothing-judged e) ∙ ap (λ (m : ℕ). recordJudged e (take m l)) (sym z) ∙ j)
+      | inl z ↦ nothing (sym (nothing-judged e) ∙ ap (λ (m : ℕ). judgeRecord e (take m l)) (sym z) ∙ j)
       | inr z ↦
           let q = w z in
-          ap (replyDueThen (λ x. replyDueAfter k x more)) (sym j ∙ ap (recordJudged e) (take-all (firstRecordSize l) l (omega arith))) ∙ sym (due-whole k e l more h q)
+          ap (replyDueThen (λ x. replyDueAfter k x more)) (sym j ∙ ap (judgeRecord e) (take-all (firstRecordSize l) l (omega arith))) ∙ sym (due-whole k e l more h q)
     ]
 
 -- ---- one more byte
@@ -129,7 +129,7 @@ module _ (s : List ℕ) (b : ℕ) where
 
     module _ (w : firstRecordSize (p ++ (b ∷ [])) ≤ length (p ++ (b ∷ []))) where
       -- after a record that was judged
-      judged-keeps : (o : Option ExpectedNext) → recordJudged e (take (firstRecordSize (p ++ (b ∷ []))) (p ++ (b ∷ []))) ≡ o
+      judged-keeps : (o : Option ExpectedNext) → judgeRecord e (take (firstRecordSize (p ++ (b ∷ []))) (p ++ (b ∷ []))) ≡ o
           → KeepsAt (judgedState e (n + 1) o) (s ++ (b ∷ []))
       unfolding replyDueAfter
       judged-keeps none j =
@@ -191,7 +191,7 @@ module _ (s : List ℕ) where
       ∙ ap (verdictFrom e n) (sym (append-nil p)) ∙ k .said [] ∙ ap journalVerdictOf (append-nil s)
 
   -- what was expected where a record was a mismatch
-  pub wanted-mismatch : (e : ExpectedNext) (n : ℕ) (p : List ℕ) → Keeps false e n p s → e .due ≡ expectedReplyOf s
-  unfolding expectedReplyOf
+  pub wanted-mismatch : (e : ExpectedNext) (n : ℕ) (p : List ℕ) → Keeps false e n p s → e .due ≡ expectedReplyAtFirstMismatch s
+  unfolding expectedReplyAtFirstMismatch
   wanted-mismatch e n p k =
-      k .owes [] ∙ ap (replyDueAfter (n - 1) expectedAtStart) (append-nil s) ∙ ap (expectedReplyBy s) (says-mismatch e n p k)
+      k .owes [] ∙ ap (replyDueAfter (n - 1) expectedAtStart) (append-nil s) ∙ ap (expectedReplyAtMismatch s) (says-mismatch e n p k)

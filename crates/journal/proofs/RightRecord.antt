@@ -21,9 +21,9 @@ use Rattle.basics.proofs.Recursion.{shorter-first}
 use Rattle.session_record.specs.declared.Session.{Session}
 use Rattle.session.specs.Calls.{Call, callStep}
 use Rattle.journal.specs.declared.JournalVerdict.{JournalVerdict}
-use Rattle.journal.specs.Record.{journalRecordSize, callFrom, journalReplyRecord}
-use Rattle.journal.specs.Verdict.{ExpectedNext, expectedNext, expectedAtStart, replyExpected, callJudged, recordJudgedBy, recordJudged, verdictFrom, journalVerdictOf, firstRecordSize, replyDueAfter, expectedReplyBy, expectedReplyOf}
-use Rattle.journal.specs.ConformingRecords.{OnlyConforming, ExpectedOnly, ExpectedAtEven}
+use Rattle.journal.specs.Record.{journalRecordSize, callFromJournalRecord, journalReplyRecord}
+use Rattle.journal.specs.Verdict.{ExpectedNext, expectedNext, expectedAtStart, expectReplyUnlessEmpty, judgeCall, judgeRecordBy, judgeRecord, verdictFrom, journalVerdictOf, firstRecordSize, replyDueAfter, expectedReplyAtMismatch, expectedReplyAtFirstMismatch}
+use Rattle.journal.specs.ConformingRecords.{OnlyConformingRecord, ExpectedReplyOnlyConforming, ExpectedReplyAtEvenRecords}
 use Rattle.journal.proofs.Walk.{verdictContinues, replyDueThen, unroll, ends, whole, due-whole}
 use Rattle.journal.proofs.Due.{reply-due}
 use Rattle.journal.proofs.Kept.{nothing, dueOne, Kept, first-kept, judged-kept}
@@ -34,14 +34,14 @@ data Way (e : ExpectedNext) (n : ℕ) (s : List ℕ) : Type 0 where
   ended : s ≡ [] → verdictFrom e n s ≡ JournalVerdict.Accepted n → Way e n s
   is-mismatch : verdictFrom e n s ≡ JournalVerdict.Mismatch (n + 1) → Way e n s
   is-cut : verdictFrom e n s ≡ JournalVerdict.Truncated (n + 1) → Way e n s
-  goes : (t : ExpectedNext) (l rest : List ℕ) → s ≡ l ++ rest → 0 < length l → length l ≡ firstRecordSize l → recordJudged e l ≡ some t
+  goes : (t : ExpectedNext) (l rest : List ℕ) → s ≡ l ++ rest → 0 < length l → length l ≡ firstRecordSize l → judgeRecord e l ≡ some t
       → verdictFrom e n s ≡ verdictFrom t (n + 1) rest → Way e n s
 
 module _ (e : ExpectedNext) (n b : ℕ) (s : List ℕ) (z : journalRecordSize b ≡ 0 → ⊥) (w : ltb (length (b ∷ s)) (journalRecordSize b) ≡ false) where
   long : length (take (journalRecordSize b) (b ∷ s)) ≡ journalRecordSize b
   long = length-take-le (journalRecordSize b) (b ∷ s) (ltb-false (length (b ∷ s)) (journalRecordSize b) w)
 
-  whole-way : (o : Option ExpectedNext) → recordJudged e (take (journalRecordSize b) (b ∷ s)) ≡ o → Way e n (b ∷ s)
+  whole-way : (o : Option ExpectedNext) → judgeRecord e (take (journalRecordSize b) (b ∷ s)) ≡ o → Way e n (b ∷ s)
   whole-way none j =
       is-mismatch (unroll e n (b ∷ s) ∙ if-no _ _ (ne-eqb (journalRecordSize b) 0 z) ∙ if-no _ _ w ∙ ap (verdictContinues (λ t. verdictFrom t (n + 1) (drop (journalRecordSize b) (b ∷ s))) (n + 1)) j)
   whole-way (some t) j =
@@ -66,7 +66,7 @@ way e n (b ∷ s) = elim (equal-or-not (journalRecordSize b) 0) [
 ]
 
 -- what is after a conforming record is judged the same wherever it stands
-behind : (e t : ExpectedNext) (n : ℕ) (l v : List ℕ) → 0 < length l → length l ≡ firstRecordSize l → recordJudged e l ≡ some t
+behind : (e t : ExpectedNext) (n : ℕ) (l v : List ℕ) → 0 < length l → length l ≡ firstRecordSize l → judgeRecord e l ≡ some t
     → verdictFrom e n (l ++ v) ≡ verdictFrom t (n + 1) v
 behind e t n l v h z j = whole e n l v h z ∙ ap (verdictContinues (λ t. verdictFrom t (n + 1) v) (n + 1)) j
 
@@ -133,7 +133,7 @@ module _ (s : Session) (d : List ℕ) (h : 0 < length d) (z : length d ≡ first
       ap (verdictFrom (expectedNext s d) n) (sym (append-nil d))
       ∙ behind (expectedNext s d) (expectedNext s []) n d [] h z (reply-due s d d h ∙ if-yes _ _ (alike-refl d)) ∙ ends (expectedNext s []) (n + 1)
 
-  same-record : (l : List ℕ) (t : ExpectedNext) → recordJudgedBy s d l ≡ some t → l ≡ d
+  same-record : (l : List ℕ) (t : ExpectedNext) → judgeRecordBy s d l ≡ some t → l ≡ d
   same-record l t j =
       if-ind (λ (o : Option ExpectedNext). o ≡ some t → l ≡ d) (bytesEqual l d) (some (expectedNext s [])) none (λ w q. alike-eq l d w) (λ w q. nothing q)
       (sym (reply-due s d l h) ∙ j)
@@ -154,10 +154,10 @@ module _ (s : Session) (d : List ℕ) (h : 0 < length d) (z : length d ≡ first
 
 abbrev Only : List ℕ → Type 0
 Only s = (e : ExpectedNext) (n k : ℕ) → Kept e n → verdictFrom e n s ≡ JournalVerdict.Mismatch (n + 1 + k) → 0 < length (replyDueAfter k e s)
-    → OnlyConforming (verdictFrom e n) (n + 1 + k) s (replyDueAfter k e s)
+    → OnlyConformingRecord (verdictFrom e n) (n + 1 + k) s (replyDueAfter k e s)
 
 -- the record at the front
-only-now : (s : List ℕ) (e : ExpectedNext) (n : ℕ) → Kept e n → 0 < length (e .due) → OnlyConforming (verdictFrom e n) (n + 1) s (e .due)
+only-now : (s : List ℕ) (e : ExpectedNext) (n : ℕ) → Kept e n → 0 < length (e .due) → OnlyConformingRecord (verdictFrom e n) (n + 1) s (e .due)
 only-now s e n k h =
     let q : n ≡ n + 1 - 1 = omega arith in
     record {
@@ -170,8 +170,8 @@ only-now s e n k h =
     }
 
 -- after a conforming record
-only-behind : (e t : ExpectedNext) (n m : ℕ) (s l rest d : List ℕ) → s ≡ l ++ rest → 0 < length l → length l ≡ firstRecordSize l → recordJudged e l ≡ some t
-    → OnlyConforming (verdictFrom t (n + 1)) m rest d → OnlyConforming (verdictFrom e n) m s d
+only-behind : (e t : ExpectedNext) (n m : ℕ) (s l rest d : List ℕ) → s ≡ l ++ rest → 0 < length l → length l ≡ firstRecordSize l → judgeRecord e l ≡ some t
+    → OnlyConformingRecord (verdictFrom t (n + 1)) m rest d → OnlyConformingRecord (verdictFrom e n) m s d
 only-behind e t n m s l rest d x h z j o =
     record {
       before = l ++ o .before;
@@ -186,7 +186,7 @@ only-next : (s : List ℕ) → ((v : List ℕ) → length v < length s → Only 
 unfolding replyDueAfter
 only-next s k e n zero y q h =
     let p : n + 1 ≡ n + 1 + 0 = omega arith in
-    subst (λ (m : ℕ). OnlyConforming (verdictFrom e n) m s (e .due)) p (only-now s e n y h)
+    subst (λ (m : ℕ). OnlyConformingRecord (verdictFrom e n) m s (e .due)) p (only-now s e n y h)
 only-next s k e n (suc i) y q h = elim (way e n s) [
   | ended x v ↦ accepted-mismatch n (n + 1 + suc i) (sym v ∙ q)
   | is-mismatch v ↦ absurd (omega (arith, mismatch-same (n + 1) (n + 1 + suc i) (sym v ∙ q)))
@@ -195,37 +195,37 @@ only-next s k e n (suc i) y q h = elim (way e n s) [
       let p : n + 1 + suc i ≡ n + 1 + 1 + i = omega arith in
       let d : replyDueAfter i t rest ≡ replyDueAfter (suc i) e s =
           ap (replyDueThen (λ u. replyDueAfter i u rest)) (sym j) ∙ sym (due-whole i e l rest w z) ∙ ap (replyDueAfter (suc i) e) (sym x) in
-      subst (OnlyConforming (verdictFrom e n) (n + 1 + suc i) s) d
+      subst (OnlyConformingRecord (verdictFrom e n) (n + 1 + suc i) s) d
       (only-behind e t n (n + 1 + suc i) s l rest (replyDueAfter i t rest) x w z j
-      (subst (λ (m : ℕ). OnlyConforming (verdictFrom t (n + 1)) m rest (replyDueAfter i t rest)) (sym p)
+      (subst (λ (m : ℕ). OnlyConformingRecord (verdictFrom t (n + 1)) m rest (replyDueAfter i t rest)) (sym p)
       (k rest (shorter s l rest x w) t (n + 1) i (judged-kept (e .session) (e .due) l n t y j) (sym v ∙ q ∙ ap JournalVerdict.Mismatch p) (subst (λ (u : List ℕ). 0 < length u) (sym d) h))))
 ]
 
 -- where record n is a mismatch and the bytes expected are some, they continue the n - 1 conforming records before it,
 -- and nothing else does
-pub wanted-only : ExpectedOnly
-unfolding journalVerdictOf expectedReplyOf
+pub wanted-only : ExpectedReplyOnlyConforming
+unfolding journalVerdictOf expectedReplyAtFirstMismatch
 wanted-only s n q h =
     let l = later s expectedAtStart 0 n q in
     let p : n ≡ 0 + 1 + (n - 1) = omega arith in
-    let d : expectedReplyOf s ≡ replyDueAfter (n - 1) expectedAtStart s = ap (expectedReplyBy s) q in
-    subst (λ (m : ℕ). OnlyConforming journalVerdictOf m s (expectedReplyOf s)) (sym p)
-    (subst (OnlyConforming journalVerdictOf (0 + 1 + (n - 1)) s) (sym d)
+    let d : expectedReplyAtFirstMismatch s ≡ replyDueAfter (n - 1) expectedAtStart s = ap (expectedReplyAtMismatch s) q in
+    subst (λ (m : ℕ). OnlyConformingRecord journalVerdictOf m s (expectedReplyAtFirstMismatch s)) (sym p)
+    (subst (OnlyConformingRecord journalVerdictOf (0 + 1 + (n - 1)) s) (sym d)
     (shorter-first Only only-next s expectedAtStart 0 (n - 1) first-kept (q ∙ ap JournalVerdict.Mismatch p) (subst (λ (u : List ℕ). 0 < length u) d h)))
 
 -- ---- a reply is expected at the records of even number
 
-replied-due : (s : Session) (d : List ℕ) (t : ExpectedNext) → replyExpected s d ≡ some t → dueOne (t .due) ≡ 1
+replied-due : (s : Session) (d : List ℕ) (t : ExpectedNext) → expectReplyUnlessEmpty s d ≡ some t → dueOne (t .due) ≡ 1
 replied-due s [] t q = nothing q
 replied-due s (b ∷ d) t q = let w : expectedNext s (b ∷ d) ≡ t = cc in ap (λ (u : ExpectedNext). dueOne (u .due)) (sym w)
 
-called-due : (s : Session) (c : Option Call) (t : ExpectedNext) → callJudged s c ≡ some t → dueOne (t .due) ≡ 1
+called-due : (s : Session) (c : Option Call) (t : ExpectedNext) → judgeCall s c ≡ some t → dueOne (t .due) ≡ 1
 called-due s none t q = nothing q
 called-due s (some c) t q = replied-due (callStep s c .reply .session) (journalReplyRecord (callStep s c .reply .answer) (callStep s c .buffer)) t q
 
 -- a call and its reply take turns
-turns : (s : Session) (d l : List ℕ) (t : ExpectedNext) → recordJudgedBy s d l ≡ some t → dueOne d + dueOne (t .due) ≡ 1
-turns s [] l t q = let w = called-due s (callFrom l) t q in omega (arith, w)
+turns : (s : Session) (d l : List ℕ) (t : ExpectedNext) → judgeRecordBy s d l ≡ some t → dueOne d + dueOne (t .due) ≡ 1
+turns s [] l t q = let w = called-due s (callFromJournalRecord l) t q in omega (arith, w)
 turns s (b ∷ d) l t q =
     let w : dueOne (t .due) ≡ 0 =
           if-ind (λ (o : Option ExpectedNext). o ≡ some t → dueOne (t .due) ≡ 0) (bytesEqual l (b ∷ d)) (some (expectedNext s [])) none
@@ -263,12 +263,12 @@ some-due : (d : List ℕ) → 0 < length d → dueOne d ≡ 1
 some-due [] h = absurd (omega (arith, h))
 some-due (b ∷ d) h = refl
 
-pub wanted-even : ExpectedAtEven
-unfolding journalVerdictOf expectedReplyOf
+pub wanted-even : ExpectedReplyAtEvenRecords
+unfolding journalVerdictOf expectedReplyAtFirstMismatch
 wanted-even s n q =
     let l = later s expectedAtStart 0 n q in
     let p : n ≡ 0 + 1 + (n - 1) = omega arith in
-    let d : expectedReplyOf s ≡ replyDueAfter (n - 1) expectedAtStart s = ap (expectedReplyBy s) q in
+    let d : expectedReplyAtFirstMismatch s ≡ replyDueAfter (n - 1) expectedAtStart s = ap (expectedReplyAtMismatch s) q in
     let y = shorter-first Even even-next s expectedAtStart 0 (n - 1) (q ∙ ap JournalVerdict.Mismatch p) in
     let w = ap dueOne d in
-    (λ e. due-some (expectedReplyOf s) (omega (arith, w, y, e)), λ h. let o = some-due (expectedReplyOf s) h in omega (arith, w, y, o))
+    (λ e. due-some (expectedReplyAtFirstMismatch s) (omega (arith, w, y, e)), λ h. let o = some-due (expectedReplyAtFirstMismatch s) h in omega (arith, w, y, o))

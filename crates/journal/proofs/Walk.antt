@@ -19,8 +19,8 @@ use Rattle.basics.proofs.Recursion.{AsksShorter, recurse-unroll}
 use Rattle.session_record.specs.declared.Session.{Session}
 use Rattle.session.specs.Steps.{Step}
 use Rattle.journal.specs.declared.JournalVerdict.{JournalVerdict}
-use Rattle.journal.specs.Record.{journalRecordSize, journalReplyRecord, callFrom}
-use Rattle.journal.specs.Verdict.{ExpectedNext, replyExpected, recordJudgedBy, recordJudged, VerdictAfter, ifConforming, verdictNextRecord, verdictFrom, firstRecordSize, replyDueAfter}
+use Rattle.journal.specs.Record.{journalRecordSize, journalReplyRecord, callFromJournalRecord}
+use Rattle.journal.specs.Verdict.{ExpectedNext, expectReplyUnlessEmpty, judgeRecordBy, judgeRecord, VerdictContinuation, ifConforming, verdictStep, verdictFrom, firstRecordSize, replyDueAfter}
 
 -- ---- after a record, by what is expected then
 
@@ -32,7 +32,7 @@ replyDueThen k o = ifConforming [] k o
 
 -- what is expected after a step
 abbrev pub replyExpectedAfter : Step → Option ExpectedNext
-replyExpectedAfter st = replyExpected (st .reply .session) (journalReplyRecord (st .reply .answer) (st .buffer))
+replyExpectedAfter st = expectReplyUnlessEmpty (st .reply .session) (journalReplyRecord (st .reply .answer) (st .buffer))
 
 -- ---- the bound of the recursion does not matter
 
@@ -40,23 +40,23 @@ goes-same : (f g : ExpectedNext → JournalVerdict) (n : ℕ) (o : Option Expect
 goes-same f g n none h = refl
 goes-same f g n (some e) h = h e
 
-next-same : (k k′ : List ℕ → VerdictAfter) (e : ExpectedNext) (n : ℕ) (s : List ℕ) → ((v : List ℕ) (t : ExpectedNext) (m : ℕ) → length v < length s → k v t m ≡ k′ v t m)
-    → verdictNextRecord k s e n ≡ verdictNextRecord k′ s e n
+next-same : (k k′ : List ℕ → VerdictContinuation) (e : ExpectedNext) (n : ℕ) (s : List ℕ) → ((v : List ℕ) (t : ExpectedNext) (m : ℕ) → length v < length s → k v t m ≡ k′ v t m)
+    → verdictStep k s e n ≡ verdictStep k′ s e n
 next-same k k′ e n [] same = refl
 next-same k k′ e n (b ∷ s) same = elim (equal-or-not (journalRecordSize b) 0) [
   | inl z ↦ if-yes _ _ (eq-eqb (journalRecordSize b) 0 z) ∙ sym (if-yes _ _ (eq-eqb (journalRecordSize b) 0 z))
   | inr z ↦
       let l : length (drop (journalRecordSize b) (b ∷ s)) < length (b ∷ s) = omega (arith, length-drop (journalRecordSize b) (b ∷ s)) in
       ap (λ (x : JournalVerdict). if (eqb (journalRecordSize b) 0) (JournalVerdict.Mismatch (n + 1)) (if (ltb (length (b ∷ s)) (journalRecordSize b)) (JournalVerdict.Truncated (n + 1)) x))
-      (goes-same _ _ (n + 1) (recordJudged e (take (journalRecordSize b) (b ∷ s))) (λ t. same (drop (journalRecordSize b) (b ∷ s)) t (n + 1) l))
+      (goes-same _ _ (n + 1) (judgeRecord e (take (journalRecordSize b) (b ∷ s))) (λ t. same (drop (journalRecordSize b) (b ∷ s)) t (n + 1) l))
 ]
 
-asks : AsksShorter verdictNextRecord
-asks k k′ s same = λ i e n. next-same k k′ e n s (λ v t m h. ap (λ (f : VerdictAfter). f t m) (same v h)) i
+asks : AsksShorter verdictStep
+asks k k′ s same = λ i e n. next-same k k′ e n s (λ v t m h. ap (λ (f : VerdictContinuation). f t m) (same v h)) i
 
-pub unroll : (e : ExpectedNext) (n : ℕ) (s : List ℕ) → verdictFrom e n s ≡ verdictNextRecord (λ v t m. verdictFrom t m v) s e n
+pub unroll : (e : ExpectedNext) (n : ℕ) (s : List ℕ) → verdictFrom e n s ≡ verdictStep (λ v t m. verdictFrom t m v) s e n
 unfolding verdictFrom
-unroll e n s = ap (λ (f : VerdictAfter). f e n) (recurse-unroll (λ e n. JournalVerdict.Accepted n) verdictNextRecord asks s)
+unroll e n s = ap (λ (f : VerdictContinuation). f e n) (recurse-unroll (λ e n. JournalVerdict.Accepted n) verdictStep asks s)
 
 -- ---- what is at the front
 
@@ -73,29 +73,29 @@ cut e n (b ∷ s) h z =
     unroll e n (b ∷ s) ∙ if-no _ _ (ne-eqb (journalRecordSize b) 0 (λ x. omega arith)) ∙ if-yes _ _ (lt-ltb (length (b ∷ s)) (journalRecordSize b) z)
 
 pub whole : (e : ExpectedNext) (n : ℕ) (l more : List ℕ) → 0 < length l → length l ≡ journalRecordSize (getD l 0 0)
-    → verdictFrom e n (l ++ more) ≡ verdictContinues (λ t. verdictFrom t (n + 1) more) (n + 1) (recordJudged e l)
+    → verdictFrom e n (l ++ more) ≡ verdictContinues (λ t. verdictFrom t (n + 1) more) (n + 1) (judgeRecord e l)
 whole e n [] more h z = absurd (omega arith)
 whole e n (b ∷ s) more h z =
     unroll e n (b ∷ (s ++ more)) ∙ if-no _ _ (ne-eqb (journalRecordSize b) 0 (λ x. omega arith))
     ∙ if-no _ _ (le-ltb (length (b ∷ (s ++ more))) (journalRecordSize b) (omega (arith, length-append s more)))
-    ∙ goes-same _ _ (n + 1) (recordJudged e (take (journalRecordSize b) (b ∷ (s ++ more)))) (λ t. ap (verdictFrom t (n + 1)) (drop-at (b ∷ s) more (journalRecordSize b) z))
-    ∙ ap (λ (r : List ℕ). verdictContinues (λ t. verdictFrom t (n + 1) more) (n + 1) (recordJudged e r)) (take-at (b ∷ s) more (journalRecordSize b) z)
+    ∙ goes-same _ _ (n + 1) (judgeRecord e (take (journalRecordSize b) (b ∷ (s ++ more)))) (λ t. ap (verdictFrom t (n + 1)) (drop-at (b ∷ s) more (journalRecordSize b) z))
+    ∙ ap (λ (r : List ℕ). verdictContinues (λ t. verdictFrom t (n + 1) more) (n + 1) (judgeRecord e r)) (take-at (b ∷ s) more (journalRecordSize b) z)
 
 -- what is expected after a whole record at the front, and so after those that follow it
 pub due-whole : (m : ℕ) (e : ExpectedNext) (l more : List ℕ) → 0 < length l → length l ≡ firstRecordSize l
-    → replyDueAfter (suc m) e (l ++ more) ≡ replyDueThen (λ t. replyDueAfter m t more) (recordJudged e l)
+    → replyDueAfter (suc m) e (l ++ more) ≡ replyDueThen (λ t. replyDueAfter m t more) (judgeRecord e l)
 unfolding replyDueAfter
 due-whole m e [] more h z = absurd (omega arith)
 due-whole m e (b ∷ s) more h z =
-    ap (λ (r : List ℕ). replyDueThen (λ t. replyDueAfter m t (drop (journalRecordSize b) (b ∷ (s ++ more)))) (recordJudged e r)) (take-at (b ∷ s) more (journalRecordSize b) z)
-    ∙ ap (λ (r : List ℕ). replyDueThen (λ t. replyDueAfter m t r) (recordJudged e (b ∷ s))) (drop-at (b ∷ s) more (journalRecordSize b) z)
+    ap (λ (r : List ℕ). replyDueThen (λ t. replyDueAfter m t (drop (journalRecordSize b) (b ∷ (s ++ more)))) (judgeRecord e r)) (take-at (b ∷ s) more (journalRecordSize b) z)
+    ∙ ap (λ (r : List ℕ). replyDueThen (λ t. replyDueAfter m t r) (judgeRecord e (b ∷ s))) (drop-at (b ∷ s) more (journalRecordSize b) z)
 
 -- ---- no bytes are no record
 
-none-judged : (s : Session) (d : List ℕ) → recordJudgedBy s d [] ≡ none
-unfolding callFrom bytesEqual if
+none-judged : (s : Session) (d : List ℕ) → judgeRecordBy s d [] ≡ none
+unfolding callFromJournalRecord bytesEqual if
 none-judged s [] = refl
 none-judged s (b ∷ d) = refl
 
-pub nothing-judged : (e : ExpectedNext) → recordJudged e [] ≡ none
+pub nothing-judged : (e : ExpectedNext) → judgeRecord e [] ≡ none
 nothing-judged e = none-judged (e .session) (e .due)

@@ -7,7 +7,7 @@ use native.Mathlib.Omega.{arith}
 use lib.ListN.{length, take, drop, set, replicate, length-append, length-drop, drop-of-length-le}
 use lib.Seq.{take-length, length-take-le, drop-drop}
 use borrow.Rule.Slice.PartMut.{putMid}
-use Rattle.journal.specs.Record.{twoByteLength, zeroPadded, lengthAndPadded}
+use Rattle.journal.specs.Record.{lengthInTwoBytes, zeroPadded, lengthThenPaddedBytes}
 
 drop-zeros : (k n : ℕ) → drop {A = ℕ} k (replicate n 0) ≡ replicate (n - k) 0
 drop-zeros zero n = let e : n ≡ n - 0 = omega arith in ap (λ (m : ℕ). replicate m 0) e
@@ -15,10 +15,10 @@ drop-zeros (suc k) zero = let e : 0 ≡ 0 - suc k = omega arith in ap (λ (m : �
 drop-zeros (suc k) (suc n) = let e : n - k ≡ suc n - suc k = omega arith in drop-zeros k n ∙ ap (λ (m : ℕ). replicate m 0) e
 
 -- what follows v in n + 3 zeros, three bytes before it
-pub in-zeros : (k n : ℕ) (v l : List ℕ) → l ≡ k ∷ (twoByteLength (length v) ++ (v ++ drop (length v + 3) (replicate (n + 3) 0))) → l ≡ k ∷ lengthAndPadded n v
+pub in-zeros : (k n : ℕ) (v l : List ℕ) → l ≡ k ∷ (lengthInTwoBytes (length v) ++ (v ++ drop (length v + 3) (replicate (n + 3) 0))) → l ≡ k ∷ lengthThenPaddedBytes n v
 in-zeros k n v l e =
     let z : n + 3 - (length v + 3) ≡ n - length v = omega arith in
-    e ∙ ap (λ (b : List ℕ). k ∷ (twoByteLength (length v) ++ (v ++ b))) (drop-zeros (length v + 3) (n + 3) ∙ ap (λ (m : ℕ). replicate m 0) z)
+    e ∙ ap (λ (b : List ℕ). k ∷ (lengthInTwoBytes (length v) ++ (v ++ b))) (drop-zeros (length v + 3) (n + 3) ∙ ap (λ (m : ℕ). replicate m 0) z)
 
 -- three bytes stored and v copied after them
 pub placed : (k x y : ℕ) (v l m : List ℕ) → length v + 3 ≤ length l
@@ -44,5 +44,5 @@ placed-length k x y v l m h e =
     ap length (placed k x y v l m h e) ∙ omega (arith, length-append v (drop (length v + 3) l), length-drop (length v + 3) l)
 
 -- the front of a buffer in a command's record
-pub front-in : (n : ℕ) (b l : List ℕ) → n ≤ length b → l ≡ 5 ∷ lengthAndPadded 261 (take n b) → l ≡ 5 ∷ (twoByteLength n ++ zeroPadded 261 (take n b))
-front-in n b l h e = e ∙ ap (λ (i : ℕ). 5 ∷ (twoByteLength i ++ zeroPadded 261 (take n b))) (length-take-le n b h)
+pub front-in : (n : ℕ) (b l : List ℕ) → n ≤ length b → l ≡ 5 ∷ lengthThenPaddedBytes 261 (take n b) → l ≡ 5 ∷ (lengthInTwoBytes n ++ zeroPadded 261 (take n b))
+front-in n b l h e = e ∙ ap (λ (i : ℕ). 5 ∷ (lengthInTwoBytes i ++ zeroPadded 261 (take n b))) (length-take-le n b h)

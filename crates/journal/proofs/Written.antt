@@ -17,8 +17,8 @@ use Rattle.session.specs.Calls.{Call, callStep, isRefusal, playCalls}
 use Rattle.basics.proofs.Laws.{no}
 use Rattle.step_laws.proofs.EveryCall.{Came}
 use Rattle.journal.specs.declared.JournalVerdict.{JournalVerdict}
-use Rattle.journal.specs.Record.{journalRecordSize, journalCallRecord, journalOf, concatenated}
-use Rattle.journal.specs.Verdict.{ExpectedNext, expectedNext, expectedAtStart, recordJudged, verdictFrom, journalVerdictOf}
+use Rattle.journal.specs.Record.{journalRecordSize, journalCallRecord, journalRecordsOf, journalOfRecords}
+use Rattle.journal.specs.Verdict.{ExpectedNext, expectedNext, expectedAtStart, judgeRecord, verdictFrom, journalVerdictOf}
 use Rattle.journal.proofs.Walk.{verdictContinues, ends, whole}
 use Rattle.journal.proofs.Kept.{call-came}
 use Rattle.journal.proofs.Few.{accepted-few}
@@ -29,7 +29,7 @@ use Rattle.journal.proofs.WrittenCall.{read, call-judged, due-there, du
 
 pub data Walks : ExpectedNext → List (List ℕ) → ExpectedNext → Type 0 where
   done : {e : ExpectedNext} → Walks e [] e
-  next : {e t u : ExpectedNext} {r : List ℕ} {rs : List (List ℕ)} → 0 < length r → length r ≡ journalRecordSize (getD r 0 0) → recordJudged e r ≡ some t → Walks t rs u
+  next : {e t u : ExpectedNext} {r : List ℕ} {rs : List (List ℕ)} → 0 < length r → length r ≡ journalRecordSize (getD r 0 0) → judgeRecord e r ≡ some t → Walks t rs u
       → Walks e (r ∷ rs) u
 
 pub record Walked (e : ExpectedNext) (rs : List (List ℕ)) : Type 0 where
@@ -38,13 +38,13 @@ pub record Walked (e : ExpectedNext) (rs : List (List ℕ)) : Type 0 where
 
 -- the verdict is that of the bytes after
 pub verdict-behind : {e u : ExpectedNext} {rs : List (List ℕ)} (n : ℕ) (more : List ℕ) → Walks e rs u
-    → verdictFrom e n (concatenated rs ++ more) ≡ verdictFrom u (n + length rs) more
-unfolding concatenated
+    → verdictFrom e n (journalOfRecords rs ++ more) ≡ verdictFrom u (n + length rs) more
+unfolding journalOfRecords
 verdict-behind {e} n more Walks.done = let g : n ≡ n + 0 = omega arith in ap (λ (m : ℕ). verdictFrom e m more) g
 verdict-behind {e} n more (Walks.next {t = t} {u = u} {r = r} {rs = rs} h z j w) =
     let g : n + 1 + length rs ≡ n + suc (length rs) = omega arith in
-    ap (verdictFrom e n) (append-assoc r (concatenated rs) more) ∙ whole e n r (concatenated rs ++ more) h z
-    ∙ ap (verdictContinues (λ x. verdictFrom x (n + 1) (concatenated rs ++ more)) (n + 1)) j ∙ verdict-behind (n + 1) more w
+    ap (verdictFrom e n) (append-assoc r (journalOfRecords rs) more) ∙ whole e n r (journalOfRecords rs ++ more) h z
+    ∙ ap (verdictContinues (λ x. verdictFrom x (n + 1) (journalOfRecords rs ++ more)) (n + 1)) j ∙ verdict-behind (n + 1) more w
     ∙ ap (λ (m : ℕ). verdictFrom u m more) g
 
 -- ---- what calls write
@@ -78,25 +78,25 @@ two-records s c r rs k (suc (suc m)) =
     }
 
 -- a call that is refused leaves the session, and is not written
-pub all-walked : (s : Session) (cs : List Call) → AllWalked s (journalOf (playCalls s cs))
-unfolding journalOf playCalls
+pub all-walked : (s : Session) (cs : List Call) → AllWalked s (journalRecordsOf (playCalls s cs))
+unfolding journalRecordsOf playCalls
 all-walked s [] = no-records s
 all-walked s (c ∷ cs) =
     if-ind (AllWalked s) (isRefusal (callStep s c .reply .answer)) _ _
-    (λ r. subst (λ (t : Session). AllWalked t (journalOf (playCalls (callStep s c .reply .session) cs))) (refused-same (call-came s c) r) (all-walked (callStep s c .reply .session) cs))
-    (λ r. two-records s c r (journalOf (playCalls (callStep s c .reply .session) cs)) (all-walked (callStep s c .reply .session) cs))
+    (λ r. subst (λ (t : Session). AllWalked t (journalRecordsOf (playCalls (callStep s c .reply .session) cs))) (refused-same (call-came s c) r) (all-walked (callStep s c .reply .session) cs))
+    (λ r. two-records s c r (journalRecordsOf (playCalls (callStep s c .reply .session) cs)) (all-walked (callStep s c .reply .session) cs))
 
 -- the first m records of what calls on a fresh session write, refused ones among them, are accepted, and m is
 -- their number
-pub written-accepted : (cs : List Call) (m : ℕ) → m ≤ length (journalOf (playCalls freshSession cs))
-    → journalVerdictOf (concatenated (take m (journalOf (playCalls freshSession cs)))) ≡ JournalVerdict.Accepted m
+pub written-accepted : (cs : List Call) (m : ℕ) → m ≤ length (journalRecordsOf (playCalls freshSession cs))
+    → journalVerdictOf (journalOfRecords (take m (journalRecordsOf (playCalls freshSession cs)))) ≡ JournalVerdict.Accepted m
 unfolding journalVerdictOf
 written-accepted cs m h =
-    let rs = take m (journalOf (playCalls freshSession cs)) in
+    let rs = take m (journalRecordsOf (playCalls freshSession cs)) in
     let w = all-walked freshSession cs m in
-    let e : 0 + length rs ≡ m = omega (arith, length-take-le m (journalOf (playCalls freshSession cs)) h) in
-    ap (verdictFrom expectedAtStart 0) (sym (append-nil (concatenated rs))) ∙ verdict-behind 0 [] (w .walks) ∙ ends (w .last) (0 + length rs) ∙ ap JournalVerdict.Accepted e
+    let e : 0 + length rs ≡ m = omega (arith, length-take-le m (journalRecordsOf (playCalls freshSession cs)) h) in
+    ap (verdictFrom expectedAtStart 0) (sym (append-nil (journalOfRecords rs))) ∙ verdict-behind 0 [] (w .walks) ∙ ends (w .last) (0 + length rs) ∙ ap JournalVerdict.Accepted e
 
 -- so no calls write more than 262 records
-pub written-few : (cs : List Call) → length (journalOf (playCalls freshSession cs)) ≤ 262
-written-few cs = accepted-few _ _ (written-accepted cs (length (journalOf (playCalls freshSession cs))) (omega arith))
+pub written-few : (cs : List Call) → length (journalRecordsOf (playCalls freshSession cs)) ≤ 262
+written-few cs = accepted-few _ _ (written-accepted cs (length (journalRecordsOf (playCalls freshSession cs))) (omega arith))

@@ -10,52 +10,52 @@ use lib.ListN.{length, drop}
 use lib.Seq.{take-append-seam}
 use borrow.Author.Tests.{lt-ltb, le-ltb}
 use Rattle.basics.specs.Choice.{if}
-use Rattle.basics.specs.Reason.{refusedBuffer, refusedRanges}
+use Rattle.basics.specs.Reason.{refusalBufferTooSmall, refusalRecordOutOfRanges}
 use Rattle.basics.proofs.Laws.{no, if-yes, if-no}
 use Rattle.basics.proofs.Order.{le-or-gt}
 use Rattle.session_record.specs.declared.Session.{Session}
-use Rattle.session_record.specs.Ranges.{inRanges}
-use Rattle.session.specs.Steps.{Next, ask, end, Step, CallEffect, refuse, follow, stepOn, refusedStep, stepOf, admittedStep}
+use Rattle.session_record.specs.Ranges.{sessionRecordInRanges}
+use Rattle.session.specs.Steps.{NextAction, ask, end, Step, CallEffect, refuse, follow, stepOfNext, refusedStep, stepOfEffect, stepIfAdmitted}
 use Rattle.session.specs.Calls.{Call, start, answer, link-failed, stop, callStep, isRefusal}
-use Rattle.journal.specs.Record.{twoByteLength, zeroPadded, mostCommandInRecord, journalReplyRecord}
+use Rattle.journal.specs.Record.{lengthInTwoBytes, zeroPadded, mostCommandBytesInJournalRecord, journalReplyRecord}
 
 -- ---- the same step in two buffers
 
 -- refused, or the same follows
 pub data SameStep (s : Session) (buf other : List ℕ) : Step → Step → Type 0 where
   refused : (n : ℕ) → SameStep s buf other (refusedStep s n buf) (refusedStep s n other)
-  follows : (x : Next) → SameStep s buf other (stepOn (s .count) buf x) (stepOn (s .count) other x)
+  follows : (x : NextAction) → SameStep s buf other (stepOfNext (s .count) buf x) (stepOfNext (s .count) other x)
 
 if-both : {A B : Type 0} (R : A → B → Type 0) (b : Bool) {x y : A} {v w : B} → R x v → R y w → R (if b x y) (if b v w)
 unfolding if
 if-both R true p q = p
 if-both R false p q = q
 
-effect-same : (s : Session) (buf other : List ℕ) (x : CallEffect) → SameStep s buf other (stepOf s buf x) (stepOf s other x)
+effect-same : (s : Session) (buf other : List ℕ) (x : CallEffect) → SameStep s buf other (stepOfEffect s buf x) (stepOfEffect s other x)
 effect-same s buf other (refuse n) = SameStep.refused n
 effect-same s buf other (follow x) = SameStep.follows x
 
 -- ---- the refusals that every call checks first
 
 long-enough : (s : Session) (buf : List ℕ) (x : CallEffect) → 261 ≤ length buf
-    → admittedStep s buf x ≡ if (not (inRanges s)) (refusedStep s refusedRanges buf) (stepOf s buf x)
-unfolding admittedStep
+    → stepIfAdmitted s buf x ≡ if (not (sessionRecordInRanges s)) (refusedStep s refusalRecordOutOfRanges buf) (stepOfEffect s buf x)
+unfolding stepIfAdmitted
 long-enough s buf x h = if-no _ _ (le-ltb (length buf) 261 h)
 
-too-short : (s : Session) (buf : List ℕ) (x : CallEffect) → length buf < 261 → admittedStep s buf x ≡ refusedStep s refusedBuffer buf
-unfolding admittedStep
+too-short : (s : Session) (buf : List ℕ) (x : CallEffect) → length buf < 261 → stepIfAdmitted s buf x ≡ refusedStep s refusalBufferTooSmall buf
+unfolding stepIfAdmitted
 too-short s buf x h = if-yes _ _ (lt-ltb (length buf) 261 h)
 
-admitted-room : (s : Session) (buf : List ℕ) (x : CallEffect) → isRefusal (admittedStep s buf x .reply .answer) ≡ false → 261 ≤ length buf
+admitted-room : (s : Session) (buf : List ℕ) (x : CallEffect) → isRefusal (stepIfAdmitted s buf x .reply .answer) ≡ false → 261 ≤ length buf
 admitted-room s buf x r = elim (le-or-gt 261 (length buf)) [
   | inl h ↦ h
   | inr h ↦ no (sym r ∙ ap (λ (y : Step). isRefusal (y .reply .answer)) (too-short s buf x h))
 ]
 
 admitted-same : (s : Session) (buf other : List ℕ) (x : CallEffect) → 261 ≤ length buf → 261 ≤ length other
-    → SameStep s buf other (admittedStep s buf x) (admittedStep s other x)
+    → SameStep s buf other (stepIfAdmitted s buf x) (stepIfAdmitted s other x)
 admitted-same s buf other x h k =
-    rw (long-enough s buf x h, long-enough s other x k) (if-both (SameStep s buf other) _ (SameStep.refused refusedRanges) (effect-same s buf other x))
+    rw (long-enough s buf x h, long-enough s other x k) (if-both (SameStep s buf other) _ (SameStep.refused refusalRecordOutOfRanges) (effect-same s buf other x))
 
 -- ---- a call with another buffer
 
@@ -99,5 +99,5 @@ pub same-due : {s : Session} {buf other : List ℕ} {st st′ : Step} → SameSt
 same-due (SameStep.refused n) = refl
 same-due (SameStep.follows (end e m b)) = refl
 same-due {s} {buf} {other} (SameStep.follows (ask c w b)) =
-    ap (λ (v : List ℕ). 5 ∷ (twoByteLength (length c) ++ zeroPadded mostCommandInRecord v))
+    ap (λ (v : List ℕ). 5 ∷ (lengthInTwoBytes (length c) ++ zeroPadded mostCommandBytesInJournalRecord v))
     (take-append-seam c (drop (length c) buf) ∙ sym (take-append-seam c (drop (length c) other)))

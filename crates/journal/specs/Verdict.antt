@@ -8,12 +8,12 @@ use lib.ListN.{length, getD, take, drop}
 use Rattle.basics.specs.Types.{Bytes, JournalBytes, Length, Count}
 use Rattle.basics.specs.Choice.{if_then_else_, _<?_, _=?_}
 use Rattle.basics.specs.Alike.{bytesEqual}
-use Rattle.basics.specs.Recursion.{recurse}
+use Rattle.basics.specs.Recursion.{recurseWithFuelFromLength}
 use Rattle.session_record.specs.declared.Session.{Session}
 use Rattle.session_record.specs.Session.{freshSession}
 use Rattle.session.specs.Calls.{Call, callStep}
 use Rattle.journal.specs.declared.JournalVerdict.{JournalVerdict}
-use Rattle.journal.specs.Record.{journalRecordSize, callFrom, journalReplyRecord}
+use Rattle.journal.specs.Record.{journalRecordSize, callFromJournalRecord, journalReplyRecord}
 
 -- ---- what is expected
 
@@ -33,31 +33,31 @@ expectedAtStart = expectedNext freshSession []
 -- ---- one whole record: what is expected after it, or none where it differs from what document 01 gives
 
 -- the reply of a call that is taken is expected; a refused call has none, and is itself a mismatch
-abbrev pub replyExpected : Session → Bytes → Option ExpectedNext
-replyExpected s [] = none
-replyExpected s (b ∷ d) = some (expectedNext s (b ∷ d))
+abbrev pub expectReplyUnlessEmpty : Session → Bytes → Option ExpectedNext
+expectReplyUnlessEmpty s [] = none
+expectReplyUnlessEmpty s (b ∷ d) = some (expectedNext s (b ∷ d))
 
 -- a record that stands for no call is a mismatch
-abbrev pub callJudged : Session → Option Call → Option ExpectedNext
-callJudged s none = none
-callJudged s (some c) =
-    let st = callStep s c in replyExpected (st .reply .session) (journalReplyRecord (st .reply .answer) (st .buffer))
+abbrev pub judgeCall : Session → Option Call → Option ExpectedNext
+judgeCall s none = none
+judgeCall s (some c) =
+    let st = callStep s c in expectReplyUnlessEmpty (st .reply .session) (journalReplyRecord (st .reply .answer) (st .buffer))
 
 -- where a call is expected, by the call; where a reply is expected, it must be that record byte for byte
-abbrev pub recordJudgedBy : Session → Bytes → Bytes → Option ExpectedNext
-recordJudgedBy s [] r = callJudged s (callFrom r)
-recordJudgedBy s (b ∷ d) r =
+abbrev pub judgeRecordBy : Session → Bytes → Bytes → Option ExpectedNext
+judgeRecordBy s [] r = judgeCall s (callFromJournalRecord r)
+judgeRecordBy s (b ∷ d) r =
     if bytesEqual r (b ∷ d) then some (expectedNext s [])
     else none
 
-abbrev pub recordJudged : ExpectedNext → Bytes → Option ExpectedNext
-recordJudged e r = recordJudgedBy (e .session) (e .due) r
+abbrev pub judgeRecord : ExpectedNext → Bytes → Option ExpectedNext
+judgeRecord e r = judgeRecordBy (e .session) (e .due) r
 
 -- ---- all bytes
 
 -- the verdict on bytes after n conforming records, by what is expected after them
-abbrev pub VerdictAfter : Type 0
-VerdictAfter = ExpectedNext → Count → JournalVerdict
+abbrev pub VerdictContinuation : Type 0
+VerdictContinuation = ExpectedNext → Count → JournalVerdict
 
 -- what k says of what is expected after a conforming record; `wrong` where the record is a mismatch
 abbrev pub ifConforming : {A : Type 0} → A → (ExpectedNext → A) → Option ExpectedNext → A
@@ -66,18 +66,18 @@ ifConforming wrong k (some e) = k e
 
 -- after n conforming records: the end is accepted; an unknown kind is a mismatch, even as the last byte; a record with
 -- fewer bytes than its kind has is truncated, whatever it holds; a whole one is judged, and k judges what follows it
-abbrev pub verdictNextRecord : (JournalBytes → VerdictAfter) → JournalBytes → VerdictAfter
-verdictNextRecord k [] e n = JournalVerdict.Accepted n
-verdictNextRecord k (b ∷ s) e n =
+abbrev pub verdictStep : (JournalBytes → VerdictContinuation) → JournalBytes → VerdictContinuation
+verdictStep k [] e n = JournalVerdict.Accepted n
+verdictStep k (b ∷ s) e n =
     if journalRecordSize b =? 0 then JournalVerdict.Mismatch (n + 1)
     else if length (b ∷ s) <? journalRecordSize b then JournalVerdict.Truncated (n + 1)
     else
       ifConforming (JournalVerdict.Mismatch (n + 1)) (λ t. k (drop (journalRecordSize b) (b ∷ s)) t (n + 1))
-      (recordJudged e (take (journalRecordSize b) (b ∷ s)))
+      (judgeRecord e (take (journalRecordSize b) (b ∷ s)))
 
 -- record after record
 unfoldable pub verdictFrom : ExpectedNext → Count → JournalBytes → JournalVerdict
-verdictFrom e n s = recurse (λ e n. JournalVerdict.Accepted n) verdictNextRecord s e n
+verdictFrom e n s = recurseWithFuelFromLength (λ e n. JournalVerdict.Accepted n) verdictStep s e n
 
 -- the verdict over a whole journal
 unfoldable pub journalVerdictOf : JournalBytes → JournalVerdict
@@ -94,19 +94,19 @@ firstRecordSize s = journalRecordSize (getD s 0 0)
 unfoldable pub replyDueAfter : Count → ExpectedNext → JournalBytes → Bytes
 replyDueAfter zero e s = e .due
 replyDueAfter (suc m) e s =
-    ifConforming [] (λ t. replyDueAfter m t (drop (firstRecordSize s) s)) (recordJudged e (take (firstRecordSize s) s))
+    ifConforming [] (λ t. replyDueAfter m t (drop (firstRecordSize s) s)) (judgeRecord e (take (firstRecordSize s) s))
 
 -- where record n is a mismatch and a reply was expected, that reply's record; else no bytes: where a call was expected,
 -- either no record would be conforming or more than one
-abbrev pub expectedReplyBy : JournalBytes → JournalVerdict → Bytes
-expectedReplyBy s (JournalVerdict.Accepted n) = []
-expectedReplyBy s (JournalVerdict.Mismatch n) = replyDueAfter (n - 1) expectedAtStart s
-expectedReplyBy s (JournalVerdict.Truncated n) = []
+abbrev pub expectedReplyAtMismatch : JournalBytes → JournalVerdict → Bytes
+expectedReplyAtMismatch s (JournalVerdict.Accepted n) = []
+expectedReplyAtMismatch s (JournalVerdict.Mismatch n) = replyDueAfter (n - 1) expectedAtStart s
+expectedReplyAtMismatch s (JournalVerdict.Truncated n) = []
 
 -- the one conforming record in place of the first mismatching one of a whole journal
-unfoldable pub expectedReplyOf : JournalBytes → Bytes
-expectedReplyOf s = expectedReplyBy s (journalVerdictOf s)
+unfoldable pub expectedReplyAtFirstMismatch : JournalBytes → Bytes
+expectedReplyAtFirstMismatch s = expectedReplyAtMismatch s (journalVerdictOf s)
 
 -- ---- what holds of it, proved in proofs/Walk and proofs/Exact
 --   unroll             the bound of the recursion does not matter
---   exact              the verdict is v exactly where `VerdictOn` holds of v (ConformingRecords.antt)
+--   exact              the verdict is v exactly where `VerdictHoldsOn` holds of v (ConformingRecords.antt)

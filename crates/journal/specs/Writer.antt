@@ -7,18 +7,18 @@ use Rattle.basics.specs.Types.{Bytes, StartBytes, Buffer, Length}
 use Rattle.basics.specs.Choice.{if_then_else_, _and_, _≤?_}
 use Rattle.session_record.specs.declared.CallResult.{CallResult}
 use Rattle.session.specs.Calls.{start}
-use Rattle.journal.specs.Record.{mostStartInRecord, mostCommandInRecord, startRecordSize, commandRecordSize}
+use Rattle.journal.specs.Record.{mostStartBytesInJournalRecord, mostCommandBytesInJournalRecord, startJournalRecordSize, commandJournalRecordSize}
 use Rattle.journal.specs.Record.{journalCallRecord, journalReplyRecord}
 
 -- a start of more than 1,024 bytes is refused and has no record
-unfoldable pub startRecordBytes : StartBytes → Bytes
-startRecordBytes v =
-    if length v ≤? mostStartInRecord then journalCallRecord (start v [])
-    else replicate startRecordSize 0
+unfoldable pub startRecordOrZeros : StartBytes → Bytes
+startRecordOrZeros v =
+    if length v ≤? mostStartBytesInJournalRecord then journalCallRecord (start v [])
+    else replicate startJournalRecordSize 0
 
 -- a command of n bytes at the front of a buffer; one that is longer than a record or the buffer is none
-unfoldable pub commandRecordBytes : Length → Buffer → Bytes
-commandRecordBytes n buf =
-    if n ≤? mostCommandInRecord and n ≤? length buf
+unfoldable pub commandRecordOrZeros : Length → Buffer → Bytes
+commandRecordOrZeros n buf =
+    if n ≤? mostCommandBytesInJournalRecord and n ≤? length buf
     then journalReplyRecord (CallResult.Command (record { size = n })) buf
-    else replicate commandRecordSize 0
+    else replicate commandJournalRecordSize 0

@@ -1,5 +1,5 @@
 // Reports whether the journal of a session could have come from a conforming kernel: `begin`, `feed` with parts of any
-// size, and `finish` at the end; `expected_record` gives the conforming record where one is a mismatch.
+// size, and `finish` at the end; `expected_reply_record` gives the conforming record where one is a mismatch.
 //
 // A journal is records of one byte of kind and a body whose size the kind fixes. At most one record is
 // held, so a journal of any size needs the room of one `JournalChecker`.
@@ -39,13 +39,13 @@ ghost use lib.ListN.{length, getD, take};
 ghost use Rattle.basics.specs.Choice.{every};
 ghost use Rattle.store.specs.Held.{isZeroByte};
 ghost use Rattle.session_record.specs.Numbers.{outcomeNumber};
-ghost use Rattle.journal.specs.Record.{journalRecordSize, twoByteLength, recordLength, recordFits as fitsIn, isLongAnswer, startCallFrom, answerCallFrom, callFrom};
-ghost use Rattle.journal.specs.Record.{journalBuffer};
+ghost use Rattle.journal.specs.Record.{journalRecordSize, lengthInTwoBytes, journalRecordLengthField, journalLengthAndZeroPaddingValid as fitsIn, isTooLongAnswerRecord, startCallFromRecord, answerCallFromRecord, callFromJournalRecord};
+ghost use Rattle.journal.specs.Record.{journalCommandBuffer};
 ghost use Rattle.session.specs.Calls.{link-failed as linkFailedCall, stop as stopCall};
-ghost use Rattle.journal.specs.Verdict.{expectedNext, replyExpected as repliedOf, callJudged as calledOf, recordJudged, journalVerdictOf, expectedReplyOf};
-ghost use Rattle.journal.specs.ConformingRecords.{AllBytes, VerdictSays, ConformingBytes, ConformingAccepted, AcceptedFew, ExpectedOnly, ExpectedAtEven};
-ghost use Rattle.journal.specs.Inner.{replyRecordWithBuffer, expectedIn, checkStateOf, checkStateBy};
-ghost use Rattle.journal.specs.Inner.{firstChecker, checkerPushed, checkerPushedAll, checkerVerdict, checkerExpected, CheckerFollows};
+ghost use Rattle.journal.specs.Verdict.{expectedNext, expectReplyUnlessEmpty as repliedOf, judgeCall as calledOf, judgeRecord, journalVerdictOf, expectedReplyAtFirstMismatch};
+ghost use Rattle.journal.specs.ConformingRecords.{AllEntriesBelow256, VerdictIsExact, ConformingBytesFromByteCalls, ConformingJournalsAccepted, AcceptedHasAtMost262Records, ExpectedReplyOnlyConforming, ExpectedReplyAtEvenRecords};
+ghost use Rattle.journal.specs.Inner.{replyRecordWithWholeBuffer, expectedNextInState, checkStateOf, checkStateAfterRecord};
+ghost use Rattle.journal.specs.Inner.{newChecker, checkerAfterByte, checkerAfterBytes, checkerVerdict, checkerExpectedReply, CheckerWasFed};
 
 // What a journal is: accepted, with the number of its records; or the number of the first record that differs from what
 // the rules give, or of the one that is truncated. Records count from 1.
@@ -57,7 +57,7 @@ pub enum JournalVerdict {
 
 // The session so far, and the reply's record that comes next, of size 0 where a call comes next; no longer conforming
 // once a record was a mismatch, with what was expected there.
-pub struct CheckState {
+pub struct JournalCheckState {
     pub session: Session,
     pub due: [u8; COMMAND_RECORD],
     pub size: usize,
@@ -67,7 +67,7 @@ pub struct CheckState {
 // A checker after some bytes: the records seen, the one that is a mismatch included, and the part of a record
 // that is held.
 pub struct JournalChecker {
-    pub standing: CheckState,
+    pub standing: JournalCheckState,
     pub held: [u8; START_RECORD],
     pub length: usize,
     pub records: usize,
@@ -75,13 +75,13 @@ pub struct JournalChecker {
 
 // The one conforming record in place of a mismatching one, at the front of `bytes`; of size 0 where no record is a
 // mismatch, and where a call was expected, as then none or more than one would be conforming.
-pub struct ExpectedRecord {
+pub struct ExpectedReplyRecord {
     pub bytes: [u8; COMMAND_RECORD],
     pub size: usize,
 }
 
 // The size of a record by its kind, 0 where there is no such kind.
-pub fn size_of(kind: u8) -> usize
+pub fn journal_record_size(kind: u8) -> usize
     ensures { λ r. ⌜ r ≡ journalRecordSize kind ⌝ }
 {
     if kind == KIND_START {
@@ -107,8 +107,8 @@ pub fn size_of(kind: u8) -> usize
 
 // A checker that nothing was fed to.
 pub fn begin() -> JournalChecker
-    ensures checker { λ r. ⌜ r ≡ firstChecker ⌝ }
-    ensures follows { λ r. ⌜ CheckerFollows r [] ⌝ }
+    ensures checker { λ r. ⌜ r ≡ newChecker ⌝ }
+    ensures follows { λ r. ⌜ CheckerWasFed r [] ⌝ }
 {
     let session = session_record::fresh_session();
     let standing = waiting(session);
@@ -122,8 +122,8 @@ pub fn begin() -> JournalChecker
 
 // The checker after one more part. After a mismatching record nothing is examined.
 pub fn feed(checker: JournalChecker, part: &[u8]) -> JournalChecker
-    ensures checker { λ r. ⌜ r ≡ checkerPushedAll checker (now (part .entry)) ⌝ }
-    ensures follows { λ r. ⌜ ((s : List ℕ) → CheckerFollows checker s → CheckerFollows r (s ++ now (part .entry))) ⌝ }
+    ensures checker { λ r. ⌜ r ≡ checkerAfterBytes checker (now (part .entry)) ⌝ }
+    ensures follows { λ r. ⌜ ((s : List ℕ) → CheckerWasFed checker s → CheckerWasFed r (s ++ now (part .entry))) ⌝ }
 {
     let standing = checker.standing;
     if !standing.conforming {
@@ -141,11 +141,11 @@ pub fn feed(checker: JournalChecker, part: &[u8]) -> JournalChecker
 // The verdict where the journal ends here.
 pub fn finish(checker: JournalChecker) -> JournalVerdict
     ensures verdict { λ r. ⌜ r ≡ checkerVerdict checker ⌝ }
-    ensures follows { λ r. ⌜ ((s : List ℕ) → CheckerFollows checker s → r ≡ journalVerdictOf s) ⌝ }
-    ensures conforming { λ r. ⌜ ((s : List ℕ) → CheckerFollows checker s → AllBytes s → VerdictSays s r) ⌝ }
-    ensures bytes { λ _. ⌜ ConformingBytes ⌝ }
-    ensures written { λ _. ⌜ ConformingAccepted ⌝ }
-    ensures few { λ _. ⌜ AcceptedFew ⌝ }
+    ensures follows { λ r. ⌜ ((s : List ℕ) → CheckerWasFed checker s → r ≡ journalVerdictOf s) ⌝ }
+    ensures conforming { λ r. ⌜ ((s : List ℕ) → CheckerWasFed checker s → AllEntriesBelow256 s → VerdictIsExact s r) ⌝ }
+    ensures bytes { λ _. ⌜ ConformingBytesFromByteCalls ⌝ }
+    ensures written { λ _. ⌜ ConformingJournalsAccepted ⌝ }
+    ensures few { λ _. ⌜ AcceptedHasAtMost262Records ⌝ }
 {
     let standing = checker.standing;
     if !standing.conforming {
@@ -161,28 +161,28 @@ pub fn finish(checker: JournalChecker) -> JournalVerdict
 }
 
 // The conforming record where one is a mismatch and a reply was expected.
-pub fn expected_record(checker: JournalChecker) -> ExpectedRecord
-    ensures wanted { λ r. ⌜ r ≡ checkerExpected checker ⌝ }
+pub fn expected_reply_record(checker: JournalChecker) -> ExpectedReplyRecord
+    ensures wanted { λ r. ⌜ r ≡ checkerExpectedReply checker ⌝ }
     ensures size { λ r. ⌜ r .size ≤ 264 ⌝ }
-    ensures follows { λ r. ⌜ ((s : List ℕ) → CheckerFollows checker s → take (r .size) (r .bytes) ≡ expectedReplyOf s) ⌝ }
-    ensures only { λ _. ⌜ ExpectedOnly ⌝ }
-    ensures even { λ _. ⌜ ExpectedAtEven ⌝ }
+    ensures follows { λ r. ⌜ ((s : List ℕ) → CheckerWasFed checker s → take (r .size) (r .bytes) ≡ expectedReplyAtFirstMismatch s) ⌝ }
+    ensures only { λ _. ⌜ ExpectedReplyOnlyConforming ⌝ }
+    ensures even { λ _. ⌜ ExpectedReplyAtEvenRecords ⌝ }
 {
     let standing = checker.standing;
     let size = standing.size;
     if standing.conforming || COMMAND_RECORD < size {
-        return ExpectedRecord {
+        return ExpectedReplyRecord {
             bytes: [0u8; COMMAND_RECORD],
             size: 0,
         };
     }
     let bytes = standing.due;
-    ExpectedRecord { bytes, size }
+    ExpectedReplyRecord { bytes, size }
 }
 
 // The checker after one more byte.
 fn push(checker: JournalChecker, byte: u8) -> JournalChecker
-    ensures { λ r. ⌜ r ≡ checkerPushed checker byte ⌝ }
+    ensures { λ r. ⌜ r ≡ checkerAfterByte checker byte ⌝ }
 {
     let standing = checker.standing;
     let length = checker.length;
@@ -200,7 +200,7 @@ fn push(checker: JournalChecker, byte: u8) -> JournalChecker
     }
     let mut held = checker.held;
     held[length] = byte;
-    let size = size_of(held[0]);
+    let size = journal_record_size(held[0]);
     if length + 1 < size {
         return JournalChecker {
             standing,
@@ -219,9 +219,9 @@ fn push(checker: JournalChecker, byte: u8) -> JournalChecker
 }
 
 // A whole record, or an empty one in the place of an unknown kind, is judged by what is expected.
-fn judge(standing: CheckState, whole: &[u8]) -> CheckState
+fn judge(standing: JournalCheckState, whole: &[u8]) -> JournalCheckState
     requires { ⌜ (length (now whole) ≡ journalRecordSize (getD (now whole) 0 0)) × (standing .size ≤ 264) ⌝ }
-    ensures { λ r. ⌜ r ≡ checkStateBy standing (recordJudged (expectedIn standing) (now (whole .entry))) ⌝ }
+    ensures { λ r. ⌜ r ≡ checkStateAfterRecord standing (judgeRecord (expectedNextInState standing) (now (whole .entry))) ⌝ }
 {
     let session = standing.session;
     let size = standing.size;
@@ -229,17 +229,17 @@ fn judge(standing: CheckState, whole: &[u8]) -> CheckState
         return called(standing, whole);
     }
     let due = standing.due;
-    if basics::same(whole, &due[..size]) {
+    if basics::bytes_equal(whole, &due[..size]) {
         return waiting(session);
     }
     wrong(standing)
 }
 
 // A call comes next.
-fn waiting(session: Session) -> CheckState
+fn waiting(session: Session) -> JournalCheckState
     ensures { λ r. ⌜ r ≡ checkStateOf (expectedNext session []) ⌝ }
 {
-    CheckState {
+    JournalCheckState {
         session,
         due: [0u8; COMMAND_RECORD],
         size: 0,
@@ -248,12 +248,12 @@ fn waiting(session: Session) -> CheckState
 }
 
 // A record was a mismatch; what was expected there stays.
-fn wrong(standing: CheckState) -> CheckState
-    ensures { λ r. ⌜ r ≡ checkStateBy standing none ⌝ }
+fn wrong(standing: JournalCheckState) -> JournalCheckState
+    ensures { λ r. ⌜ r ≡ checkStateAfterRecord standing none ⌝ }
 {
     let session = standing.session;
     let due = standing.due;
-    CheckState {
+    JournalCheckState {
         session,
         due,
         size: standing.size,
@@ -262,9 +262,9 @@ fn wrong(standing: CheckState) -> CheckState
 }
 
 // Where a call is expected: the call is made, and its reply is expected.
-fn called(standing: CheckState, whole: &[u8]) -> CheckState
+fn called(standing: JournalCheckState, whole: &[u8]) -> JournalCheckState
     requires { ⌜ length (now whole) ≡ journalRecordSize (getD (now whole) 0 0) ⌝ }
-    ensures { λ r. ⌜ r ≡ checkStateBy standing (calledOf (standing .session) (callFrom (now (whole .entry)))) ⌝ }
+    ensures { λ r. ⌜ r ≡ checkStateAfterRecord standing (calledOf (standing .session) (callFromJournalRecord (now (whole .entry)))) ⌝ }
 {
     let kind = basics::byte_at(whole, 0);
     if kind == KIND_START {
@@ -283,9 +283,9 @@ fn called(standing: CheckState, whole: &[u8]) -> CheckState
 }
 
 // A start.
-fn started(standing: CheckState, whole: &[u8]) -> CheckState
+fn started(standing: JournalCheckState, whole: &[u8]) -> JournalCheckState
     requires { ⌜ length (now whole) ≡ 1027 ⌝ }
-    ensures { λ r. ⌜ r ≡ checkStateBy standing (calledOf (standing .session) (startCallFrom (now (whole .entry)))) ⌝ }
+    ensures { λ r. ⌜ r ≡ checkStateAfterRecord standing (calledOf (standing .session) (startCallFromRecord (now (whole .entry)))) ⌝ }
 {
     let session = standing.session;
     if !fits(whole, MOST_START) {
@@ -298,9 +298,9 @@ fn started(standing: CheckState, whole: &[u8]) -> CheckState
 }
 
 // A card answer.
-fn answered(standing: CheckState, whole: &[u8]) -> CheckState
+fn answered(standing: JournalCheckState, whole: &[u8]) -> JournalCheckState
     requires { ⌜ length (now whole) ≡ 261 ⌝ }
-    ensures { λ r. ⌜ r ≡ checkStateBy standing (calledOf (standing .session) (answerCallFrom (now (whole .entry)))) ⌝ }
+    ensures { λ r. ⌜ r ≡ checkStateAfterRecord standing (calledOf (standing .session) (answerCallFromRecord (now (whole .entry)))) ⌝ }
 {
     let session = standing.session;
     let mut buffer = [0u8; MOST_COMMAND];
@@ -318,8 +318,8 @@ fn answered(standing: CheckState, whole: &[u8]) -> CheckState
 }
 
 // The link failed.
-fn link_failed(standing: CheckState) -> CheckState
-    ensures { λ r. ⌜ r ≡ checkStateBy standing (calledOf (standing .session) (some (linkFailedCall journalBuffer))) ⌝ }
+fn link_failed(standing: JournalCheckState) -> JournalCheckState
+    ensures { λ r. ⌜ r ≡ checkStateAfterRecord standing (calledOf (standing .session) (some (linkFailedCall journalCommandBuffer))) ⌝ }
 {
     let session = standing.session;
     let mut buffer = [0u8; MOST_COMMAND];
@@ -328,8 +328,8 @@ fn link_failed(standing: CheckState) -> CheckState
 }
 
 // A stop.
-fn stopped(standing: CheckState) -> CheckState
-    ensures { λ r. ⌜ r ≡ checkStateBy standing (calledOf (standing .session) (some (stopCall journalBuffer))) ⌝ }
+fn stopped(standing: JournalCheckState) -> JournalCheckState
+    ensures { λ r. ⌜ r ≡ checkStateAfterRecord standing (calledOf (standing .session) (some (stopCall journalCommandBuffer))) ⌝ }
 {
     let session = standing.session;
     let mut buffer = [0u8; MOST_COMMAND];
@@ -353,7 +353,7 @@ fn fits(whole: &[u8], most: usize) -> bool
 // Length FF FF and a zero body.
 fn is_long(whole: &[u8]) -> bool
     requires { ⌜ 3 ≤ length (now whole) ⌝ }
-    ensures { λ r. ⌜ r ≡ isLongAnswer (now (whole .entry)) ⌝ }
+    ensures { λ r. ⌜ r ≡ isTooLongAnswerRecord (now (whole .entry)) ⌝ }
 {
     if length_in(whole) != 65535 {
         return false;
@@ -363,7 +363,7 @@ fn is_long(whole: &[u8]) -> bool
 
 // The two length bytes of a record.
 fn length_in(whole: &[u8]) -> usize
-    ensures { λ r. ⌜ (r ≡ recordLength (now (whole .entry))) × (r < 65536) ⌝ }
+    ensures { λ r. ⌜ (r ≡ journalRecordLengthField (now (whole .entry))) × (r < 65536) ⌝ }
 {
     let high = basics::widen(basics::byte_at(whole, 1));
     let low = basics::widen(basics::byte_at(whole, 2));
@@ -385,8 +385,8 @@ fn is_zero(v: &[u8]) -> bool
 }
 
 // What is expected after a call that returned this with this buffer.
-fn due_of(standing: CheckState, reply: Reply, buffer: [u8; MOST_COMMAND]) -> CheckState
-    ensures { λ r. ⌜ r ≡ checkStateBy standing (repliedOf (reply .session) (replyRecordWithBuffer (reply .answer) buffer)) ⌝ }
+fn due_of(standing: JournalCheckState, reply: Reply, buffer: [u8; MOST_COMMAND]) -> JournalCheckState
+    ensures { λ r. ⌜ r ≡ checkStateAfterRecord standing (repliedOf (reply .session) (replyRecordWithWholeBuffer (reply .answer) buffer)) ⌝ }
 {
     let session = reply.session;
     let answer = reply.answer;
@@ -398,15 +398,15 @@ fn due_of(standing: CheckState, reply: Reply, buffer: [u8; MOST_COMMAND]) -> Che
 }
 
 // A command's record is expected.
-fn command_due(session: Session, size: usize, buffer: [u8; MOST_COMMAND]) -> CheckState
-    ensures { λ r. ⌜ r ≡ checkStateOf (expectedNext session (5 ∷ (twoByteLength size ++ buffer))) ⌝ }
+fn command_due(session: Session, size: usize, buffer: [u8; MOST_COMMAND]) -> JournalCheckState
+    ensures { λ r. ⌜ r ≡ checkStateOf (expectedNext session (5 ∷ (lengthInTwoBytes size ++ buffer))) ⌝ }
 {
     let mut due = [0u8; COMMAND_RECORD];
     due[0] = 5;
     due[1] = (size / 256 % 256) as u8;
     due[2] = (size % 256) as u8;
     bytes::copy(&buffer, &mut due[3..]);
-    CheckState {
+    JournalCheckState {
         session,
         due,
         size: COMMAND_RECORD,
@@ -415,7 +415,7 @@ fn command_due(session: Session, size: usize, buffer: [u8; MOST_COMMAND]) -> Che
 }
 
 // An outcome's record is expected.
-fn outcome_due(session: Session, end: OutcomeParameters) -> CheckState
+fn outcome_due(session: Session, end: OutcomeParameters) -> JournalCheckState
     ensures { λ r. ⌜ r ≡ checkStateOf (expectedNext session (6 ∷ outcomeNumber (end .outcome) ∷ end .reason ∷ [])) ⌝ }
 {
     let outcome = end.outcome;
@@ -423,7 +423,7 @@ fn outcome_due(session: Session, end: OutcomeParameters) -> CheckState
     due[0] = 6;
     due[1] = session_record::outcome_number(outcome);
     due[2] = end.reason;
-    CheckState {
+    JournalCheckState {
         session,
         due,
         size: 3,

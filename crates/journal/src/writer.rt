@@ -12,12 +12,12 @@ ghost use lib.ListN.{length};
 ghost use Rattle.session_record.specs.declared.CallResult.{CallResult};
 ghost use Rattle.session.specs.Calls.{answer as anAnswer, link-failed as aFailure, stop as aStop};
 ghost use Rattle.journal.specs.Record.{journalCallRecord, journalReplyRecord};
-ghost use Rattle.journal.specs.Writer.{startRecordBytes, commandRecordBytes};
-ghost use Rattle.journal.specs.Inner.{recordFilledIn};
+ghost use Rattle.journal.specs.Writer.{startRecordOrZeros, commandRecordOrZeros};
+ghost use Rattle.journal.specs.Inner.{journalRecordWrittenOverFront};
 
 // A start. More than 1,024 bytes are refused and have no record: zeros.
 pub fn start_record(bytes: &[u8]) -> [u8; START_RECORD]
-    ensures { λ r. ⌜ r ≡ startRecordBytes (now (bytes .entry)) ⌝ }
+    ensures { λ r. ⌜ r ≡ startRecordOrZeros (now (bytes .entry)) ⌝ }
 {
     let mut out = [0u8; START_RECORD];
     if MOST_START < bytes.len() {
@@ -58,7 +58,7 @@ pub fn stop_record() -> [u8; 1]
 
 // A command that is at the front of a buffer. One of more bytes than a record or the buffer has is none: zeros.
 pub fn command_record(size: usize, buffer: &[u8]) -> [u8; COMMAND_RECORD]
-    ensures { λ r. ⌜ r ≡ commandRecordBytes size (now (buffer .entry)) ⌝ }
+    ensures { λ r. ⌜ r ≡ commandRecordOrZeros size (now (buffer .entry)) ⌝ }
 {
     let mut out = [0u8; COMMAND_RECORD];
     if MOST_COMMAND < size {
@@ -82,7 +82,7 @@ pub fn outcome_record(end: OutcomeParameters) -> [u8; OUTCOME_RECORD]
 // Kind, length in two bytes and the bytes, at the front of what is there.
 fn fill(kind: u8, bytes: &[u8], out: &mut [u8])
     requires { ⌜ length (now bytes) + 3 ≤ length (now out) ⌝ }
-    ensures { λ _. ⌜ now (out .exit) ≡ recordFilledIn kind (now (bytes .entry)) (now (out .entry)) ⌝ }
+    ensures { λ _. ⌜ now (out .exit) ≡ journalRecordWrittenOverFront kind (now (bytes .entry)) (now (out .entry)) ⌝ }
 {
     let n = bytes.len();
     out[0] = kind;

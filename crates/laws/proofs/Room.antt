@@ -22,13 +22,13 @@ use Rattle.tlv.specs.declared.LengthFront.the-variants.{Sized, Unsized}
 use Rattle.tlv.specs.declared.ObjectFront.{ObjectFront}
 use Rattle.tlv.specs.declared.ObjectFront.the-variants.{Object, Broken}
 use Rattle.tlv.specs.Tag.{tagSize, tagAt}
-use Rattle.tlv.specs.Length.{lengthOneByte, lengthTwoBytes, lengthAt}
+use Rattle.tlv.specs.Length.{lengthAfter81, lengthAfter82, lengthAt}
 use Rattle.tlv.specs.Object.{tlvHeader, headerWithLength, headerWithTag, headerOf, headerValue}
 use Rattle.tlv.specs.Encoding.{tagBytes, wellFormedTag, lengthBytes, objectBytes}
 use Rattle.tlv.proofs.Laws.{tag-fits}
 use Rattle.tlv.proofs.Encoding.{header-encoded}
-use Rattle.reading.specs.Answer.{isStatus9000, isResponseLength}
-use Rattle.laws.specs.Records.{answerBodyBytes, recordContents, isRecordAnswer, AnswerWith, shortestRecord}
+use Rattle.reading.specs.Answer.{isStatus9000, responseLengthIs2To258}
+use Rattle.laws.specs.Records.{withoutStatusBytes, outerObjectContents, isSuccessfulRecordAnswerIn70, RecordAnswerWithContents, shortestRecordAnswer}
 use Rattle.laws.proofs.Answers.{Outer, outer-of, outer-record, outer-contents}
 
 -- ---- contents of at most 253 bytes
@@ -60,27 +60,27 @@ module _ (c : List ℕ) (h : length c ≤ 253) where
   object-size : length object ≡ from + length c
   object-size = simp length-append (omega arith)
 
-  size : length (shortestRecord c) ≡ length object + 2
+  size : length (shortestRecordAnswer c) ≡ length object + 2
   size = length-append object status
 
-  body : answerBodyBytes (shortestRecord c) ≡ object
-  body = let e : length object ≡ length (shortestRecord c) - 2 = omega (arith, size) in take-at object status _ e
+  body : withoutStatusBytes (shortestRecordAnswer c) ≡ object
+  body = let e : length object ≡ length (shortestRecordAnswer c) - 2 = omega (arith, size) in take-at object status _ e
 
-  good-length : isResponseLength (shortestRecord c) ≡ true
-  unfolding isResponseLength
+  good-length : responseLengthIs2To258 (shortestRecordAnswer c) ≡ true
+  unfolding responseLengthIs2To258
   good-length =
-      both-yes _ _ (le-leb 2 (length (shortestRecord c)) (omega (arith, size)))
-      (le-leb (length (shortestRecord c)) 258 (omega (arith, size, object-size, one-byte, few-bytes (length c) (omega arith))))
+      both-yes _ _ (le-leb 2 (length (shortestRecordAnswer c)) (omega (arith, size)))
+      (le-leb (length (shortestRecordAnswer c)) 258 (omega (arith, size, object-size, one-byte, few-bytes (length c) (omega arith))))
 
-  good-status : isStatus9000 (shortestRecord c) ≡ true
+  good-status : isStatus9000 (shortestRecordAnswer c) ≡ true
   unfolding isStatus9000
   good-status =
-      let x : length (shortestRecord c) - 2 ≡ length object + 0 = omega (arith, size) in
-      let y : length (shortestRecord c) - 1 ≡ length object + 1 = omega (arith, size) in
-      both-yes _ _ (ap (λ (i : ℕ). eqb (getD (shortestRecord c) i 0) 0x90) x ∙ ap (λ (n : ℕ). eqb n 0x90) (getD-append-add object status 0 0))
-      (ap (λ (i : ℕ). eqb (getD (shortestRecord c) i 0) 0) y ∙ ap (λ (n : ℕ). eqb n 0) (getD-append-add object status 1 0))
+      let x : length (shortestRecordAnswer c) - 2 ≡ length object + 0 = omega (arith, size) in
+      let y : length (shortestRecordAnswer c) - 1 ≡ length object + 1 = omega (arith, size) in
+      both-yes _ _ (ap (λ (i : ℕ). eqb (getD (shortestRecordAnswer c) i 0) 0x90) x ∙ ap (λ (n : ℕ). eqb n 0x90) (getD-append-add object status 0 0))
+      (ap (λ (i : ℕ). eqb (getD (shortestRecordAnswer c) i 0) 0) y ∙ ap (λ (n : ℕ). eqb n 0) (getD-append-add object status 1 0))
 
-  outer : Outer (shortestRecord c)
+  outer : Outer (shortestRecordAnswer c)
   outer = record {
     size = good-length;
     status = good-status;
@@ -95,11 +95,11 @@ module _ (c : List ℕ) (h : length c ≤ 253) where
       ap (take (length c)) (drop-append-add (tagBytes 0x70) (lengthBytes (length c) ++ c) (length (lengthBytes (length c)))
       ∙ drop-append-seam (lengthBytes (length c)) c) ∙ take-length c
 
-  pub room : AnswerWith (shortestRecord c) c
+  pub room : RecordAnswerWithContents (shortestRecordAnswer c) c
   unfolding outer
   room = record {
-    whole = outer-record (shortestRecord c) outer;
-    contents = outer-contents (shortestRecord c) outer ∙ ap (λ (s : List ℕ). headerValue s (tlvHeader 0x70 from (length c))) body ∙ value;
+    whole = outer-record (shortestRecordAnswer c) outer;
+    contents = outer-contents (shortestRecordAnswer c) outer ∙ ap (λ (s : List ℕ). headerValue s (tlvHeader 0x70 from (length c))) body ∙ value;
   }
 
 -- ---- no answer holds more
@@ -109,13 +109,13 @@ abbrev Low : LengthFront → Type 0
 Low Unsized = Unit {0}
 Low (Sized e) = e .size ≤ 1 → e .len < 0x80
 
-in-two : (s : List ℕ) → Low (lengthOneByte s)
-unfolding lengthOneByte
+in-two : (s : List ℕ) → Low (lengthAfter81 s)
+unfolding lengthAfter81
 in-two [] = tt
 in-two (a ∷ s) = λ h. absurd (omega arith)
 
-in-three : (s : List ℕ) → Low (lengthTwoBytes s)
-unfolding lengthTwoBytes
+in-three : (s : List ℕ) → Low (lengthAfter82 s)
+unfolding lengthAfter82
 in-three [] = tt
 in-three (a ∷ []) = tt
 in-three (a ∷ b ∷ s) = λ h. absurd (omega arith)
@@ -144,15 +144,15 @@ low-front s = go (tagAt s) refl
     go Untagged p = tt
     go (Tagged t) p = low-length s t (lengthAt (drop (t .size) s)) (tag-fits s t p .some) (low (drop (t .size) s))
 
-most : (s : List ℕ) → isResponseLength s ≡ true → length (answerBodyBytes s) ≤ 256
-unfolding isResponseLength
+most : (s : List ℕ) → responseLengthIs2To258 s ≡ true → length (withoutStatusBytes s) ≤ 256
+unfolding responseLengthIs2To258
 most s e = let h : length s ≤ 258 = leb-true _ _ (both-right _ _ e) in simp length-take (omega arith)
 
-pub most-held : (s : List ℕ) → isRecordAnswer s ≡ true → length (recordContents s) ≤ 253
+pub most-held : (s : List ℕ) → isSuccessfulRecordAnswerIn70 s ≡ true → length (outerObjectContents s) ≤ 253
 most-held s e =
     let o = outer-of s e in
     let m = most s (o .size) in
     let z = o .end in
-    let l : o .header .start ≤ 2 → o .header .len < 0x80 = rw (o .front) at (low-front (answerBodyBytes s)) in
+    let l : o .header .start ≤ 2 → o .header .len < 0x80 = rw (o .front) at (low-front (withoutStatusBytes s)) in
     let n : o .header .len ≤ 253 = elim (le-or-gt (o .header .start) 2) [ inl h ↦ omega (arith, l h) | inr h ↦ omega arith ] in
     rw (outer-contents s o) (simp length-take (omega arith))

@@ -11,16 +11,16 @@ use lib.ListN.{getD}
 use borrow.Author.Tests.{eqb-true, eq-eqb}
 use Rattle.basics.specs.Choice.{if, both, either, every, _and_, _=?_}
 use Rattle.basics.proofs.Laws.{both-left, both-right, both-yes}
-use Rattle.dictionary.specs.Rows.{dictionaryRows, rowPast, findRow}
-use Rattle.store.specs.Place.{StoredValue, absent, bytesOfValue, objectValue}
-use Rattle.analysis.specs.Bits.{numberedBit}
-use Rattle.analysis.specs.Value.{firstBytes}
-use Rattle.analysis.specs.Choice.{denialStage, onlineStage, defaultStage, stageHoldsBit, lowestFrom, lowestBit, zeroCode, onesCode, iacCode, actionCodesAt, stageHolds, onlineCapabilityAt, choiceOf}
-use Rattle.analysis.specs.Action.{terminalType, actionCodesOf, choiceFor}
+use Rattle.dictionary.specs.Rows.{dictionaryRows, rowFoundShifted, findRow}
+use Rattle.store.specs.Place.{StoredValue, absent, bytesOrEmptyIfAbsent, objectValue}
+use Rattle.analysis.specs.Bits.{hasBitCountedFromZeroAtByte1B8}
+use Rattle.analysis.specs.Value.{firstBytesZeroPadded}
+use Rattle.analysis.specs.Choice.{denialStage, onlineStage, defaultStage, tvrBitIsInEitherActionCode, lowestBitFrom, lowestTvrBitInCodes, allZerosActionCode, allOnesActionCode, iacOrDefault, actionCodesAt, someTvrBitInCodesOfStage, onlineCapabilityByDigit, terminalActionAnalysis}
+use Rattle.analysis.specs.Action.{terminalType, actionCodesOf, choiceForTvr}
 use Rattle.analysis.specs.declared.choice.Choice.{Choice}
 use Rattle.analysis.specs.declared.choice.Choice.the-variants.{Decline, Online, Offline}
 use Rattle.laws.specs.Rank.{choiceRank}
-use Rattle.laws.specs.Stricter.{BitsWithin, CodesWithin}
+use Rattle.laws.specs.Stricter.{FortyBitsWithin, StoredActionCodesWithin}
 use Rattle.laws.proofs.StricterContained.{contained, contained-within, within-contained}
 use Rattle.laws.proofs.StricterLaws.{never-loosens}
 use Rattle.laws.proofs.StricterStored.{valueAmong, storeOf, haveRoom, stored}
@@ -42,35 +42,35 @@ inStore r b = record { bits = r; values = map (objectValue b) tags }
 
 -- the type; the codes of a stage
 abbrev typeOf : State → ℕ
-typeOf x = getD (bytesOfValue (getD (x .values) 0 absent)) 0 0
+typeOf x = getD (bytesOrEmptyIfAbsent (getD (x .values) 0 absent)) 0 0
 
 abbrev cardValue : State → ℕ → StoredValue
 cardValue x stage = getD (x .values) (2 * stage + 1) absent
 
 abbrev terminalBytes : State → ℕ → List ℕ
-terminalBytes x stage = bytesOfValue (getD (x .values) (2 * stage + 2) absent)
+terminalBytes x stage = bytesOrEmptyIfAbsent (getD (x .values) (2 * stage + 2) absent)
 
 abbrev choice : State → Choice
 choice x =
-    choiceOf (x .bits) (typeOf x)
+    terminalActionAnalysis (x .bits) (typeOf x)
     (actionCodesAt denialStage (cardValue x denialStage) (terminalBytes x denialStage)
     ∷ actionCodesAt onlineStage (cardValue x onlineStage) (terminalBytes x onlineStage)
     ∷ actionCodesAt defaultStage (cardValue x defaultStage) (terminalBytes x defaultStage)
     ∷ [])
 
 -- of a store it is the choice there
-choice-is : (r b : List ℕ) → choice (inStore r b) ≡ choiceFor b r
-unfolding choiceFor actionCodesOf
+choice-is : (r b : List ℕ) → choice (inStore r b) ≡ choiceForTvr b r
+unfolding choiceForTvr actionCodesOf
 choice-is r b = refl
 
 -- ---- an addition
 
 -- the codes of a stage are contained in the new ones, each as it is read
 abbrev cardAdds : State → State → ℕ → Bool
-cardAdds x y stage = contained (iacCode stage (cardValue x stage)) (iacCode stage (cardValue y stage))
+cardAdds x y stage = contained (iacOrDefault stage (cardValue x stage)) (iacOrDefault stage (cardValue y stage))
 
 abbrev terminalAdds : State → State → ℕ → Bool
-terminalAdds x y stage = contained (firstBytes 5 (terminalBytes x stage)) (firstBytes 5 (terminalBytes y stage))
+terminalAdds x y stage = contained (firstBytesZeroPadded 5 (terminalBytes x stage)) (firstBytesZeroPadded 5 (terminalBytes y stage))
 
 abbrev codesAdd : State → State → Bool
 codesAdd x y =
@@ -83,7 +83,7 @@ isAddition x y = typeOf y =? typeOf x and contained (x .bits) (y .bits) and code
 
 -- of two stores the test says what the law requires
 module _ (r s b c : List ℕ) where
-  codes-added : codesAdd (inStore r b) (inStore s c) ≡ true → CodesWithin b c
+  codes-added : codesAdd (inStore r b) (inStore s c) ≡ true → StoredActionCodesWithin b c
   codes-added e =
       let e1 = both-right _ _ e in
       let e2 = both-right _ _ e1 in
@@ -99,13 +99,13 @@ module _ (r s b c : List ℕ) where
       }
 
   -- where it passes the law speaks of the change
-  never-higher : isAddition (inStore r b) (inStore s c) ≡ true → choiceRank (choiceFor c s) ≤ choiceRank (choiceFor b r)
+  never-higher : isAddition (inStore r b) (inStore s c) ≡ true → choiceRank (choiceForTvr c s) ≤ choiceRank (choiceForTvr b r)
   never-higher e =
       let more = both-right _ _ e in
       never-loosens .stores r s b c (eqb-true _ _ (both-left _ _ e)) (contained-within _ _ (both-left _ _ more)) (codes-added (both-right _ _ more))
 
   -- where it fails the law does not
-  addition-passes : terminalType c ≡ terminalType b → BitsWithin r s → CodesWithin b c → isAddition (inStore r b) (inStore s c) ≡ true
+  addition-passes : terminalType c ≡ terminalType b → FortyBitsWithin r s → StoredActionCodesWithin b c → isAddition (inStore r b) (inStore s c) ≡ true
   addition-passes e g w =
       both-yes _ _ (eq-eqb _ _ e)
       (both-yes _ _ (within-contained _ _ g)
@@ -154,7 +154,7 @@ ranks x = (oldChoice x, choiceRank (oldChoice x)) ∷ (newChoice x, choiceRank (
 
 -- a terminal of a type with codes of zeros, and no code of the card
 abbrev terminal : ℕ → List (ℕ × List ℕ)
-terminal kind = (0x9F35, kind ∷ []) ∷ (0xDF8121, zeroCode) ∷ (0xDF8122, zeroCode) ∷ (0xDF8120, zeroCode) ∷ []
+terminal kind = (0x9F35, kind ∷ []) ∷ (0xDF8121, allZerosActionCode) ∷ (0xDF8122, allZerosActionCode) ∷ (0xDF8120, allZerosActionCode) ∷ []
 
 -- byte 1 b8; byte 2 b7; both; byte 5 b1; byte 5 b2
 abbrev first : List ℕ
@@ -177,28 +177,28 @@ lastButOne = 0 ∷ 0 ∷ 0 ∷ 0 ∷ 0x02 ∷ []
 abbrev falling : List Change
 falling =
     -- types 22 and 25, online: zeros of the card get byte 1 b8; they go away; the terminal's code gets it
-    codes first ((0x9F0F, zeroCode) ∷ terminal 0x22) ((0x9F0F, first) ∷ terminal 0x22)
-    ∷ codes first ((0x9F0F, zeroCode) ∷ terminal 0x22) (terminal 0x22)
-    ∷ codes first ((0x9F0F, zeroCode) ∷ terminal 0x25) ((0x9F0F, zeroCode) ∷ (0xDF8122, first) ∷ terminal 0x25)
+    codes first ((0x9F0F, allZerosActionCode) ∷ terminal 0x22) ((0x9F0F, first) ∷ terminal 0x22)
+    ∷ codes first ((0x9F0F, allZerosActionCode) ∷ terminal 0x22) (terminal 0x22)
+    ∷ codes first ((0x9F0F, allZerosActionCode) ∷ terminal 0x25) ((0x9F0F, allZerosActionCode) ∷ (0xDF8122, first) ∷ terminal 0x25)
     -- types 22, 34 and 21, denial: a code of the card appears; one gets a bit more; the terminal's gets one
     ∷ codes first (terminal 0x22) ((0x9F0E, first) ∷ terminal 0x22)
     ∷ codes first ((0x9F0E, expiry) ∷ terminal 0x34) ((0x9F0E, firstAndExpiry) ∷ terminal 0x34)
     ∷ codes expiry (terminal 0x21) ((0xDF8121, expiry) ∷ terminal 0x21)
     -- types 23 and 26, default: zeros of the card get a bit; they go away; the terminal's code gets one, the
     -- card's has another
-    ∷ codes first ((0x9F0D, zeroCode) ∷ terminal 0x23) ((0x9F0D, first) ∷ terminal 0x23)
-    ∷ codes first ((0x9F0D, zeroCode) ∷ terminal 0x26) (terminal 0x26)
+    ∷ codes first ((0x9F0D, allZerosActionCode) ∷ terminal 0x23) ((0x9F0D, first) ∷ terminal 0x23)
+    ∷ codes first ((0x9F0D, allZerosActionCode) ∷ terminal 0x26) (terminal 0x26)
     ∷ codes expiry ((0x9F0D, first) ∷ terminal 0x23) ((0x9F0D, first) ∷ (0xDF8120, expiry) ∷ terminal 0x23)
     -- the TVR gets byte 5 b1, which the online, the denial, the default code has
-    ∷ result zeroCode last ((0x9F0F, last) ∷ terminal 0x22)
-    ∷ result zeroCode last ((0x9F0E, last) ∷ (0x9F0D, zeroCode) ∷ terminal 0x36)
-    ∷ result zeroCode last ((0x9F0D, last) ∷ terminal 0x13)
+    ∷ result allZerosActionCode last ((0x9F0F, last) ∷ terminal 0x22)
+    ∷ result allZerosActionCode last ((0x9F0E, last) ∷ (0x9F0D, allZerosActionCode) ∷ terminal 0x36)
+    ∷ result allZerosActionCode last ((0x9F0D, last) ∷ terminal 0x13)
     -- the TVR and two codes at once; by the TVR alone, or by the codes alone, the choice is kept: see below
-    ∷ change zeroCode ((0x9F0F, zeroCode) ∷ terminal 0x25) last ((0x9F0F, last) ∷ (0xDF8121, last) ∷ terminal 0x25)
+    ∷ change allZerosActionCode ((0x9F0F, allZerosActionCode) ∷ terminal 0x25) last ((0x9F0F, last) ∷ (0xDF8121, last) ∷ terminal 0x25)
     ∷ []
 
 falling-adds : map adds falling ≡ true ∷ true ∷ true ∷ true ∷ true ∷ true ∷ true ∷ true ∷ true ∷ true ∷ true ∷ true ∷ true ∷ []
-unfolding valueAmong lowestFrom iacCode numberedBit firstBytes both either if
+unfolding valueAmong lowestBitFrom iacOrDefault hasBitCountedFromZeroAtByte1B8 firstBytesZeroPadded both either if
 falling-adds = refl
 
 falling-ranks : map ranks falling
@@ -216,7 +216,7 @@ falling-ranks : map ranks falling
     ∷ ((Offline, 2) ∷ (Decline, 0) ∷ [])
     ∷ ((Offline, 2) ∷ (Decline, 0) ∷ [])
     ∷ []
-unfolding valueAmong choiceOf onlineCapabilityAt stageHolds lowestBit lowestFrom stageHoldsBit iacCode numberedBit firstBytes both either if
+unfolding valueAmong terminalActionAnalysis onlineCapabilityByDigit someTvrBitInCodesOfStage lowestTvrBitInCodes lowestBitFrom tvrBitIsInEitherActionCode iacOrDefault hasBitCountedFromZeroAtByte1B8 firstBytesZeroPadded both either if
 falling-ranks = refl
 
 -- ---- additions by which the choice is kept
@@ -224,18 +224,18 @@ falling-ranks = refl
 abbrev keeping : List Change
 keeping =
     -- the last one's TVR alone, and its codes alone
-    result zeroCode last ((0x9F0F, zeroCode) ∷ terminal 0x25)
-    ∷ codes zeroCode ((0x9F0F, zeroCode) ∷ terminal 0x25) ((0x9F0F, last) ∷ (0xDF8121, last) ∷ terminal 0x25)
+    result allZerosActionCode last ((0x9F0F, allZerosActionCode) ∷ terminal 0x25)
+    ∷ codes allZerosActionCode ((0x9F0F, allZerosActionCode) ∷ terminal 0x25) ((0x9F0F, last) ∷ (0xDF8121, last) ∷ terminal 0x25)
     -- a code of ones appears, of online and of default; a denial code of zeros goes away
-    ∷ codes first (terminal 0x22) ((0x9F0F, onesCode) ∷ terminal 0x22)
-    ∷ codes first (terminal 0x23) ((0x9F0D, onesCode) ∷ terminal 0x23)
-    ∷ codes first ((0x9F0E, zeroCode) ∷ terminal 0x22) (terminal 0x22)
+    ∷ codes first (terminal 0x22) ((0x9F0F, allOnesActionCode) ∷ terminal 0x22)
+    ∷ codes first (terminal 0x23) ((0x9F0D, allOnesActionCode) ∷ terminal 0x23)
+    ∷ codes first ((0x9F0E, allZerosActionCode) ∷ terminal 0x22) (terminal 0x22)
     -- a type that is not listed declines on any codes
     ∷ codes first (terminal 0x27) ((0x9F0E, first) ∷ terminal 0x27)
     ∷ []
 
 keeping-adds : map adds keeping ≡ true ∷ true ∷ true ∷ true ∷ true ∷ true ∷ []
-unfolding valueAmong lowestFrom iacCode numberedBit firstBytes both either if
+unfolding valueAmong lowestBitFrom iacOrDefault hasBitCountedFromZeroAtByte1B8 firstBytesZeroPadded both either if
 keeping-adds = refl
 
 keeping-ranks : map ranks keeping
@@ -246,7 +246,7 @@ keeping-ranks : map ranks keeping
     ∷ ((Online, 1) ∷ (Online, 1) ∷ [])
     ∷ ((Decline, 0) ∷ (Decline, 0) ∷ [])
     ∷ []
-unfolding valueAmong choiceOf onlineCapabilityAt stageHolds lowestBit lowestFrom stageHoldsBit iacCode numberedBit firstBytes both either if
+unfolding valueAmong terminalActionAnalysis onlineCapabilityByDigit someTvrBitInCodesOfStage lowestTvrBitInCodes lowestBitFrom tvrBitIsInEitherActionCode iacOrDefault hasBitCountedFromZeroAtByte1B8 firstBytesZeroPadded both either if
 keeping-ranks = refl
 
 -- ---- changes that are no additions, by which the choice rises
@@ -254,20 +254,20 @@ keeping-ranks = refl
 abbrev rising : List Change
 rising =
     -- a code of zeros appears, of online and of default; a denial code with a bit goes away
-    codes first (terminal 0x22) ((0x9F0F, zeroCode) ∷ terminal 0x22)
-    ∷ codes first (terminal 0x23) ((0x9F0D, zeroCode) ∷ terminal 0x23)
+    codes first (terminal 0x22) ((0x9F0F, allZerosActionCode) ∷ terminal 0x22)
+    ∷ codes first (terminal 0x23) ((0x9F0D, allZerosActionCode) ∷ terminal 0x23)
     ∷ codes first ((0x9F0E, first) ∷ terminal 0x22) (terminal 0x22)
     -- the TVR loses a bit
-    ∷ result first zeroCode ((0x9F0F, first) ∷ terminal 0x22)
+    ∷ result first allZerosActionCode ((0x9F0F, first) ∷ terminal 0x22)
     -- the terminal's online code is a greater number, by its bytes and in one byte, and loses a bit
-    ∷ codes expiry ((0x9F0F, zeroCode) ∷ (0xDF8122, expiry) ∷ terminal 0x22) ((0x9F0F, zeroCode) ∷ (0xDF8122, first) ∷ terminal 0x22)
-    ∷ codes last ((0x9F0F, zeroCode) ∷ (0xDF8122, last) ∷ terminal 0x22) ((0x9F0F, zeroCode) ∷ (0xDF8122, lastButOne) ∷ terminal 0x22)
+    ∷ codes expiry ((0x9F0F, allZerosActionCode) ∷ (0xDF8122, expiry) ∷ terminal 0x22) ((0x9F0F, allZerosActionCode) ∷ (0xDF8122, first) ∷ terminal 0x22)
+    ∷ codes last ((0x9F0F, allZerosActionCode) ∷ (0xDF8122, last) ∷ terminal 0x22) ((0x9F0F, allZerosActionCode) ∷ (0xDF8122, lastButOne) ∷ terminal 0x22)
     -- another type
-    ∷ codes first ((0x9F0F, zeroCode) ∷ terminal 0x21) ((0x9F0F, zeroCode) ∷ terminal 0x22)
+    ∷ codes first ((0x9F0F, allZerosActionCode) ∷ terminal 0x21) ((0x9F0F, allZerosActionCode) ∷ terminal 0x22)
     ∷ []
 
 rising-adds : map adds rising ≡ false ∷ false ∷ false ∷ false ∷ false ∷ false ∷ false ∷ []
-unfolding valueAmong lowestFrom iacCode numberedBit firstBytes both either if
+unfolding valueAmong lowestBitFrom iacOrDefault hasBitCountedFromZeroAtByte1B8 firstBytesZeroPadded both either if
 rising-adds = refl
 
 rising-ranks : map ranks rising
@@ -279,7 +279,7 @@ rising-ranks : map ranks rising
     ∷ ((Online, 1) ∷ (Offline, 2) ∷ [])
     ∷ ((Online, 1) ∷ (Offline, 2) ∷ [])
     ∷ []
-unfolding valueAmong choiceOf onlineCapabilityAt stageHolds lowestBit lowestFrom stageHoldsBit iacCode numberedBit firstBytes both either if
+unfolding valueAmong terminalActionAnalysis onlineCapabilityByDigit someTvrBitInCodesOfStage lowestTvrBitInCodes lowestBitFrom tvrBitIsInEitherActionCode iacOrDefault hasBitCountedFromZeroAtByte1B8 firstBytesZeroPadded both either if
 rising-ranks = refl
 
 -- ---- in stores
@@ -289,7 +289,7 @@ abbrev storable : Change → Bool
 storable x = haveRoom (x .old) and haveRoom (x .new)
 
 all-storable : every storable (falling ++ keeping ++ rising) ≡ true
-unfolding every both haveRoom findRow rowPast if dictionaryRows
+unfolding every both haveRoom findRow rowFoundShifted if dictionaryRows
 all-storable = refl
 
 same-values : (f g : ℕ → StoredValue) → ((t : ℕ) → f t ≡ g t) → (ts : List ℕ) → map f ts ≡ map g ts
@@ -301,7 +301,7 @@ module _ (r : List ℕ) (l : List (ℕ × List ℕ)) (h : haveRoom l ≡ true) w
   in-store : inStore r (storeOf l) ≡ state r l
   in-store = ap (λ (vs : List StoredValue). record { bits = r; values = vs }) (same-values _ _ (stored l h) tags)
 
-  choice-stored : choiceFor (storeOf l) r ≡ choice (state r l)
+  choice-stored : choiceForTvr (storeOf l) r ≡ choice (state r l)
   choice-stored = sym (choice-is r (storeOf l)) ∙ ap choice in-store
 
 -- and the change is an addition there exactly where the test passes

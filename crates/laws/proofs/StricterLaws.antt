@@ -14,10 +14,10 @@ use borrow.Author.Tests.{ne-eqb, not-false}
 use Rattle.basics.specs.Choice.{if, both, either}
 use Rattle.basics.proofs.Laws.{if-yes, if-no, bool-cases}
 use Rattle.store.specs.Place.{absent}
-use Rattle.analysis.specs.Bits.{numberedBit}
-use Rattle.analysis.specs.Value.{firstBytes}
-use Rattle.analysis.specs.Choice.{denialStage, zeroCode, onesCode, iacCode, stageHoldsBit, lowestFrom, lowestBit, someBit, stageHolds, onlineCapabilityOf, choiceBy, choiceOf}
-use Rattle.analysis.specs.Action.{terminalType, hasOnDeviceCvm, aucViolatedIn, restrictionsByte, tvrOf, cvmConditionsIn, cvmResultIn, tvrWithCvm, findingsOf, actionCodesOf, choiceFor}
+use Rattle.analysis.specs.Bits.{hasBitCountedFromZeroAtByte1B8}
+use Rattle.analysis.specs.Value.{firstBytesZeroPadded}
+use Rattle.analysis.specs.Choice.{denialStage, allZerosActionCode, allOnesActionCode, iacOrDefault, tvrBitIsInEitherActionCode, lowestBitFrom, lowestTvrBitInCodes, isSomeBit, someTvrBitInCodesOfStage, onlineCapabilityOfType, choiceByStages, terminalActionAnalysis}
+use Rattle.analysis.specs.Action.{terminalType, cardAndKernelSupportOnDeviceCvm, aucViolatedInStore, restrictionsTvrByte2, tvrBeforeCvm, cvmConditionsIn, cvmResultIn, tvrWithCvm, findingsOf, actionCodesOf, choiceForTvr}
 use Rattle.analysis.specs.declared.choice.ActionCodes.{ActionCodes}
 use Rattle.analysis.specs.declared.choice.LowestBit.the-variants.{Bit}
 use Rattle.analysis.specs.declared.choice.OnlineCapability.{OnlineCapability}
@@ -25,8 +25,8 @@ use Rattle.analysis.specs.declared.choice.OnlineCapability.the-variants.{Online
 use Rattle.analysis.specs.declared.choice.Choice.{Choice}
 use Rattle.analysis.specs.declared.choice.Choice.the-variants.{Decline, Online, Offline}
 use Rattle.analysis.proofs.Lowest.{none-passes}
-use Rattle.laws.specs.Rank.{choiceRank, ChoicesRanked}
-use Rattle.laws.specs.Stricter.{BitsWithin, AllSet, StagesWithin, CodesWithin, AlikeButCodes, NeverLoosens, AbsentCodes}
+use Rattle.laws.specs.Rank.{choiceRank, DeclineBelowOnlineBelowOffline}
+use Rattle.laws.specs.Stricter.{FortyBitsWithin, AllFortyBitsSet, ActionCodesWithinAtStages, StoredActionCodesWithin, AlikeButActionCodes, AddedBitsNeverRaiseChoice, IacAppearingOrLeavingRules}
 
 pub apart : {P : Type 0} → _≡_ {A = Bool} false true → P
 apart e = let z : _≡_ {A = ℕ} 0 1 = cc in absurd (omega arith)
@@ -35,19 +35,19 @@ apart e = let z : _≡_ {A = ℕ} 0 1 = cc in absurd (omega arith)
 
 -- a test that passes wherever another does finds a number where the other finds one
 some-still : (f g : ℕ → Bool) (n i : ℕ) → ((m : ℕ) → m < i + n → f m ≡ true → g m ≡ true)
-    → someBit (lowestFrom f i n) ≡ true → someBit (lowestFrom g i n) ≡ true
-unfolding lowestFrom
+    → isSomeBit (lowestBitFrom f i n) ≡ true → isSomeBit (lowestBitFrom g i n) ≡ true
+unfolding lowestBitFrom
 some-still f g zero i h e = e
 some-still f g (suc n) i h e =
     elim (bool-cases (g i)) [
-      | inl t ↦ ap someBit (if-yes (Bit i) (lowestFrom g (suc i) n) t)
+      | inl t ↦ ap isSomeBit (if-yes (Bit i) (lowestBitFrom g (suc i) n) t)
       | inr t ↦
-          ap someBit (if-no (Bit i) (lowestFrom g (suc i) n) t)
+          ap isSomeBit (if-no (Bit i) (lowestBitFrom g (suc i) n) t)
           ∙ elim (bool-cases (f i)) [
             | inl u ↦ apart (sym t ∙ h i (omega arith) u)
             | inr u ↦
                 some-still f g n (suc i) (λ m l. h m (omega arith))
-                (sym (ap someBit (if-no (Bit i) (lowestFrom f (suc i) n) u)) ∙ e)
+                (sym (ap isSomeBit (if-no (Bit i) (lowestBitFrom f (suc i) n) u)) ∙ e)
           ]
     ]
 
@@ -63,10 +63,10 @@ both-still true false c x y z p q r e = simp (p refl, r e) (either-true y)
     either-true false = refl
 both-still false b c x y z p q r e = apart e
 
-module _ (r s : List ℕ) (ps qs : List ActionCodes) (grown : BitsWithin r s) (codes : StagesWithin ps qs) where
+module _ (r s : List ℕ) (ps qs : List ActionCodes) (grown : FortyBitsWithin r s) (codes : ActionCodesWithinAtStages ps qs) where
   -- a stage that held a bit still holds one
-  held-still : (stage : ℕ) → stage < 3 → stageHolds r ps stage ≡ true → stageHolds s qs stage ≡ true
-  unfolding stageHolds lowestBit stageHoldsBit
+  held-still : (stage : ℕ) → stage < 3 → someTvrBitInCodesOfStage r ps stage ≡ true → someTvrBitInCodesOfStage s qs stage ≡ true
+  unfolding someTvrBitInCodesOfStage lowestTvrBitInCodes tvrBitIsInEitherActionCode
   held-still stage l e =
       some-still _ _ 40 0
       (λ m u. both-still _ _ _ _ _ _ (grown m u) (codes stage l .card m u) (codes stage l .terminal m u))
@@ -74,7 +74,7 @@ module _ (r s : List ℕ) (ps qs : List ActionCodes) (grown : BitsWithin r s) (c
 
 -- ---- the choice
 
-pub ranked : ChoicesRanked
+pub ranked : DeclineBelowOnlineBelowOffline
 ranked = record { decline-online = omega arith; online-offline = omega arith }
 
 decline-lowest : (c : Choice) → choiceRank Decline ≤ choiceRank c
@@ -84,11 +84,11 @@ decline-lowest Offline = omega arith
 
 -- by the type and what the three stages hold
 by-held : (k : OnlineCapability) (h o d x y z : Bool) → (h ≡ true → x ≡ true) → (o ≡ true → y ≡ true) → (d ≡ true → z ≡ true)
-    → choiceRank (choiceBy k x y z) ≤ choiceRank (choiceBy k h o d)
-by-held k             h     o     d     true  y     z     p q r = decline-lowest (choiceBy k h o d)
+    → choiceRank (choiceByStages k x y z) ≤ choiceRank (choiceByStages k h o d)
+by-held k             h     o     d     true  y     z     p q r = decline-lowest (choiceByStages k h o d)
 by-held k             true  o     d     false y     z     p q r = apart (p refl)
 by-held OnlineOnly    false o     d     false y     z     p q r = omega arith
-by-held OfflineOnly   false o     d     false y     true  p q r = decline-lowest (choiceBy OfflineOnly false o d)
+by-held OfflineOnly   false o     d     false y     true  p q r = decline-lowest (choiceByStages OfflineOnly false o d)
 by-held OfflineOnly   false o     true  false y     false p q r = apart (r refl)
 by-held OfflineOnly   false o     false false y     false p q r = omega arith
 by-held OnlineCapable false true  d     false true  z     p q r = omega arith
@@ -97,46 +97,46 @@ by-held OnlineCapable false true  d     false false z     p q r = apart (q refl)
 by-held OnlineCapable false false d     false false z     p q r = omega arith
 by-held Unlisted      false o     d     false y     z     p q r = omega arith
 
-lists : (r s : List ℕ) (kind : ℕ) (ps qs : List ActionCodes) → BitsWithin r s → StagesWithin ps qs
-    → choiceRank (choiceOf s kind qs) ≤ choiceRank (choiceOf r kind ps)
-unfolding choiceOf
+lists : (r s : List ℕ) (kind : ℕ) (ps qs : List ActionCodes) → FortyBitsWithin r s → ActionCodesWithinAtStages ps qs
+    → choiceRank (terminalActionAnalysis s kind qs) ≤ choiceRank (terminalActionAnalysis r kind ps)
+unfolding terminalActionAnalysis
 lists r s kind ps qs g c =
-    by-held (onlineCapabilityOf kind) _ _ _ _ _ _
+    by-held (onlineCapabilityOfType kind) _ _ _ _ _ _
     (held-still r s ps qs g c 0 (omega arith)) (held-still r s ps qs g c 1 (omega arith)) (held-still r s ps qs g c 2 (omega arith))
 
 -- ---- two stores
 
-store-codes : (b c : List ℕ) → CodesWithin b c → StagesWithin (actionCodesOf b) (actionCodesOf c)
+store-codes : (b c : List ℕ) → StoredActionCodesWithin b c → ActionCodesWithinAtStages (actionCodesOf b) (actionCodesOf c)
 unfolding actionCodesOf
 store-codes b c w zero l = record { card = w .card-denial; terminal = w .terminal-denial }
 store-codes b c w (suc zero) l = record { card = w .card-online; terminal = w .terminal-online }
 store-codes b c w (suc (suc zero)) l = record { card = w .card-default; terminal = w .terminal-default }
 store-codes b c w (suc (suc (suc i))) l = absurd (omega arith)
 
-stores : (r s b c : List ℕ) → terminalType c ≡ terminalType b → BitsWithin r s → CodesWithin b c → choiceRank (choiceFor c s) ≤ choiceRank (choiceFor b r)
-unfolding choiceFor
+stores : (r s b c : List ℕ) → terminalType c ≡ terminalType b → FortyBitsWithin r s → StoredActionCodesWithin b c → choiceRank (choiceForTvr c s) ≤ choiceRank (choiceForTvr b r)
+unfolding choiceForTvr
 stores r s b c e g w =
-    subst (λ k. choiceRank (choiceOf s k (actionCodesOf c)) ≤ choiceRank (choiceOf r (terminalType b) (actionCodesOf b))) (sym e)
+    subst (λ k. choiceRank (terminalActionAnalysis s k (actionCodesOf c)) ≤ choiceRank (terminalActionAnalysis r (terminalType b) (actionCodesOf b))) (sym e)
     (lists r s (terminalType b) (actionCodesOf b) (actionCodesOf c) g (store-codes b c w))
 
 -- ---- codes that grow alone
 
 -- no code is read for the TVR
-module _ (b c : List ℕ) (a : AlikeButCodes b c) where
+module _ (b c : List ℕ) (a : AlikeButActionCodes b c) where
   terms-same : cvmConditionsIn b ≡ cvmConditionsIn c
   unfolding cvmConditionsIn either
   terms-same = simp (a 0x9F33 refl, a 0x9C refl, a 0x9F35 refl, a 0x9F40 refl, a 0x5F2A refl, a 0x9F42 refl, a 0x9F02 refl, a 0x8E refl)
 
   verified-same : cvmResultIn b ≡ cvmResultIn c
-  unfolding cvmResultIn hasOnDeviceCvm either
+  unfolding cvmResultIn cardAndKernelSupportOnDeviceCvm either
   verified-same = simp (a 0x82 refl, a 0xDF811B refl, a 0x9F02 refl, a 0xDF8126 refl, a 0x8E refl, terms-same)
 
-  usage-same : aucViolatedIn b ≡ aucViolatedIn c
-  unfolding aucViolatedIn either
+  usage-same : aucViolatedInStore b ≡ aucViolatedInStore c
+  unfolding aucViolatedInStore either
   usage-same = simp (a 0x9F07 refl, a 0x9F35 refl, a 0x9F40 refl, a 0x5F28 refl, a 0x9F1A refl, a 0x9C refl, a 0x9F03 refl)
 
-  result-same : tvrOf b ≡ tvrOf c
-  unfolding tvrOf restrictionsByte either
+  result-same : tvrBeforeCvm b ≡ tvrBeforeCvm c
+  unfolding tvrBeforeCvm restrictionsTvrByte2 either
   result-same = simp (a 0x9F08 refl, a 0x9F09 refl, a 0x9A refl, a 0x5F24 refl, a 0x5F25 refl, a 0x9F02 refl, a 0xDF8123 refl, usage-same)
 
   bits-same : findingsOf b .bits ≡ findingsOf c .bits
@@ -147,16 +147,16 @@ module _ (b c : List ℕ) (a : AlikeButCodes b c) where
   unfolding either
   type-same = simp (a 0x9F35 refl)
 
-  codes-alone : CodesWithin b c → choiceRank (choiceFor c (findingsOf c .bits)) ≤ choiceRank (choiceFor b (findingsOf b .bits))
-  codes-alone w = stores (findingsOf b .bits) (findingsOf c .bits) b c type-same (λ i l e. ap (λ s. numberedBit s i) (sym bits-same) ∙ e) w
+  codes-alone : StoredActionCodesWithin b c → choiceRank (choiceForTvr c (findingsOf c .bits)) ≤ choiceRank (choiceForTvr b (findingsOf b .bits))
+  codes-alone w = stores (findingsOf b .bits) (findingsOf c .bits) b c type-same (λ i l e. ap (λ s. hasBitCountedFromZeroAtByte1B8 s i) (sym bits-same) ∙ e) w
 
-pub never-loosens : NeverLoosens
+pub never-loosens : AddedBitsNeverRaiseChoice
 never-loosens = record { lists = lists; stores = stores; codes-alone = codes-alone }
 
 -- ---- a code that is absent
 
 -- zeros have no bit, and ones have all forty
-zeros : (j : ℕ) → getD zeroCode j 0 ≡ 0
+zeros : (j : ℕ) → getD allZerosActionCode j 0 ≡ 0
 zeros zero = refl
 zeros (suc zero) = refl
 zeros (suc (suc zero)) = refl
@@ -164,27 +164,27 @@ zeros (suc (suc (suc zero))) = refl
 zeros (suc (suc (suc (suc zero)))) = refl
 zeros (suc (suc (suc (suc (suc j))))) = refl
 
-no-bit : (i : ℕ) → numberedBit zeroCode i ≡ false
-unfolding numberedBit
+no-bit : (i : ℕ) → hasBitCountedFromZeroAtByte1B8 allZerosActionCode i ≡ false
+unfolding hasBitCountedFromZeroAtByte1B8
 no-bit i = simp (zeros (i / 8 + 1 - 1), zero-div)
 
-all-bits : AllSet onesCode
-unfolding lowestFrom if numberedBit
-all-bits i l = not-false _ (none-passes (λ i. not (numberedBit onesCode i)) 40 0 refl i (omega arith) l)
+all-bits : AllFortyBitsSet allOnesActionCode
+unfolding lowestBitFrom if hasBitCountedFromZeroAtByte1B8
+all-bits i l = not-false _ (none-passes (λ i. not (hasBitCountedFromZeroAtByte1B8 allOnesActionCode i)) 40 0 refl i (omega arith) l)
 
 -- an absent code that is not denial's is all ones
-ones : (stage : ℕ) → (stage ≡ denialStage → ⊥) → iacCode stage absent ≡ onesCode
-unfolding iacCode
-ones stage n = if-no zeroCode onesCode (ne-eqb stage denialStage n)
+ones : (stage : ℕ) → (stage ≡ denialStage → ⊥) → iacOrDefault stage absent ≡ allOnesActionCode
+unfolding iacOrDefault
+ones stage n = if-no allZerosActionCode allOnesActionCode (ne-eqb stage denialStage n)
 
-pub absent-codes : AbsentCodes
-unfolding iacCode if
+pub absent-codes : IacAppearingOrLeavingRules
+unfolding iacOrDefault if
 absent-codes =
     record {
       denial-appears = λ v i l e. apart (sym (no-bit i) ∙ e);
       denial-leaves = λ v none i l e. apart (sym (none i l) ∙ e);
-      only-zeros = λ v w i l. elim (bool-cases (numberedBit (firstBytes 5 v) i)) [ inl t ↦ apart (sym (no-bit i) ∙ w i l t) | inr t ↦ t ];
+      only-zeros = λ v w i l. elim (bool-cases (hasBitCountedFromZeroAtByte1B8 (firstBytesZeroPadded 5 v) i)) [ inl t ↦ apart (sym (no-bit i) ∙ w i l t) | inr t ↦ t ];
       other-appears = λ stage v n all i l e. all i l;
-      only-ones = λ stage v n w i l. w i l (ap (λ s. numberedBit s i) (ones stage n) ∙ all-bits i l);
-      other-leaves = λ stage v n i l e. ap (λ s. numberedBit s i) (ones stage n) ∙ all-bits i l;
+      only-ones = λ stage v n w i l. w i l (ap (λ s. hasBitCountedFromZeroAtByte1B8 s i) (ones stage n) ∙ all-bits i l);
+      other-leaves = λ stage v n i l e. ap (λ s. hasBitCountedFromZeroAtByte1B8 s i) (ones stage n) ∙ all-bits i l;
     }

@@ -10,7 +10,7 @@ use lib.ListN.{length, replicate, length-replicate}
 use borrow.Author.Tests.{leb-true, eqb-true, eqb-false}
 use Rattle.basics.specs.Choice.{if, _and_, _≤?_, _=?_}
 use Rattle.basics.proofs.Laws.{if-yes, if-no, bool-cases, both-left, both-right}
-use Rattle.dictionary.specs.Named.{rowNumberFound, rowNumberOf}
+use Rattle.dictionary.specs.Named.{rowNumberFoundOrZero, rowNumberOfTagOrZero}
 use Rattle.dictionary.specs.Rows.{dictionaryRows, rowIn, rowAt, findRow, storeSize}
 use Rattle.dictionary.specs.declared.RowFound.{RowFound}
 use Rattle.dictionary.specs.declared.RowFound.the-variants.{At, Unknown}
@@ -49,7 +49,7 @@ valueAmong ((t, v) ∷ more) tag = if (t =? tag) (present v) (valueAmong more ta
 -- their store: the last one is put first
 unfoldable pub storeOf : List (ℕ × List ℕ) → List ℕ
 storeOf [] = replicate storeSize 0
-storeOf ((t, v) ∷ more) = putRow dictionaryRows (storeOf more) (rowNumberOf t) v
+storeOf ((t, v) ∷ more) = putRow dictionaryRows (storeOf more) (rowNumberOfTagOrZero t) v
 
 -- each tag is known, and its row has room for the value
 abbrev pub roomAt : ℕ → RowFound → Bool
@@ -63,26 +63,26 @@ haveRoom ((t, v) ∷ more) = roomAt (length v) (findRow dictionaryRows t) and ha
 -- ---- what their store holds
 
 record Room (b : List ℕ) (t : ℕ) (v : List ℕ) : Type 0 where
-  at : findRow dictionaryRows t ≡ At (rowNumberOf t)
-  fits : Fits dictionaryRows b (rowNumberOf t) v
+  at : findRow dictionaryRows t ≡ At (rowNumberOfTagOrZero t)
+  fits : Fits dictionaryRows b (rowNumberOfTagOrZero t) v
 
 room : (b : List ℕ) (t : ℕ) (v : List ℕ) → length b ≡ storeSize → roomAt (length v) (findRow dictionaryRows t) ≡ true → Room b t v
-unfolding rowNumberOf
+unfolding rowNumberOfTagOrZero
 room b t v l h = go (findRow dictionaryRows t) refl h
   where
     go : (x : RowFound) → findRow dictionaryRows t ≡ x → roomAt (length v) x ≡ true → Room b t v
     go Unknown e g = apart g
     go (At k) e g =
-        let at : findRow dictionaryRows t ≡ At (rowNumberFound (findRow dictionaryRows t)) = e ∙ ap (λ (x : RowFound). At (rowNumberFound x)) (sym e) in
+        let at : findRow dictionaryRows t ≡ At (rowNumberFoundOrZero (findRow dictionaryRows t)) = e ∙ ap (λ (x : RowFound). At (rowNumberFoundOrZero x)) (sym e) in
         let g2 = subst (λ (x : RowFound). roomAt (length v) x ≡ true) (sym e ∙ at) g in
-        record { at = at; fits = fits-row b (rowNumberFound (findRow dictionaryRows t)) v l (row-found t at) (leb-true _ _ g2) }
+        record { at = at; fits = fits-row b (rowNumberFoundOrZero (findRow dictionaryRows t)) v l (row-found t at) (leb-true _ _ g2) }
 
 length-of : (l : List (ℕ × List ℕ)) → haveRoom l ≡ true → length (storeOf l) ≡ storeSize
 unfolding storeOf haveRoom
 length-of [] h = length-replicate {A = ℕ} storeSize 0
 length-of ((t, v) ∷ more) h =
     let n = length-of more (both-right _ _ h) in
-    put-length dictionaryRows (storeOf more) (rowNumberOf t) v (room (storeOf more) t v n (both-left _ _ h) .fits) ∙ n
+    put-length dictionaryRows (storeOf more) (rowNumberOfTagOrZero t) v (room (storeOf more) t v n (both-left _ _ h) .fits) ∙ n
 
 empty-holds : (u : ℕ) → objectValue (replicate storeSize 0) u ≡ absent
 empty-holds u = go (findRow dictionaryRows u) refl
@@ -101,11 +101,11 @@ stored ((t, v) ∷ more) h u =
     let r = room (storeOf more) t v (length-of more m) (both-left _ _ h) in
     elim (bool-cases (t =? u)) [
       | inl e ↦
-          ap (objectValue (putRow dictionaryRows (storeOf more) (rowNumberOf t) v)) (sym (eqb-true t u e))
-          ∙ put-own (storeOf more) t (rowNumberOf t) v (r .at) (r .fits)
+          ap (objectValue (putRow dictionaryRows (storeOf more) (rowNumberOfTagOrZero t) v)) (sym (eqb-true t u e))
+          ∙ put-own (storeOf more) t (rowNumberOfTagOrZero t) v (r .at) (r .fits)
           ∙ sym (if-yes (present v) (valueAmong more u) e)
       | inr e ↦
-          sym (put-kept (storeOf more) t (rowNumberOf t) v (r .at) (r .fits) u (λ z. eqb-false t u e (sym z)))
+          sym (put-kept (storeOf more) t (rowNumberOfTagOrZero t) v (r .at) (r .fits) u (λ z. eqb-false t u e (sym z)))
           ∙ stored more m u
           ∙ sym (if-no (present v) (valueAmong more u) e)
     ]

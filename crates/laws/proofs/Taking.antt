@@ -19,10 +19,10 @@ use Rattle.dictionary.specs.declared.RowFound.the-variants.{At, Unknown}
 use Rattle.dictionary.specs.Rows.{dictionaryRows, rowAt, findRow, rowCount, storeSize}
 use Rattle.dictionary.proofs.Find.{found}
 use Rattle.dictionary.proofs.Fit.{fits-length}
-use Rattle.store.specs.Place.{StoredValue, bytesOfValue, isFree, putRow}
+use Rattle.store.specs.Place.{StoredValue, bytesOrEmptyIfAbsent, isRowAbsentOrEmpty, putRow}
 use Rattle.store.proofs.Laws.{Fits, put-length, put-other, put-put}
 use Rattle.store.proofs.Rows.{rows-length, fits-row}
-use Rattle.reading.specs.Taking.{PrimitiveItem, cardMaySet, allowedInResponse, TakeState, takeState, takeItem, takeAll}
+use Rattle.reading.specs.Taking.{PrimitiveItem, cardMaySet, rowAllowsValueFromCard, StoringState, storingState, storeItem, storeAllItems}
 use Rattle.reading.proofs.Laws.{item-unknown, item-skipped, item-barred, item-put, item-again, may-come-fits, next-good, next-bad}
 use Rattle.reading.proofs.Kept.{All}
 
@@ -34,11 +34,11 @@ module _ (answer : ℕ) where
     row : k < rowCount
     tag : rowAt k .tag ≡ i .tag
     short : length (i .value) ≤ rowAt k .greatest
-    puts : (b : List ℕ) → takeItem answer b i ≡ takeState (isFree dictionaryRows b k) (if (isFree dictionaryRows b k) (putRow dictionaryRows b k (i .value)) b)
+    puts : (b : List ℕ) → storeItem answer b i ≡ storingState (isRowAbsentOrEmpty dictionaryRows b k) (if (isRowAbsentOrEmpty dictionaryRows b k) (putRow dictionaryRows b k (i .value)) b)
 
   data Effect (i : PrimitiveItem) : Type 0 where
-    skipped : ((b : List ℕ) → takeItem answer b i ≡ takeState true b) → Effect i
-    barred : ((b : List ℕ) → takeItem answer b i ≡ takeState false b) → Effect i
+    skipped : ((b : List ℕ) → storeItem answer b i ≡ storingState true b) → Effect i
+    barred : ((b : List ℕ) → storeItem answer b i ≡ storingState false b) → Effect i
     stored : (k : ℕ) → Stored i k → Effect i
 
   effect : (i : PrimitiveItem) → Effect i
@@ -47,7 +47,7 @@ module _ (answer : ℕ) where
       known : (k : ℕ) → findRow dictionaryRows (i .tag) ≡ At k → Effect i
       known k e = elim (bool-cases (both (isPrivate (i .tag)) (not (cardMaySet (rowAt k))))) [
         | inl s ↦ skipped (λ b. item-skipped answer b i (findRow dictionaryRows (i .tag)) refl k e s)
-        | inr s ↦ elim (bool-cases (allowedInResponse answer (rowAt k) (i .around) (i .value))) [
+        | inr s ↦ elim (bool-cases (rowAllowsValueFromCard answer (rowAt k) (i .around) (i .value))) [
           | inl m ↦
               let f = found dictionaryRows (i .tag) k e in
               let l = fits-length (rowAt k) (i .value) (may-come-fits answer (rowAt k) (i .around) (i .value) m) in
@@ -56,9 +56,9 @@ module _ (answer : ℕ) where
                 tag = f .1;
                 short = l .1;
                 puts = λ b.
-                    elim (bool-cases (isFree dictionaryRows b k))
-                    [ inl t ↦ item-put answer b i (findRow dictionaryRows (i .tag)) refl k e s m t ∙ sym (ap₂ takeState t (if-yes _ _ t))
-                    | inr t ↦ item-again answer b i (findRow dictionaryRows (i .tag)) refl k e s m t ∙ sym (ap₂ takeState t (if-no _ _ t))
+                    elim (bool-cases (isRowAbsentOrEmpty dictionaryRows b k))
+                    [ inl t ↦ item-put answer b i (findRow dictionaryRows (i .tag)) refl k e s m t ∙ sym (ap₂ storingState t (if-yes _ _ t))
+                    | inr t ↦ item-again answer b i (findRow dictionaryRows (i .tag)) refl k e s m t ∙ sym (ap₂ storingState t (if-no _ _ t))
                     ];
               })
           | inr m ↦ barred (λ b. item-barred answer b i (findRow dictionaryRows (i .tag)) refl k e s m)
@@ -72,7 +72,7 @@ module _ (answer : ℕ) where
   -- a store of its size, and an object that it takes
   pub record Takes (b : List ℕ) (i : PrimitiveItem) (c : List ℕ) : Type 0 where
     size : length b ≡ storeSize
-    is : takeItem answer b i ≡ takeState true c
+    is : storeItem answer b i ≡ storingState true c
 
   -- ---- a put that was made
 
@@ -80,33 +80,33 @@ module _ (answer : ℕ) where
     fit : Fits dictionaryRows b k (i .value)
     fit = fits-row b k (i .value) (t .size) (s .row) (s .short)
 
-    same : takeState (isFree dictionaryRows b k) (if (isFree dictionaryRows b k) (putRow dictionaryRows b k (i .value)) b) ≡ takeState true c
+    same : storingState (isRowAbsentOrEmpty dictionaryRows b k) (if (isRowAbsentOrEmpty dictionaryRows b k) (putRow dictionaryRows b k (i .value)) b) ≡ storingState true c
     same = sym (s .puts b) ∙ t .is
 
-    free : isFree dictionaryRows b k ≡ true
-    free = ap (λ (w : TakeState). w .good) same
+    free : isRowAbsentOrEmpty dictionaryRows b k ≡ true
+    free = ap (λ (w : StoringState). w .good) same
 
     written : putRow dictionaryRows b k (i .value) ≡ c
-    written = sym (if-yes _ _ free) ∙ ap (λ (w : TakeState). w .store) same
+    written = sym (if-yes _ _ free) ∙ ap (λ (w : StoringState). w .store) same
 
     sized : length c ≡ storeSize
     sized = ap length (sym written) ∙ put-length dictionaryRows b k (i .value) fit ∙ t .size
 
     -- another row is free as it was
-    other-free : (j : ℕ) → (j ≡ k → ⊥) → isFree dictionaryRows c j ≡ isFree dictionaryRows b j
+    other-free : (j : ℕ) → (j ≡ k → ⊥) → isRowAbsentOrEmpty dictionaryRows c j ≡ isRowAbsentOrEmpty dictionaryRows b j
     other-free j ne =
-        ap (λ (x : List ℕ). isFree dictionaryRows x j) (sym written)
-        ∙ ap (λ (x : StoredValue). eqb (length (bytesOfValue x)) 0) (put-other dictionaryRows b k (i .value) fit j ne)
+        ap (λ (x : List ℕ). isRowAbsentOrEmpty dictionaryRows x j) (sym written)
+        ∙ ap (λ (x : StoredValue). eqb (length (bytesOrEmptyIfAbsent x)) 0) (put-other dictionaryRows b k (i .value) fit j ne)
 
   -- the object that is put where its row is free
-  puts-free : (b : List ℕ) {i : PrimitiveItem} {k : ℕ} (s : Stored i k) → isFree dictionaryRows b k ≡ true → takeItem answer b i ≡ takeState true (putRow dictionaryRows b k (i .value))
-  puts-free b {i} {k} s e = s .puts b ∙ ap₂ takeState e (if-yes _ _ e)
+  puts-free : (b : List ℕ) {i : PrimitiveItem} {k : ℕ} (s : Stored i k) → isRowAbsentOrEmpty dictionaryRows b k ≡ true → storeItem answer b i ≡ storingState true (putRow dictionaryRows b k (i .value))
+  puts-free b {i} {k} s e = s .puts b ∙ ap₂ storingState e (if-yes _ _ e)
 
   -- a refusal takes nothing
-  never : {b c : List ℕ} {i : PrimitiveItem} {A : Type 0} → ((x : List ℕ) → takeItem answer x i ≡ takeState false x) → Takes b i c → A
+  never : {b c : List ℕ} {i : PrimitiveItem} {A : Type 0} → ((x : List ℕ) → storeItem answer x i ≡ storingState false x) → Takes b i c → A
   never {b} {c} h t =
-      let e : takeState false b ≡ takeState true c = sym (h b) ∙ t .is in
-      let f : false ≡ true = ap (λ (w : TakeState). w .good) e in
+      let e : storingState false b ≡ storingState true c = sym (h b) ∙ t .is in
+      let f : false ≡ true = ap (λ (w : StoringState). w .good) e in
       let z : _≡_ {A = ℕ} 0 1 = cc in
       absurd (omega arith)
 
@@ -114,7 +114,7 @@ module _ (answer : ℕ) where
   takes-size {b} {c} {i} t = go (effect i)
     where
       go : Effect i → length c ≡ storeSize
-      go (skipped h) = let e : takeState true b ≡ takeState true c = sym (h b) ∙ t .is in ap (λ (w : TakeState). length (w .store)) (sym e) ∙ t .size
+      go (skipped h) = let e : storingState true b ≡ storingState true c = sym (h b) ∙ t .is in ap (λ (w : StoringState). length (w .store)) (sym e) ∙ t .size
       go (barred h) = never h t
       go (stored k s) = sized s t
 
@@ -127,10 +127,10 @@ module _ (answer : ℕ) where
     first : Takes d i store
 
   -- an object that does nothing
-  nothing : {b c d : List ℕ} {i j : PrimitiveItem} → ((x : List ℕ) → takeItem answer x i ≡ takeState true x) → Takes b i c → Takes b j d → Meets c d i j
+  nothing : {b c d : List ℕ} {i j : PrimitiveItem} → ((x : List ℕ) → storeItem answer x i ≡ storingState true x) → Takes b i c → Takes b j d → Meets c d i j
   nothing {b} {c} {d} {i} {j} h t u =
-      let e : takeState true b ≡ takeState true c = sym (h b) ∙ t .is in
-      let same-store : b ≡ c = ap (λ (w : TakeState). w .store) e in
+      let e : storingState true b ≡ storingState true c = sym (h b) ∙ t .is in
+      let same-store : b ≡ c = ap (λ (w : StoringState). w .store) e in
       record { store = d; second = subst (λ (x : List ℕ). Takes x j d) same-store u; first = record { size = takes-size u; is = h d } }
 
   turned : {c d : List ℕ} {i j : PrimitiveItem} → Meets c d i j → Meets d c j i
@@ -142,7 +142,7 @@ module _ (answer : ℕ) where
       record {
         store = putRow dictionaryRows c l (j .value);
         second = record { size = sized s t; is = puts-free c s′ (other-free s t l (λ e. apart-rows (sym e)) ∙ free s′ u) };
-        first = record { size = sized s′ u; is = puts-free d s (other-free s′ u k apart-rows ∙ free s t) ∙ ap (takeState true) meet };
+        first = record { size = sized s′ u; is = puts-free d s (other-free s′ u k apart-rows ∙ free s t) ∙ ap (storingState true) meet };
       }
     where
       apart-rows : k ≡ l → ⊥
@@ -197,37 +197,37 @@ module _ (answer : ℕ) where
 
   -- ---- as the reading takes them
 
-  pub run-is : {b c : List ℕ} {is : List PrimitiveItem} → Run b is c → takeAll answer (takeState true b) is ≡ takeState true c
-  unfolding takeAll
+  pub run-is : {b c : List ℕ} {is : List PrimitiveItem} → Run b is c → storeAllItems answer (storingState true b) is ≡ storingState true c
+  unfolding storeAllItems
   run-is (done l) = refl
-  run-is {b = b} (more {i = i} {is = is} t r) = ap (λ (w : TakeState). takeAll answer w is) (next-good answer b i refl ∙ t .is) ∙ run-is r
+  run-is {b = b} (more {i = i} {is = is} t r) = ap (λ (w : StoringState). storeAllItems answer w is) (next-good answer b i refl ∙ t .is) ∙ run-is r
 
-  bad-stays : (b : List ℕ) (is : List PrimitiveItem) → takeAll answer (takeState false b) is ≡ takeState false b
-  unfolding takeAll
+  bad-stays : (b : List ℕ) (is : List PrimitiveItem) → storeAllItems answer (storingState false b) is ≡ storingState false b
+  unfolding storeAllItems
   bad-stays b [] = refl
-  bad-stays b (i ∷ is) = ap (λ (w : TakeState). takeAll answer w is) (next-bad answer b i refl) ∙ bad-stays b is
+  bad-stays b (i ∷ is) = ap (λ (w : StoringState). storeAllItems answer w is) (next-bad answer b i refl) ∙ bad-stays b is
 
   -- the first object of a list that is taken whole, and the ones after it
-  first-of : (b : List ℕ) (i : PrimitiveItem) (is : List PrimitiveItem) (c : List ℕ) → takeAll answer (takeState true b) (i ∷ is) ≡ takeState true c
-      → (d : List ℕ) × (takeItem answer b i ≡ takeState true d) × (takeAll answer (takeState true d) is ≡ takeState true c)
-  unfolding takeAll
-  first-of b i is c e = by (takeItem answer b i .good) (takeItem answer b i .store) refl
+  first-of : (b : List ℕ) (i : PrimitiveItem) (is : List PrimitiveItem) (c : List ℕ) → storeAllItems answer (storingState true b) (i ∷ is) ≡ storingState true c
+      → (d : List ℕ) × (storeItem answer b i ≡ storingState true d) × (storeAllItems answer (storingState true d) is ≡ storingState true c)
+  unfolding storeAllItems
+  first-of b i is c e = by (storeItem answer b i .good) (storeItem answer b i .store) refl
     where
-      behind : (w : TakeState) → takeItem answer b i ≡ w → takeAll answer w is ≡ takeState true c
-      behind w p = ap (λ (x : TakeState). takeAll answer x is) (sym p ∙ sym (next-good answer b i refl)) ∙ e
+      behind : (w : StoringState) → storeItem answer b i ≡ w → storeAllItems answer w is ≡ storingState true c
+      behind w p = ap (λ (x : StoringState). storeAllItems answer x is) (sym p ∙ sym (next-good answer b i refl)) ∙ e
 
-      by : (g : Bool) (d : List ℕ) → takeItem answer b i ≡ takeState g d
-          → (d : List ℕ) × (takeItem answer b i ≡ takeState true d) × (takeAll answer (takeState true d) is ≡ takeState true c)
-      by true d p = (d, p, behind (takeState true d) p)
+      by : (g : Bool) (d : List ℕ) → storeItem answer b i ≡ storingState g d
+          → (d : List ℕ) × (storeItem answer b i ≡ storingState true d) × (storeAllItems answer (storingState true d) is ≡ storingState true c)
+      by true d p = (d, p, behind (storingState true d) p)
       by false d p =
-          let f : takeState false d ≡ takeState true c = sym (bad-stays d is) ∙ behind (takeState false d) p in
-          let q : false ≡ true = ap (λ (w : TakeState). w .good) f in
+          let f : storingState false d ≡ storingState true c = sym (bad-stays d is) ∙ behind (storingState false d) p in
+          let q : false ≡ true = ap (λ (w : StoringState). w .good) f in
           let z : _≡_ {A = ℕ} 0 1 = cc in
           absurd (omega arith)
 
-  pub run-of : (b : List ℕ) (is : List PrimitiveItem) (c : List ℕ) → length b ≡ storeSize → takeAll answer (takeState true b) is ≡ takeState true c → Run b is c
-  unfolding takeAll
-  run-of b [] c l e = subst (Run b []) (ap (λ (w : TakeState). w .store) e) (done l)
+  pub run-of : (b : List ℕ) (is : List PrimitiveItem) (c : List ℕ) → length b ≡ storeSize → storeAllItems answer (storingState true b) is ≡ storingState true c → Run b is c
+  unfolding storeAllItems
+  run-of b [] c l e = subst (Run b []) (ap (λ (w : StoringState). w .store) e) (done l)
   run-of b (i ∷ is) c l e =
       let f = first-of b i is c e in
       let t : Takes b i (f .0) = record { size = l; is = f .1 } in

@@ -6,7 +6,7 @@ use mathlib.Core.Option.{some}
 use Prim.Native.Nat.{ℕ}
 use Rattle.basics.specs.Types.{StoreBytes, DolBytes, Value, Bytes, Length}
 use Rattle.dictionary.specs.Rows.{Row}
-use Rattle.dol.specs.Filling.{padded, fittedTo, dolFilled}
+use Rattle.dol.specs.Filling.{paddedToLength, fittedToLength, dolFilled}
 
 -- the bytes s are a well-formed DOL, and v is its filling from a store; how long v is plays no part
 abbrev pub FillsDol : List Row → StoreBytes → DolBytes → Bytes → Type 0
@@ -14,9 +14,9 @@ FillsDol table store s v = dolFilled table store s ≡ some v
 
 -- a value v brought to m bytes and then to n is v brought to n at once: as padding alone, and as filling does it, which
 -- truncates a value that is too long
-pub record PaddedOnce (form : ℕ) (m n : Length) (v : Value) : Type 0 where
-  pub padding : padded form n (padded form m v) ≡ padded form n v
-  pub fitting : fittedTo form n (fittedTo form m v) ≡ fittedTo form n v
+pub record FittingTwiceIsFittingOnce (format : ℕ) (firstLength secondLength : Length) (value : Value) : Type 0 where
+  pub padding : paddedToLength format secondLength (paddedToLength format firstLength value) ≡ paddedToLength format secondLength value
+  pub fitting : fittedToLength format secondLength (fittedToLength format firstLength value) ≡ fittedToLength format secondLength value
 
 -- ---- what holds of it: the promises `filling` and `padding` of `records_in_any_order`, by `filled-join`,
 -- `padded-twice` and `fitted-twice` (`dol`, proofs/Filling and proofs/Fitting)

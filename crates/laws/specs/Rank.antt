@@ -11,6 +11,6 @@ choiceRank Online  = 1
 choiceRank Offline = 2
 
 -- no two choices have the same rank; `choice_rank` promises it
-pub record ChoicesRanked : Type 0 where
+pub record DeclineBelowOnlineBelowOffline : Type 0 where
   pub decline-online : choiceRank Decline < choiceRank Online
   pub online-offline : choiceRank Online < choiceRank Offline

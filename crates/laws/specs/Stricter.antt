@@ -11,10 +11,10 @@ use Rattle.basics.specs.Types.{Value, StoreBytes, TvrBytes, Tag}
 use Rattle.basics.specs.Choice.{_or_, _=?_}
 use Rattle.store.specs.Place.{absent, present, objectValue}
 use Rattle.store.specs.Held.{storedBytes}
-use Rattle.analysis.specs.Bits.{numberedBit}
-use Rattle.analysis.specs.Value.{firstBytes}
-use Rattle.analysis.specs.Choice.{denialStage, onlineStage, defaultStage, iacCode, noActionCodes, choiceOf}
-use Rattle.analysis.specs.Action.{terminalType, findingsOf, choiceFor}
+use Rattle.analysis.specs.Bits.{hasBitCountedFromZeroAtByte1B8}
+use Rattle.analysis.specs.Value.{firstBytesZeroPadded}
+use Rattle.analysis.specs.Choice.{denialStage, onlineStage, defaultStage, iacOrDefault, noActionCodes, terminalActionAnalysis}
+use Rattle.analysis.specs.Action.{terminalType, findingsOf, choiceForTvr}
 use Rattle.analysis.specs.declared.choice.ActionCodes.{ActionCodes}
 use Rattle.laws.specs.Rank.{choiceRank}
 
@@ -22,86 +22,93 @@ use Rattle.laws.specs.Rank.{choiceRank}
 
 -- the second value is the first with bits added, or with none: each of the forty bits, byte 1 b8 to byte 5 b1, that
 -- the first has is in the second too
-abbrev pub BitsWithin : Value → Value → Type 0
-BitsWithin s t = (i : ℕ) → i < 40 → numberedBit s i ≡ true → numberedBit t i ≡ true
+abbrev pub FortyBitsWithin : Value → Value → Type 0
+FortyBitsWithin s t =
+    (i : ℕ) → i < 40 → hasBitCountedFromZeroAtByte1B8 s i ≡ true → hasBitCountedFromZeroAtByte1B8 t i ≡ true
 
 -- all forty bits are set
-abbrev pub AllSet : Value → Type 0
-AllSet s = (i : ℕ) → i < 40 → numberedBit s i ≡ true
+abbrev pub AllFortyBitsSet : Value → Type 0
+AllFortyBitsSet s = (i : ℕ) → i < 40 → hasBitCountedFromZeroAtByte1B8 s i ≡ true
 
 -- none of the forty bits is set
-abbrev pub NoneSet : Value → Type 0
-NoneSet s = (i : ℕ) → i < 40 → numberedBit s i ≡ false
+abbrev pub NoneOfFortyBitsSet : Value → Type 0
+NoneOfFortyBitsSet s = (i : ℕ) → i < 40 → hasBitCountedFromZeroAtByte1B8 s i ≡ false
 
 -- of two pairs, the card's code and the terminal's
-pub record ActionCodesWithin (p q : ActionCodes) : Type 0 where
-  pub card : BitsWithin (p .card) (q .card)
-  pub terminal : BitsWithin (p .terminal) (q .terminal)
+pub record ActionCodesWithin (oldCodes newCodes : ActionCodes) : Type 0 where
+  pub card : FortyBitsWithin (oldCodes .card) (newCodes .card)
+  pub terminal : FortyBitsWithin (oldCodes .terminal) (newCodes .terminal)
 
 -- at each of the three stages
-abbrev pub StagesWithin : List ActionCodes → List ActionCodes → Type 0
-StagesWithin ps qs =
+abbrev pub ActionCodesWithinAtStages : List ActionCodes → List ActionCodes → Type 0
+ActionCodesWithinAtStages ps qs =
     (stage : ℕ) → stage < 3 → ActionCodesWithin (getD ps stage noActionCodes) (getD qs stage noActionCodes)
 
 -- ---- codes of a store, as they are read
 
 -- the card's code of a stage under its tag: zeros for denial and ones for the others where it is absent
-abbrev pub iacRead : StoreBytes → ℕ → Tag → Value
-iacRead store stage tag = iacCode stage (objectValue store tag)
+abbrev pub storedIacOrValueIfAbsent : StoreBytes → ℕ → Tag → Value
+storedIacOrValueIfAbsent store stage tag = iacOrDefault stage (objectValue store tag)
 
 -- the terminal's code under its tag: zeros where it is absent, which no running session's is
-abbrev pub tacRead : StoreBytes → Tag → Value
-tacRead store tag = firstBytes 5 (storedBytes store tag)
+abbrev pub storedTacOrZeros : StoreBytes → Tag → Value
+storedTacOrZeros store tag = firstBytesZeroPadded 5 (storedBytes store tag)
 
 -- each of the six codes of the old store b is contained in the new store c's; stages and tags are document 01's pairs
-pub record CodesWithin (b c : StoreBytes) : Type 0 where
-  pub card-denial      : BitsWithin (iacRead b denialStage 0x9F0E) (iacRead c denialStage 0x9F0E)
-  pub card-online      : BitsWithin (iacRead b onlineStage 0x9F0F) (iacRead c onlineStage 0x9F0F)
-  pub card-default     : BitsWithin (iacRead b defaultStage 0x9F0D) (iacRead c defaultStage 0x9F0D)
-  pub terminal-denial  : BitsWithin (tacRead b 0xDF8121) (tacRead c 0xDF8121)
-  pub terminal-online  : BitsWithin (tacRead b 0xDF8122) (tacRead c 0xDF8122)
-  pub terminal-default : BitsWithin (tacRead b 0xDF8120) (tacRead c 0xDF8120)
+pub record StoredActionCodesWithin (oldStore newStore : StoreBytes) : Type 0 where
+  pub card-denial      : FortyBitsWithin (storedIacOrValueIfAbsent oldStore denialStage 0x9F0E) (storedIacOrValueIfAbsent newStore denialStage 0x9F0E)
+  pub card-online      : FortyBitsWithin (storedIacOrValueIfAbsent oldStore onlineStage 0x9F0F) (storedIacOrValueIfAbsent newStore onlineStage 0x9F0F)
+  pub card-default     : FortyBitsWithin (storedIacOrValueIfAbsent oldStore defaultStage 0x9F0D) (storedIacOrValueIfAbsent newStore defaultStage 0x9F0D)
+  pub terminal-denial  : FortyBitsWithin (storedTacOrZeros oldStore 0xDF8121) (storedTacOrZeros newStore 0xDF8121)
+  pub terminal-online  : FortyBitsWithin (storedTacOrZeros oldStore 0xDF8122) (storedTacOrZeros newStore 0xDF8122)
+  pub terminal-default : FortyBitsWithin (storedTacOrZeros oldStore 0xDF8120) (storedTacOrZeros newStore 0xDF8120)
 
 -- a tag is one of the six codes'
-abbrev pub isActionCode : Tag → Bool
-isActionCode tag =
+abbrev pub isActionCodeTag : Tag → Bool
+isActionCodeTag tag =
     tag =? 0x9F0E or tag =? 0x9F0F or tag =? 0x9F0D
     or tag =? 0xDF8121 or tag =? 0xDF8122 or tag =? 0xDF8120
 
 -- two stores are alike but for the six codes
-abbrev pub AlikeButCodes : StoreBytes → StoreBytes → Type 0
-AlikeButCodes b c = (tag : Tag) → isActionCode tag ≡ false → objectValue b tag ≡ objectValue c tag
+abbrev pub AlikeButActionCodes : StoreBytes → StoreBytes → Type 0
+AlikeButActionCodes b c = (tag : Tag) → isActionCodeTag tag ≡ false → objectValue b tag ≡ objectValue c tag
 
 -- ---- what `choice_rank` promises
 
 -- added bits never raise the choice. Old are the TVR r, the pairs ps and the store b; new are s, qs and c
-pub record NeverLoosens : Type 0 where
+pub record AddedBitsNeverRaiseChoice : Type 0 where
   -- over any TVR, type and pairs of codes
-  pub lists : (r s : TvrBytes) (kind : ℕ) (ps qs : List ActionCodes) → BitsWithin r s → StagesWithin ps qs
-      → choiceRank (choiceOf s kind qs) ≤ choiceRank (choiceOf r kind ps)
+  pub lists : (r s : TvrBytes) (kind : ℕ) (ps qs : List ActionCodes) → FortyBitsWithin r s
+      → ActionCodesWithinAtStages ps qs
+      → choiceRank (terminalActionAnalysis s kind qs) ≤ choiceRank (terminalActionAnalysis r kind ps)
   -- over any two stores of one terminal type, on any TVR
-  pub stores : (r s : TvrBytes) (b c : StoreBytes) → terminalType c ≡ terminalType b → BitsWithin r s → CodesWithin b c
-      → choiceRank (choiceFor c s) ≤ choiceRank (choiceFor b r)
+  pub stores : (r s : TvrBytes) (b c : StoreBytes) → terminalType c ≡ terminalType b → FortyBitsWithin r s
+      → StoredActionCodesWithin b c
+      → choiceRank (choiceForTvr c s) ≤ choiceRank (choiceForTvr b r)
   -- over any two stores alike but for the codes, on the TVR that is found in each: what a session requests
-  pub codes-alone : (b c : StoreBytes) → AlikeButCodes b c → CodesWithin b c
-      → choiceRank (choiceFor c (findingsOf c .bits)) ≤ choiceRank (choiceFor b (findingsOf b .bits))
+  pub codes-alone : (b c : StoreBytes) → AlikeButActionCodes b c → StoredActionCodesWithin b c
+      → choiceRank (choiceForTvr c (findingsOf c .bits)) ≤ choiceRank (choiceForTvr b (findingsOf b .bits))
 
 -- a card's code of a stage that appears with the value v, and one that goes away, is an addition
-abbrev pub IacAppears : ℕ → Value → Type 0
-IacAppears stage v = BitsWithin (iacCode stage absent) (iacCode stage (present v))
+abbrev pub AppearingIacOnlyAddsBits : ℕ → Value → Type 0
+AppearingIacOnlyAddsBits stage v = FortyBitsWithin (iacOrDefault stage absent) (iacOrDefault stage (present v))
 
-abbrev pub IacLeaves : ℕ → Value → Type 0
-IacLeaves stage v = BitsWithin (iacCode stage (present v)) (iacCode stage absent)
+abbrev pub DisappearingIacOnlyAddsBits : ℕ → Value → Type 0
+DisappearingIacOnlyAddsBits stage v = FortyBitsWithin (iacOrDefault stage (present v)) (iacOrDefault stage absent)
 
 -- whether a card's code that appears, or goes away, is an addition; a stage other than denial is online or default
-pub record AbsentCodes : Type 0 where
+pub record IacAppearingOrLeavingRules : Type 0 where
   -- a denial code that appears always is
-  pub denial-appears : (v : Value) → IacAppears denialStage v
+  pub denial-appears : (v : Value) → AppearingIacOnlyAddsBits denialStage v
   -- a denial code that goes away is an addition where it has no bit, and only there
-  pub denial-leaves : (v : Value) → NoneSet (firstBytes 5 v) → IacLeaves denialStage v
-  pub only-zeros : (v : Value) → IacLeaves denialStage v → NoneSet (firstBytes 5 v)
+  pub denial-leaves : (v : Value) → NoneOfFortyBitsSet (firstBytesZeroPadded 5 v)
+      → DisappearingIacOnlyAddsBits denialStage v
+  pub only-zeros : (v : Value) → DisappearingIacOnlyAddsBits denialStage v
+      → NoneOfFortyBitsSet (firstBytesZeroPadded 5 v)
   -- an online or default code that appears is an addition where it is all ones, and only there
-  pub other-appears : (stage : ℕ) (v : Value) → (stage ≡ denialStage → ⊥) → AllSet (firstBytes 5 v) → IacAppears stage v
-  pub only-ones : (stage : ℕ) (v : Value) → (stage ≡ denialStage → ⊥) → IacAppears stage v → AllSet (firstBytes 5 v)
+  pub other-appears : (stage : ℕ) (v : Value) → (stage ≡ denialStage → ⊥)
+      → AllFortyBitsSet (firstBytesZeroPadded 5 v) → AppearingIacOnlyAddsBits stage v
+  pub only-ones : (stage : ℕ) (v : Value) → (stage ≡ denialStage → ⊥) → AppearingIacOnlyAddsBits stage v
+      → AllFortyBitsSet (firstBytesZeroPadded 5 v)
   -- an online or default code that goes away always is an addition
-  pub other-leaves : (stage : ℕ) (v : Value) → (stage ≡ denialStage → ⊥) → IacLeaves stage v
+  pub other-leaves : (stage : ℕ) (v : Value) → (stage ≡ denialStage → ⊥) → DisappearingIacOnlyAddsBits stage v

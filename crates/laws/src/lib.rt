@@ -10,25 +10,25 @@ ghost use Prim.Native.Nat.{ℕ, _≤_};
 ghost use lib.ListN.{length};
 ghost use Rattle.dictionary.specs.Rows.{Row, storeSize};
 ghost use Rattle.reading.specs.declared.Sfi.{Sfi};
-ghost use Rattle.laws.specs.Lists.{FillsDol, PaddedOnce};
-ghost use Rattle.laws.specs.Records.{ShareNoTag, ReadingAccepted, readContents, readRecordAnswer, ContentsAgree, AnswersAgree};
-ghost use Rattle.laws.specs.Records.{recordContents, isRecordAnswer, AnswerWith, shortestRecord};
+ghost use Rattle.laws.specs.Lists.{FillsDol, FittingTwiceIsFittingOnce};
+ghost use Rattle.laws.specs.Records.{ShareNoPrimitiveTag, ReadingAccepted, readRecordContents, readRecordAnswer, RecordContentsCommuteAndJoin, RecordAnswersCommuteAndJoin};
+ghost use Rattle.laws.specs.Records.{outerObjectContents, isSuccessfulRecordAnswerIn70, RecordAnswerWithContents, shortestRecordAnswer};
 
 // The most bytes of contents that a record's answer holds: up to here, joined contents are one answer.
 pub fn records_in_any_order() -> usize
     ensures most { λ r. ⌜ r ≡ 253 ⌝ }
     ensures filling { λ _. ⌜ ((table : List Row) (store s t v w : List ℕ) → FillsDol table store s v → FillsDol table store t w
         → FillsDol table store (s ++ t) (v ++ w)) ⌝ }
-    ensures records { λ _. ⌜ ((b c d : List ℕ) → length b ≡ storeSize → ShareNoTag c d
-        → ReadingAccepted (readContents c) b → ReadingAccepted (readContents d) b → ContentsAgree b c d) ⌝ }
+    ensures records { λ _. ⌜ ((b c d : List ℕ) → length b ≡ storeSize → ShareNoPrimitiveTag c d
+        → ReadingAccepted (readRecordContents c) b → ReadingAccepted (readRecordContents d) b → RecordContentsCommuteAndJoin b c d) ⌝ }
     ensures answers { λ _. ⌜ ((f g : Sfi) (b s t : List ℕ) → f .number ≤ 10 → g .number ≤ 10 → length b ≡ storeSize
-        → ShareNoTag (recordContents s) (recordContents t) → ReadingAccepted (readRecordAnswer f s) b → ReadingAccepted (readRecordAnswer g t) b → AnswersAgree f g b s t) ⌝ }
-    ensures padding { λ _. ⌜ ((form m n : ℕ) (v : List ℕ) → length v ≤ m → m ≤ n → PaddedOnce form m n v) ⌝ }
-    ensures whole { λ _. ⌜ ((f : Sfi) (b s : List ℕ) → f .number ≤ 10 → isRecordAnswer s ≡ true
-        → readRecordAnswer f s b ≡ readContents (recordContents s) b) ⌝ }
-    ensures accepted { λ _. ⌜ ((f : Sfi) (b s : List ℕ) → f .number ≤ 10 → ReadingAccepted (readRecordAnswer f s) b → isRecordAnswer s ≡ true) ⌝ }
-    ensures room { λ r. ⌜ ((c : List ℕ) → length c ≤ r → AnswerWith (shortestRecord c) c) ⌝ }
-    ensures longest { λ r. ⌜ ((s : List ℕ) → isRecordAnswer s ≡ true → length (recordContents s) ≤ r) ⌝ }
+        → ShareNoPrimitiveTag (outerObjectContents s) (outerObjectContents t) → ReadingAccepted (readRecordAnswer f s) b → ReadingAccepted (readRecordAnswer g t) b → RecordAnswersCommuteAndJoin f g b s t) ⌝ }
+    ensures padding { λ _. ⌜ ((form m n : ℕ) (v : List ℕ) → length v ≤ m → m ≤ n → FittingTwiceIsFittingOnce form m n v) ⌝ }
+    ensures whole { λ _. ⌜ ((f : Sfi) (b s : List ℕ) → f .number ≤ 10 → isSuccessfulRecordAnswerIn70 s ≡ true
+        → readRecordAnswer f s b ≡ readRecordContents (outerObjectContents s) b) ⌝ }
+    ensures accepted { λ _. ⌜ ((f : Sfi) (b s : List ℕ) → f .number ≤ 10 → ReadingAccepted (readRecordAnswer f s) b → isSuccessfulRecordAnswerIn70 s ≡ true) ⌝ }
+    ensures room { λ r. ⌜ ((c : List ℕ) → length c ≤ r → RecordAnswerWithContents (shortestRecordAnswer c) c) ⌝ }
+    ensures longest { λ r. ⌜ ((s : List ℕ) → isSuccessfulRecordAnswerIn70 s ≡ true → length (outerObjectContents s) ≤ r) ⌝ }
 {
     253
 }

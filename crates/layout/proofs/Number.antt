@@ -6,11 +6,11 @@ use mathlib.Core.List.{List, [], _∷_, _++_}
 use Prim.Native.Nat.{ℕ, zero, suc, _+_, _*_, _/_, _%_}
 use native.Mathlib.Omega.{arith}
 use lib.ListN.{length, length-append}
-use Rattle.basics.specs.Number.{bigEndianFrom, bigEndian}
+use Rattle.basics.specs.Number.{appendBigEndianBytes, bigEndianNumber}
 use Rattle.layout.specs.Layout.{bigEndianBytes}
 
-number-append : (n : ℕ) (s t : List ℕ) → bigEndianFrom n (s ++ t) ≡ bigEndianFrom (bigEndianFrom n s) t
-unfolding bigEndianFrom
+number-append : (n : ℕ) (s t : List ℕ) → appendBigEndianBytes n (s ++ t) ≡ appendBigEndianBytes (appendBigEndianBytes n s) t
+unfolding appendBigEndianBytes
 number-append n [] t = refl
 number-append n (a ∷ s) t = number-append (n * 256 + a) s t
 
@@ -21,8 +21,8 @@ bytes-length (suc zero) n = refl
 bytes-length (suc (suc w)) n =
     length-append (bigEndianBytes (suc w) (n / 256)) (n % 256 ∷ []) ∙ omega (arith, bytes-length (suc w) (n / 256))
 
-pub bytes-number : (w n : ℕ) → bigEndian (bigEndianBytes (suc w) n) ≡ n
-unfolding bigEndianBytes bigEndianFrom
+pub bytes-number : (w n : ℕ) → bigEndianNumber (bigEndianBytes (suc w) n) ≡ n
+unfolding bigEndianBytes appendBigEndianBytes
 bytes-number zero n = omega arith
 bytes-number (suc w) n =
     number-append 0 (bigEndianBytes (suc w) (n / 256)) (n % 256 ∷ []) ∙ omega (arith, bytes-number w (n / 256))

@@ -9,8 +9,8 @@ use Prim.Native.Nat.{ℕ, zero, suc, _+_, _/_, _%_}
 use lib.ListN.{length, getD, take, drop}
 use Rattle.basics.specs.Alike.{bytesEqual}
 use Rattle.basics.specs.Choice.{if_then_else_, _and_, _≤?_, _=?_}
-use Rattle.basics.specs.Front.{withPrefix}
-use Rattle.basics.specs.Number.{bigEndian}
+use Rattle.basics.specs.Front.{writtenOverFront}
+use Rattle.basics.specs.Number.{bigEndianNumber}
 use Rattle.basics.specs.Types.{Byte, Bytes, StoreBytes, Length, Count, Amount, Reason, CvmNumber}
 use Rattle.dictionary.specs.Rows.{storeSize}
 use Rattle.analysis.specs.declared.choice.Choice.{Choice}
@@ -24,38 +24,39 @@ use Rattle.session_record.specs.declared.Phase.{Phase}
 use Rattle.session_record.specs.declared.Session.{Session}
 use Rattle.session_record.specs.Numbers.{outcomeNumber}
 use Rattle.session_record.specs.Session.{storeBytes, sessionOf, endingOf}
-use Rattle.layout.specs.declared.PhaseCode.{PhaseCode}
-use Rattle.layout.specs.declared.RecordHeld.{RecordHeld}
+use Rattle.layout.specs.declared.PhaseFields.{PhaseFields}
+use Rattle.layout.specs.declared.DecodedRecordHead.{DecodedRecordHead}
 
 -- the layout's version, the first byte of every record
 abbrev pub layoutVersion : Byte
 layoutVersion = 5
 
 -- the bytes before the store, and of the whole record
-abbrev pub headSize : Length
-headSize = 14
+abbrev pub recordHeadSize : Length
+recordHeadSize = 14
 
-abbrev pub recordSize : Length
-recordSize = headSize + storeSize
+abbrev pub sessionRecordSize : Length
+sessionRecordSize = recordHeadSize + storeSize
 
 -- ---- the head
 
 -- what the head reports: the phase's number, what the phase holds, the reason, the CVM's number, the transaction limit
-abbrev pub phaseCode : Byte → Byte → Reason → CvmNumber → Amount → PhaseCode
-phaseCode n d r m l = record { number = n; datum = d; reason = r; cvm = m; limit = l }
+abbrev pub phaseFields : Byte → Byte → Reason → CvmNumber → Amount → PhaseFields
+phaseFields n d r m l = record { number = n; datum = d; reason = r; cvm = m; limit = l }
 
 -- of an awaited response: its number from 1 to 3, and 5; the record's number or the P1 requested; 0 where there is none
-abbrev pub awaitedCode : AwaitedResponse → PhaseCode
-awaitedCode AwaitedResponse.Gpo            = phaseCode 1 0 0 0 0
-awaitedCode (AwaitedResponse.Record p)     = phaseCode 2 (p .number) 0 0 (p .limit)
-awaitedCode (AwaitedResponse.Cryptogram a) = phaseCode 3 (generateAcP1 (a .choice)) 0 (cvmNumber (a .cvm)) (a .limit)
-awaitedCode (AwaitedResponse.Checksum c)   = phaseCode 5 0 0 0 (c .limit)
+abbrev pub phaseFieldsOfAwaited : AwaitedResponse → PhaseFields
+phaseFieldsOfAwaited AwaitedResponse.Gpo            = phaseFields 1 0 0 0 0
+phaseFieldsOfAwaited (AwaitedResponse.Record p)     = phaseFields 2 (p .number) 0 0 (p .limit)
+phaseFieldsOfAwaited (AwaitedResponse.Cryptogram a) =
+    phaseFields 3 (generateAcP1 (a .choice)) 0 (cvmNumber (a .cvm)) (a .limit)
+phaseFieldsOfAwaited (AwaitedResponse.Checksum c)   = phaseFields 5 0 0 0 (c .limit)
 
 -- of a phase: fresh is 0, ended is 4 with the outcome and its reason
-abbrev pub phaseCodeOf : Phase → PhaseCode
-phaseCodeOf Phase.Fresh       = phaseCode 0 0 0 0 0
-phaseCodeOf (Phase.Waiting w) = awaitedCode w
-phaseCodeOf (Phase.Ended e)   = phaseCode 4 (outcomeNumber (e .outcome)) (e .reason) 0 0
+abbrev pub phaseFieldsOf : Phase → PhaseFields
+phaseFieldsOf Phase.Fresh       = phaseFields 0 0 0 0 0
+phaseFieldsOf (Phase.Waiting w) = phaseFieldsOfAwaited w
+phaseFieldsOf (Phase.Ended e)   = phaseFields 4 (outcomeNumber (e .outcome)) (e .reason) 0 0
 
 -- a number in w bytes, high byte first; what the other bytes cannot hold is left in the first
 unfoldable pub bigEndianBytes : Length → ℕ → Bytes
@@ -64,79 +65,80 @@ bigEndianBytes (suc zero) n = n ∷ []
 bigEndianBytes (suc (suc w)) n = bigEndianBytes (suc w) (n / 256) ++ (n % 256 ∷ [])
 
 -- the head: the version, the parts of the code with the count of commands handed out before the CVM, the limit last
-abbrev pub recordHead : PhaseCode → Count → Bytes
-recordHead c n = layoutVersion ∷ c .number ∷ c .datum ∷ c .reason ∷ n ∷ c .cvm ∷ bigEndianBytes 8 (c .limit)
+abbrev pub recordHeadBytes : PhaseFields → Count → Bytes
+recordHeadBytes c n = layoutVersion ∷ c .number ∷ c .datum ∷ c .reason ∷ n ∷ c .cvm ∷ bigEndianBytes 8 (c .limit)
 
 -- ---- the way back: any code is read as some phase, and is that phase's only where a phase has it
 
 -- the first of some values with this number, else a last one
-unfoldable pub withNumber : {A : Type 0} → (A → ℕ) → List A → A → ℕ → A
-withNumber number [] last n = last
-withNumber number (x ∷ xs) last n = if n =? number x then x else withNumber number xs last n
+unfoldable pub elementWithNumber : {A : Type 0} → (A → ℕ) → List A → A → ℕ → A
+elementWithNumber number [] last n = last
+elementWithNumber number (x ∷ xs) last n = if n =? number x then x else elementWithNumber number xs last n
 
 -- the choice that a P1 requests, the CVM and the outcome of a number
-abbrev pub choiceFrom : Byte → Choice
-choiceFrom = withNumber generateAcP1 (Choice.Offline ∷ Choice.Online ∷ []) Choice.Decline
+abbrev pub choiceOfP1 : Byte → Choice
+choiceOfP1 = elementWithNumber generateAcP1 (Choice.Offline ∷ Choice.Online ∷ []) Choice.Decline
 
-abbrev pub cvmFrom : CvmNumber → Cvm
-cvmFrom = withNumber cvmNumber (Cvm.NoCvm ∷ Cvm.Signature ∷ Cvm.OnlinePin ∷ Cvm.ConfirmationCode ∷ []) Cvm.OfflinePin
+abbrev pub cvmOfNumber : CvmNumber → Cvm
+cvmOfNumber =
+    elementWithNumber cvmNumber (Cvm.NoCvm ∷ Cvm.Signature ∷ Cvm.OnlinePin ∷ Cvm.ConfirmationCode ∷ []) Cvm.OfflinePin
 
-abbrev pub outcomeFrom : Byte → Outcome
-outcomeFrom = withNumber outcomeNumber (Approved ∷ OnlineRequest ∷ Declined ∷ Ended ∷ []) SelectNext
+abbrev pub outcomeOfNumber : Byte → Outcome
+outcomeOfNumber = elementWithNumber outcomeNumber (Approved ∷ OnlineRequest ∷ Declined ∷ Ended ∷ []) SelectNext
 
 -- the awaited response and the phase of a code
-unfoldable pub awaitedOfCode : PhaseCode → AwaitedResponse
-awaitedOfCode c =
+unfoldable pub awaitedOfPhaseFields : PhaseFields → AwaitedResponse
+awaitedOfPhaseFields c =
     if c .number =? 1 then AwaitedResponse.Gpo
     else if c .number =? 2 then AwaitedResponse.Record (record { number = c .datum; limit = c .limit })
     else if c .number =? 3 then
-        AwaitedResponse.Cryptogram (record { choice = choiceFrom (c .datum); cvm = cvmFrom (c .cvm); limit = c .limit })
+        AwaitedResponse.Cryptogram (record { choice = choiceOfP1 (c .datum); cvm = cvmOfNumber (c .cvm); limit = c .limit })
     else AwaitedResponse.Checksum (record { limit = c .limit })
 
-unfoldable pub phaseOfCode : PhaseCode → Phase
-phaseOfCode c =
+unfoldable pub phaseOfPhaseFields : PhaseFields → Phase
+phaseOfPhaseFields c =
     if c .number =? 0 then Phase.Fresh
-    else if c .number =? 4 then Phase.Ended (endingOf (outcomeFrom (c .datum)) (c .reason))
-    else Phase.Waiting (awaitedOfCode c)
+    else if c .number =? 4 then Phase.Ended (endingOf (outcomeOfNumber (c .datum)) (c .reason))
+    else Phase.Waiting (awaitedOfPhaseFields c)
 
 -- ---- the record
 
 -- a session as bytes
 unfoldable pub encodedSession : Session → Bytes
-encodedSession s = recordHead (phaseCodeOf (s .phase)) (s .count) ++ storeBytes s
+encodedSession s = recordHeadBytes (phaseFieldsOf (s .phase)) (s .count) ++ storeBytes s
 
 -- the bytes l with a record at the front: those after it stay, and so do all where they are too few
-unfoldable pub withSessionRecord : Session → Bytes → Bytes
-withSessionRecord s l =
-    if recordSize ≤? length l then encodedSession s ++ drop recordSize l
+unfoldable pub sessionWrittenOverFrontIfRoom : Session → Bytes → Bytes
+sessionWrittenOverFrontIfRoom s l =
+    if sessionRecordSize ≤? length l then encodedSession s ++ drop sessionRecordSize l
     else l
 
 -- the bytes l with a head at the front: those after it stay, and so do all where they are too few for a record
-unfoldable pub withRecordHead : Phase → Count → Bytes → Bytes
-withRecordHead p n l =
-    if recordSize ≤? length l then withPrefix (recordHead (phaseCodeOf p) n) l
+unfoldable pub recordHeadWrittenOverFrontIfRoom : Phase → Count → Bytes → Bytes
+recordHeadWrittenOverFrontIfRoom p n l =
+    if sessionRecordSize ≤? length l then writtenOverFront (recordHeadBytes (phaseFieldsOf p) n) l
     else l
 
 -- the code, the phase and the count that a head has
-abbrev pub phaseCodeIn : Bytes → PhaseCode
-phaseCodeIn l = phaseCode (getD l 1 0) (getD l 2 0) (getD l 3 0) (getD l 5 0) (bigEndian (take 8 (drop 6 l)))
+abbrev pub phaseFieldsIn : Bytes → PhaseFields
+phaseFieldsIn l = phaseFields (getD l 1 0) (getD l 2 0) (getD l 3 0) (getD l 5 0) (bigEndianNumber (take 8 (drop 6 l)))
 
-abbrev pub phaseIn : Bytes → Phase
-phaseIn l = phaseOfCode (phaseCodeIn l)
+abbrev pub phaseInHead : Bytes → Phase
+phaseInHead l = phaseOfPhaseFields (phaseFieldsIn l)
 
-abbrev pub countIn : Bytes → Count
-countIn l = getD l 4 0
+abbrev pub commandCountInHead : Bytes → Count
+commandCountInHead l = getD l 4 0
 
 -- the bytes hold a record: enough of them, whose head is that of the phase and the count that are read from it
-unfoldable pub holdsRecord : Bytes → Bool
-holdsRecord l =
-    recordSize ≤? length l
-    and bytesEqual (recordHead (phaseCodeOf (phaseIn l)) (countIn l)) (take headSize l)
+unfoldable pub hasRecordLengthAndCanonicalHead : Bytes → Bool
+hasRecordLengthAndCanonicalHead l =
+    sessionRecordSize ≤? length l
+    and bytesEqual (recordHeadBytes (phaseFieldsOf (phaseInHead l)) (commandCountInHead l)) (take recordHeadSize l)
 
 -- the session that bytes hold, with the store after the head; none where they hold no record
 unfoldable pub decodedSession : Bytes → Option Session
 decodedSession l =
-    if holdsRecord l then some (sessionOf (phaseIn l) (countIn l) (take storeSize (drop headSize l)))
+    if hasRecordLengthAndCanonicalHead l then some (sessionOf (phaseInHead l) (commandCountInHead l) (take storeSize (drop recordHeadSize l)))
     else none
 
 -- what holds of the two, proved in proofs/Laws:
@@ -146,21 +148,21 @@ decodedSession l =
 -- ---- returned
 
 -- writing reports whether the bytes were enough
-pub record WroteRecord (s : Session) (before : Bytes) (r : Bool) (after : Bytes) : Type 0 where
-  pub enough : r ≡ (recordSize ≤? length before)
-  pub bytes : after ≡ withSessionRecord s before
+pub record SessionRecordWrittenIfRoom (written : Session) (bytesBefore : Bytes) (hadRoom : Bool) (bytesAfter : Bytes) : Type 0 where
+  pub enough : hadRoom ≡ (sessionRecordSize ≤? length bytesBefore)
+  pub bytes : bytesAfter ≡ sessionWrittenOverFrontIfRoom written bytesBefore
 
 -- what is reported of the bytes: the session's phase and count, or that there is no record
-abbrev pub recordHeld : Option Session → RecordHeld
-recordHeld none = RecordHeld.Nothing
-recordHeld (some s) = RecordHeld.Record (record { phase = s .phase; count = s .count })
+abbrev pub decodedRecordHead : Option Session → DecodedRecordHead
+decodedRecordHead none = DecodedRecordHead.Nothing
+decodedRecordHead (some s) = DecodedRecordHead.Record (record { phase = s .phase; count = s .count })
 
 -- the caller's store: the session's, or as it was where there is no record
-abbrev pub storeOfSession : Option Session → StoreBytes → StoreBytes
-storeOfSession none b = b
-storeOfSession (some s) b = storeBytes s
+abbrev pub decodedStoreOrUnchanged : Option Session → StoreBytes → StoreBytes
+decodedStoreOrUnchanged none b = b
+decodedStoreOrUnchanged (some s) b = storeBytes s
 
 -- what reading the bytes l reports, and what it leaves in the caller's store
-pub record DecodesRecord (r : RecordHeld) (l : Bytes) (before after : StoreBytes) : Type 0 where
-  pub held : r ≡ recordHeld (decodedSession l)
-  pub store : after ≡ storeOfSession (decodedSession l) before
+pub record DecodesSessionRecord (result : DecodedRecordHead) (recordBytes : Bytes) (storeBefore storeAfter : StoreBytes) : Type 0 where
+  pub held : result ≡ decodedRecordHead (decodedSession recordBytes)
+  pub store : storeAfter ≡ decodedStoreOrUnchanged (decodedSession recordBytes) storeBefore

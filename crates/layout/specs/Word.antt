@@ -8,17 +8,17 @@ use Rattle.session_record.specs.declared.CallResult.{CallResult}
 use Rattle.session_record.specs.Numbers.{outcomeNumber}
 
 -- the kind of a word
-abbrev pub wordKind : ResultWord → ℕ
-wordKind w = w / 0x10000 % 0x100
+abbrev pub resultWordKind : ResultWord → ℕ
+resultWordKind w = w / 0x10000 % 0x100
 
-abbrev pub kindCommand : ℕ
-kindCommand = 0
+abbrev pub wordKindCommand : ℕ
+wordKindCommand = 0
 
-abbrev pub kindOutcome : ℕ
-kindOutcome = 1
+abbrev pub wordKindOutcome : ℕ
+wordKindOutcome = 1
 
-abbrev pub kindRefusal : ℕ
-kindRefusal = 2
+abbrev pub wordKindRefusal : ℕ
+wordKindRefusal = 2
 
 -- a command is its length; a length that a word cannot tell from an outcome is truncated, and no call hands one out
 unfoldable pub commandWord : Length → ResultWord
@@ -26,11 +26,11 @@ commandWord n = min n 65535
 
 -- an outcome with its reason, and in bits 24 to 31 the CVM's number
 abbrev pub outcomeWord : OutcomeParameters → ResultWord
-outcomeWord e = e .cvm * 0x1000000 + kindOutcome * 0x10000 + outcomeNumber (e .outcome) * 0x100 + e .reason
+outcomeWord e = e .cvm * 0x1000000 + wordKindOutcome * 0x10000 + outcomeNumber (e .outcome) * 0x100 + e .reason
 
 -- a refusal by its number
 abbrev pub refusalWord : RefusalNumber → ResultWord
-refusalWord n = kindRefusal * 0x10000 + n
+refusalWord n = wordKindRefusal * 0x10000 + n
 
 -- an answer of a call
 abbrev pub resultWord : CallResult → ResultWord

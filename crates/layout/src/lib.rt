@@ -3,8 +3,8 @@
 // The record is a head and the store: a byte for the layout's version, the code of the phase with the count of commands
 // handed out before its last byte, the transaction limit, and then the store's bytes as they are. `encode_record`
 // writes it at the front of the caller's bytes, `decode_record` takes it apart again: only bytes that some record is
-// encoded as are a record. Both borrow the store, which is the largest part; `head_in` and `put_head` read and write
-// the head alone, for a caller that works on the store in its place.
+// encoded as are a record. Both borrow the store, which is the largest part; `decode_record_head` and
+// `write_record_head` read and write the head alone, for a caller that works on the store in its place.
 use analysis::choice::Choice;
 use analysis::cvm::Cvm;
 use dictionary::SIZE;
@@ -13,12 +13,12 @@ use session_record::{OutcomeParameters, Phase, RequestedCryptogram};
 ghost use mathlib.Core.Path.{_≡_};
 ghost use Prim.Native.Nat.{_+_, _*_, _≤_, _<_};
 ghost use lib.ListN.{length, take, drop};
-ghost use Rattle.basics.specs.Number.{bigEndian as numberOf};
+ghost use Rattle.basics.specs.Number.{bigEndianNumber as numberOf};
 ghost use Rattle.dictionary.specs.Rows.{storeSize};
 ghost use Rattle.session_record.specs.Session.{sessionOf};
-ghost use Rattle.layout.specs.Layout.{layoutVersion, recordSize, awaitedCode, phaseCodeOf, recordHead, withRecordHead};
-ghost use Rattle.layout.specs.Layout.{choiceFrom, cvmFrom, outcomeFrom, awaitedOfCode, phaseOfCode, phaseCodeIn};
-ghost use Rattle.layout.specs.Layout.{decodedSession, recordHeld, WroteRecord, DecodesRecord};
+ghost use Rattle.layout.specs.Layout.{layoutVersion, sessionRecordSize, phaseFieldsOfAwaited, phaseFieldsOf, recordHeadBytes, recordHeadWrittenOverFrontIfRoom};
+ghost use Rattle.layout.specs.Layout.{choiceOfP1, cvmOfNumber, outcomeOfNumber, awaitedOfPhaseFields, phaseOfPhaseFields, phaseFieldsIn};
+ghost use Rattle.layout.specs.Layout.{decodedSession, decodedRecordHead, SessionRecordWrittenIfRoom, DecodesSessionRecord};
 ghost use Rattle.layout.specs.Word.{commandWord, outcomeWord, refusalWord, resultWord};
 
 // The layout's version, the first byte of every record.
@@ -42,7 +42,7 @@ const ON_ENDED: u8 = 4;
 const ON_CHECKSUM: u8 = 5;
 
 // What the head reports of a phase: its number, and what it holds with its transaction limit, 0 where it holds nothing.
-pub struct PhaseCode {
+pub struct PhaseFields {
     pub number: u8,
     pub datum: u8,
     pub reason: u8,
@@ -51,14 +51,14 @@ pub struct PhaseCode {
 }
 
 // The phase and the count that a record's head has.
-pub struct RecordHead {
+pub struct SessionRecordHead {
     pub phase: Phase,
     pub count: u8,
 }
 
 // What bytes hold: a record, or nothing.
-pub enum RecordHeld {
-    Record(RecordHead),
+pub enum DecodedRecordHead {
+    Record(SessionRecordHead),
     Nothing,
 }
 
@@ -72,7 +72,7 @@ const CVM: u32 = 16777216;
 
 // How many bytes a host provides for a session.
 pub fn session_size() -> usize
-    ensures { λ r. ⌜ r ≡ recordSize ⌝ }
+    ensures { λ r. ⌜ r ≡ sessionRecordSize ⌝ }
 {
     RECORD_SIZE
 }
@@ -87,19 +87,19 @@ pub fn layout_version() -> u8
 // Writes the record of these parts at the front of the bytes, and reports whether there were enough.
 pub fn encode_record(phase: Phase, count: u8, store: &[u8; SIZE], bytes: &mut [u8]) -> bool
     requires { ⌜ length (now store) ≡ storeSize ⌝ }
-    ensures { λ r. ⌜ WroteRecord (sessionOf phase count (now (store .entry))) (now (bytes .entry)) r (now (bytes .exit)) ⌝ }
+    ensures { λ r. ⌜ SessionRecordWrittenIfRoom (sessionOf phase count (now (store .entry))) (now (bytes .entry)) r (now (bytes .exit)) ⌝ }
 {
     if bytes.len() < RECORD_SIZE {
         return false;
     }
-    put_head(phase, count, bytes);
+    write_record_head(phase, count, bytes);
     bytes::copy(&store[..], &mut bytes[HEAD..RECORD_SIZE]);
     true
 }
 
 // Writes the head of a record at the front of the bytes, whose store stays; too few bytes stay as they are.
-pub fn put_head(phase: Phase, count: u8, bytes: &mut [u8])
-    ensures { λ _. ⌜ now (bytes .exit) ≡ withRecordHead phase count (now (bytes .entry)) ⌝ }
+pub fn write_record_head(phase: Phase, count: u8, bytes: &mut [u8])
+    ensures { λ _. ⌜ now (bytes .exit) ≡ recordHeadWrittenOverFrontIfRoom phase count (now (bytes .entry)) ⌝ }
 {
     if bytes.len() < RECORD_SIZE {
         return;
@@ -109,13 +109,13 @@ pub fn put_head(phase: Phase, count: u8, bytes: &mut [u8])
 }
 
 // Takes apart the record at the front of the bytes: its store goes into the caller's.
-pub fn decode_record(bytes: &[u8], store: &mut [u8; SIZE]) -> RecordHeld
+pub fn decode_record(bytes: &[u8], store: &mut [u8; SIZE]) -> DecodedRecordHead
     requires { ⌜ length (now store) ≡ storeSize ⌝ }
-    ensures read { λ r. ⌜ DecodesRecord r (now (bytes .entry)) (now (store .entry)) (now (store .exit)) ⌝ }
+    ensures read { λ r. ⌜ DecodesSessionRecord r (now (bytes .entry)) (now (store .entry)) (now (store .exit)) ⌝ }
     ensures sized { λ _. ⌜ length (now (store .exit)) ≡ storeSize ⌝ }
 {
-    let held = head_in(bytes);
-    let RecordHeld::Record(_) = held else {
+    let held = decode_record_head(bytes);
+    let DecodedRecordHead::Record(_) = held else {
         return held;
     };
     bytes::copy(&bytes[HEAD..RECORD_SIZE], store);
@@ -123,19 +123,19 @@ pub fn decode_record(bytes: &[u8], store: &mut [u8; SIZE]) -> RecordHeld
 }
 
 // What the head at the front of the bytes reports.
-pub fn head_in(bytes: &[u8]) -> RecordHeld
-    ensures { λ r. ⌜ r ≡ recordHeld (decodedSession (now (bytes .entry))) ⌝ }
+pub fn decode_record_head(bytes: &[u8]) -> DecodedRecordHead
+    ensures { λ r. ⌜ r ≡ decodedRecordHead (decodedSession (now (bytes .entry))) ⌝ }
 {
     if bytes.len() < RECORD_SIZE {
-        return RecordHeld::Nothing;
+        return DecodedRecordHead::Nothing;
     }
     let phase = phase_of(code_in(bytes));
     let count = bytes[4];
     let own = head_of(code_of(phase), count);
-    if !basics::same(&own, &bytes[0..HEAD]) {
-        return RecordHeld::Nothing;
+    if !basics::bytes_equal(&own, &bytes[0..HEAD]) {
+        return DecodedRecordHead::Nothing;
     }
-    RecordHeld::Record(RecordHead { phase, count })
+    DecodedRecordHead::Record(SessionRecordHead { phase, count })
 }
 
 // A call's answer as a word: the command's length, or an outcome with its reason, or a refusal's number.
@@ -179,12 +179,12 @@ fn outcome_word(end: OutcomeParameters) -> u32
 }
 
 // The code that enough bytes have in their head.
-fn code_in(bytes: &[u8]) -> PhaseCode
-    requires { ⌜ recordSize ≤ length (now bytes) ⌝ }
-    ensures { λ r. ⌜ r ≡ phaseCodeIn (now (bytes .entry)) ⌝ }
+fn code_in(bytes: &[u8]) -> PhaseFields
+    requires { ⌜ sessionRecordSize ≤ length (now bytes) ⌝ }
+    ensures { λ r. ⌜ r ≡ phaseFieldsIn (now (bytes .entry)) ⌝ }
 {
     let limit = limit_from(limit_in(bytes));
-    PhaseCode {
+    PhaseFields {
         number: bytes[1],
         datum: bytes[2],
         reason: bytes[3],
@@ -194,11 +194,11 @@ fn code_in(bytes: &[u8]) -> PhaseCode
 }
 
 // The code of a phase.
-fn code_of(phase: Phase) -> PhaseCode
-    ensures { λ r. ⌜ r ≡ phaseCodeOf phase ⌝ }
+fn code_of(phase: Phase) -> PhaseFields
+    ensures { λ r. ⌜ r ≡ phaseFieldsOf phase ⌝ }
 {
     match phase {
-        Phase::Fresh => PhaseCode {
+        Phase::Fresh => PhaseFields {
             number: ON_FRESH,
             datum: 0,
             reason: 0,
@@ -208,7 +208,7 @@ fn code_of(phase: Phase) -> PhaseCode
         Phase::Waiting(awaited) => code_of_awaited(awaited),
         Phase::Ended(end) => {
             let outcome = end.outcome;
-            PhaseCode {
+            PhaseFields {
                 number: ON_ENDED,
                 datum: session_record::outcome_number(outcome),
                 reason: end.reason,
@@ -220,18 +220,18 @@ fn code_of(phase: Phase) -> PhaseCode
 }
 
 // The code while a response is awaited.
-fn code_of_awaited(awaited: AwaitedResponse) -> PhaseCode
-    ensures { λ r. ⌜ r ≡ awaitedCode awaited ⌝ }
+fn code_of_awaited(awaited: AwaitedResponse) -> PhaseFields
+    ensures { λ r. ⌜ r ≡ phaseFieldsOfAwaited awaited ⌝ }
 {
     match awaited {
-        AwaitedResponse::Gpo => PhaseCode {
+        AwaitedResponse::Gpo => PhaseFields {
             number: ON_GPO,
             datum: 0,
             reason: 0,
             cvm: 0,
             limit: 0,
         },
-        AwaitedResponse::Record(place) => PhaseCode {
+        AwaitedResponse::Record(place) => PhaseFields {
             number: ON_RECORD,
             datum: place.number,
             reason: 0,
@@ -241,15 +241,15 @@ fn code_of_awaited(awaited: AwaitedResponse) -> PhaseCode
         AwaitedResponse::Cryptogram(asked) => {
             let choice = asked.choice;
             let cvm = asked.cvm;
-            PhaseCode {
+            PhaseFields {
                 number: ON_CRYPTOGRAM,
-                datum: analysis::choice::p1(choice),
+                datum: analysis::choice::generate_ac_p1(choice),
                 reason: 0,
                 cvm: analysis::cvm::cvm_number(cvm),
                 limit: asked.limit,
             }
         }
-        AwaitedResponse::Checksum(checksum) => PhaseCode {
+        AwaitedResponse::Checksum(checksum) => PhaseFields {
             number: ON_CHECKSUM,
             datum: 0,
             reason: 0,
@@ -260,8 +260,8 @@ fn code_of_awaited(awaited: AwaitedResponse) -> PhaseCode
 }
 
 // The head of a code and a count; the limit is eight bytes, high byte first.
-fn head_of(code: PhaseCode, count: u8) -> [u8; HEAD]
-    ensures { λ r. ⌜ r ≡ recordHead code count ⌝ }
+fn head_of(code: PhaseFields, count: u8) -> [u8; HEAD]
+    ensures { λ r. ⌜ r ≡ recordHeadBytes code count ⌝ }
 {
     let limit = code.limit;
     [
@@ -284,7 +284,7 @@ fn head_of(code: PhaseCode, count: u8) -> [u8; HEAD]
 
 // The eight bytes that enough bytes have for the limit.
 fn limit_in(bytes: &[u8]) -> [u8; 8]
-    requires { ⌜ recordSize ≤ length (now bytes) ⌝ }
+    requires { ⌜ sessionRecordSize ≤ length (now bytes) ⌝ }
     ensures { λ r. ⌜ r ≡ take 8 (drop 6 (now (bytes .entry))) ⌝ }
 {
     let mut limit = [0u8; 8];
@@ -310,8 +310,8 @@ fn four(a: u8, b: u8, c: u8, d: u8) -> u64
 }
 
 // The phase that a code denotes, the nearest one where no phase has that code.
-fn phase_of(code: PhaseCode) -> Phase
-    ensures { λ r. ⌜ r ≡ phaseOfCode code ⌝ }
+fn phase_of(code: PhaseFields) -> Phase
+    ensures { λ r. ⌜ r ≡ phaseOfPhaseFields code ⌝ }
 {
     let number = code.number;
     if number == ON_FRESH {
@@ -324,8 +324,8 @@ fn phase_of(code: PhaseCode) -> Phase
 }
 
 // The awaited response that a code denotes, the last one where none has that code.
-fn awaited_of(code: PhaseCode) -> AwaitedResponse
-    ensures { λ r. ⌜ r ≡ awaitedOfCode code ⌝ }
+fn awaited_of(code: PhaseFields) -> AwaitedResponse
+    ensures { λ r. ⌜ r ≡ awaitedOfPhaseFields code ⌝ }
 {
     let number = code.number;
     let limit = code.limit;
@@ -345,7 +345,7 @@ fn awaited_of(code: PhaseCode) -> AwaitedResponse
 
 // The choice that P1 of the command requests; a decline where no choice has that P1.
 fn choice_from(p1: u8) -> Choice
-    ensures { λ r. ⌜ r ≡ choiceFrom p1 ⌝ }
+    ensures { λ r. ⌜ r ≡ choiceOfP1 p1 ⌝ }
 {
     if p1 == 0x40 {
         return Choice::Offline;
@@ -358,7 +358,7 @@ fn choice_from(p1: u8) -> Choice
 
 // The CVM of a number; the last one where no CVM has that number.
 fn cvm_from(number: u8) -> Cvm
-    ensures { λ r. ⌜ r ≡ cvmFrom number ⌝ }
+    ensures { λ r. ⌜ r ≡ cvmOfNumber number ⌝ }
 {
     match number {
         0 => Cvm::NoCvm,
@@ -371,7 +371,7 @@ fn cvm_from(number: u8) -> Cvm
 
 // The outcome of a number; the last one where no outcome has that number.
 fn outcome_from(number: u8) -> Outcome
-    ensures { λ r. ⌜ r ≡ outcomeFrom number ⌝ }
+    ensures { λ r. ⌜ r ≡ outcomeOfNumber number ⌝ }
 {
     match number {
         0 => Outcome::Approved,

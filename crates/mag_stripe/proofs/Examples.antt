@@ -9,9 +9,9 @@ use Rattle.basics.specs.Choice.{if, both, every}
 use Rattle.basics.specs.Number.{nibbles}
 use Rattle.mag_stripe.specs.declared.Bitmaps.{Bitmaps}
 use Rattle.mag_stripe.specs.declared.DigitValues.{DigitValues}
-use Rattle.mag_stripe.specs.Track.{nibblesBefore, discretionaryIn, packedNibbles}
-use Rattle.mag_stripe.specs.Bitmap.{bitmapsOf, bitmapPlacesFrom, bitmapPlaces, bitmapWithin, canTakeDigits}
-use Rattle.mag_stripe.specs.Digits.{digitValuesOf, lowestDigits, trackDigits, digitsWritten, trackWithDigits}
+use Rattle.mag_stripe.specs.Track.{nibblesBefore, discretionaryDataInNibbles, packedNibbles}
+use Rattle.mag_stripe.specs.Bitmap.{bitmapsOf, bitmapPlacesCountedFrom, bitmapPlacesFromOne, bitmapWithin, trackCanTakeDigits}
+use Rattle.mag_stripe.specs.Digits.{digitValuesOf, lowestDigitsAtPlaces, trackDigits, placedDigitsWrittenBeforeEnd, trackWithDigitsIfPossible}
 
 -- the n bytes of a number, high one first
 abbrev bytes : ℕ → ℕ → List ℕ
@@ -36,8 +36,8 @@ abbrev short : List ℕ
 short = bytes 11 0x541FD2512101987654F123
 
 -- b1 is for place 1, the last digit
-lowest-first : map bitmapPlaces (0x000E ∷ 0x8001 ∷ 0x0000 ∷ []) ≡ (2 ∷ 3 ∷ 4 ∷ []) ∷ (1 ∷ 16 ∷ []) ∷ [] ∷ []
-unfolding bitmapPlaces bitmapPlacesFrom if
+lowest-first : map bitmapPlacesFromOne (0x000E ∷ 0x8001 ∷ 0x0000 ∷ []) ≡ (2 ∷ 3 ∷ 4 ∷ []) ∷ (1 ∷ 16 ∷ []) ∷ [] ∷ []
+unfolding bitmapPlacesFromOne bitmapPlacesCountedFrom if
 lowest-first = refl
 
 -- from the bytes of the data objects
@@ -54,11 +54,11 @@ bitmaps-from-bytes = refl
 -- six digits of the counter 65535;
 -- all eight digits of the number, and no counter
 one-padded :
-    trackWithDigits thirteen (bitmaps 0x000E 0x0FF0 4) (values 0x1F35 0x00003456 0x002A)
-    ∷ trackWithDigits thirteen (bitmaps 0x00FF 0x00FF 3) (values 0xFFFF 0x98765432 0xFFFF)
-    ∷ trackWithDigits thirteen (bitmaps 0x0FFF 0x0000 0) (values 0xFFFF 0x00000000 0x0001)
-    ∷ trackWithDigits thirteen (bitmaps 0x0000 0x1FFE 6) (values 0x0000 0x98765432 0xFFFF)
-    ∷ trackWithDigits thirteen (bitmaps 0x1E00 0x01FE 0) (values 0x0007 0x98765432 0xFFFF)
+    trackWithDigitsIfPossible thirteen (bitmaps 0x000E 0x0FF0 4) (values 0x1F35 0x00003456 0x002A)
+    ∷ trackWithDigitsIfPossible thirteen (bitmaps 0x00FF 0x00FF 3) (values 0xFFFF 0x98765432 0xFFFF)
+    ∷ trackWithDigitsIfPossible thirteen (bitmaps 0x0FFF 0x0000 0) (values 0xFFFF 0x00000000 0x0001)
+    ∷ trackWithDigitsIfPossible thirteen (bitmaps 0x0000 0x1FFE 6) (values 0x0000 0x98765432 0xFFFF)
+    ∷ trackWithDigitsIfPossible thirteen (bitmaps 0x1E00 0x01FE 0) (values 0x0007 0x98765432 0xFFFF)
     ∷ []
     ≡ bytes 19 0x5413123456784800D25121010004234569894F
     ∷ bytes 19 0x5413123456784800D25121010000053565435F
@@ -66,53 +66,53 @@ one-padded :
     ∷ bytes 19 0x5413123456784800D25121010655357654326F
     ∷ bytes 19 0x5413123456784800D25121010007987654328F
     ∷ []
-unfolding trackWithDigits digitsWritten trackDigits lowestDigits canTakeDigits bitmapWithin bitmapPlaces bitmapPlacesFrom discretionaryIn nibblesBefore packedNibbles nibbles every both if
+unfolding trackWithDigitsIfPossible placedDigitsWrittenBeforeEnd trackDigits lowestDigitsAtPlaces trackCanTakeDigits bitmapWithin bitmapPlacesFromOne bitmapPlacesCountedFrom discretionaryDataInNibbles nibblesBefore packedNibbles nibbles every both if
 one-padded = refl
 
 -- an F before the D is no end, and what is after the first F stays; no F at all: the digits go up to the track's end
 other-ends :
-    trackWithDigits short (bitmaps 0x0008 0x0006 1) (values 0x0009 0x00000007 0x0003)
-    ∷ trackWithDigits fourteen (bitmaps 0x0000 0x3FFE 5) (values 0x0000 0x98765432 0xFFFF)
+    trackWithDigitsIfPossible short (bitmaps 0x0008 0x0006 1) (values 0x0009 0x00000007 0x0003)
+    ∷ trackWithDigitsIfPossible fourteen (bitmaps 0x0000 0x3FFE 5) (values 0x0000 0x98765432 0xFFFF)
     ∷ []
     ≡ bytes 11 0x541FD2512101989371F123
     ∷ bytes 19 0x5413123456784800D251210165535987654328
     ∷ []
-unfolding trackWithDigits digitsWritten trackDigits lowestDigits canTakeDigits bitmapWithin bitmapPlaces bitmapPlacesFrom discretionaryIn nibblesBefore packedNibbles nibbles every both if
+unfolding trackWithDigitsIfPossible placedDigitsWrittenBeforeEnd trackDigits lowestDigitsAtPlaces trackCanTakeDigits bitmapWithin bitmapPlacesFromOne bitmapPlacesCountedFrom discretionaryDataInNibbles nibblesBefore packedNibbles nibbles every both if
 other-ends = refl
 
 -- a bitmap past the digits: the track stays
-stays : trackWithDigits thirteen (bitmaps 0x000E 0x2FF0 5) (values 0x1F35 0x00003456 0x002A) ≡ thirteen
-unfolding trackWithDigits canTakeDigits bitmapWithin bitmapPlaces bitmapPlacesFrom discretionaryIn nibblesBefore nibbles every both if
+stays : trackWithDigitsIfPossible thirteen (bitmaps 0x000E 0x2FF0 5) (values 0x1F35 0x00003456 0x002A) ≡ thirteen
+unfolding trackWithDigitsIfPossible trackCanTakeDigits bitmapWithin bitmapPlacesFromOne bitmapPlacesCountedFrom discretionaryDataInNibbles nibblesBefore nibbles every both if
 stays = refl
 
 -- a number with a nibble F, which no stored 9F6A has, ends the data: put in again, the digits go elsewhere
 padding-in-number :
-    trackWithDigits short (bitmaps 0x0000 0x0006 0) (values 0x0000 0x0000000F 0x0000)
-    ∷ trackWithDigits (trackWithDigits short (bitmaps 0x0000 0x0006 0) (values 0x0000 0x0000000F 0x0000)) (bitmaps 0x0000 0x0006 0) (values 0x0000 0x0000000F 0x0000)
+    trackWithDigitsIfPossible short (bitmaps 0x0000 0x0006 0) (values 0x0000 0x0000000F 0x0000)
+    ∷ trackWithDigitsIfPossible (trackWithDigitsIfPossible short (bitmaps 0x0000 0x0006 0) (values 0x0000 0x0000000F 0x0000)) (bitmaps 0x0000 0x0006 0) (values 0x0000 0x0000000F 0x0000)
     ∷ []
     ≡ bytes 11 0x541FD25121019870F2F123
     ∷ bytes 11 0x541FD251210190F2F2F123
     ∷ []
-unfolding trackWithDigits digitsWritten trackDigits lowestDigits canTakeDigits bitmapWithin bitmapPlaces bitmapPlacesFrom discretionaryIn nibblesBefore packedNibbles nibbles every both if
+unfolding trackWithDigitsIfPossible placedDigitsWrittenBeforeEnd trackDigits lowestDigitsAtPlaces trackCanTakeDigits bitmapWithin bitmapPlacesFromOne bitmapPlacesCountedFrom discretionaryDataInNibbles nibblesBefore packedNibbles nibbles every both if
 padding-in-number = refl
 
 -- nUN is 9; NATC is one more than the places; a place past the thirteenth in PUNATC, and in PCVC3
-bitmaps-outside : map (canTakeDigits thirteen)
+bitmaps-outside : map (trackCanTakeDigits thirteen)
     (bitmaps 0x0000 0x1FF0 0 ∷ bitmaps 0x0000 0x0FF0 9 ∷ bitmaps 0x000E 0x2FF0 5 ∷ bitmaps 0x2000 0x0000 0 ∷ [])
     ≡ false ∷ false ∷ false ∷ false ∷ []
-unfolding canTakeDigits bitmapWithin bitmapPlaces bitmapPlacesFrom discretionaryIn nibblesBefore nibbles every both if
+unfolding trackCanTakeDigits bitmapWithin bitmapPlacesFromOne bitmapPlacesCountedFrom discretionaryDataInNibbles nibblesBefore nibbles every both if
 bitmaps-outside = refl
 
 -- nUN is 8, and 0; the thirteenth place in each; no place at all
-bitmaps-inside : map (canTakeDigits thirteen)
+bitmaps-inside : map (trackCanTakeDigits thirteen)
     (bitmaps 0x0000 0x0FF0 0 ∷ bitmaps 0x0000 0x0FF0 8 ∷ bitmaps 0x0000 0x1FF0 1 ∷ bitmaps 0x1000 0x0000 0 ∷ bitmaps 0x0000 0x0000 0 ∷ [])
     ≡ true ∷ true ∷ true ∷ true ∷ true ∷ []
-unfolding canTakeDigits bitmapWithin bitmapPlaces bitmapPlacesFrom discretionaryIn nibblesBefore nibbles every both if
+unfolding trackCanTakeDigits bitmapWithin bitmapPlacesFromOne bitmapPlacesCountedFrom discretionaryDataInNibbles nibblesBefore nibbles every both if
 bitmaps-inside = refl
 
 -- no bitmap will do: an F among the seven nibbles after the D; no D; the seven alone, before an F and at the end; fewer
 -- than seven; no byte
-tracks-outside : map (λ t. canTakeDigits t (bitmaps 0x0000 0x0000 0))
+tracks-outside : map (λ t. trackCanTakeDigits t (bitmaps 0x0000 0x0000 0))
     (bytes 19 0x5413123456784800D251F10112345678901234
     ∷ bytes 19 0x5413123456784800025121010000000000000F
     ∷ bytes 6 0x54D2512101F1
@@ -121,13 +121,13 @@ tracks-outside : map (λ t. canTakeDigits t (bitmaps 0x0000 0x0000 0))
     ∷ []
     ∷ [])
     ≡ false ∷ false ∷ false ∷ false ∷ false ∷ false ∷ []
-unfolding canTakeDigits bitmapWithin bitmapPlaces bitmapPlacesFrom discretionaryIn nibblesBefore nibbles every both if
+unfolding trackCanTakeDigits bitmapWithin bitmapPlacesFromOne bitmapPlacesCountedFrom discretionaryDataInNibbles nibblesBefore nibbles every both if
 tracks-outside = refl
 
 -- one digit before an F, and at the end; a second F does not matter; a second D and nibbles A to E are
 -- digits like others
-tracks-inside : map (λ t. discretionaryIn (nibbles t))
+tracks-inside : map (λ t. discretionaryDataInNibbles (nibbles t))
     (bytes 6 0x41D25121010F ∷ bytes 5 0x4D25121017 ∷ bytes 8 0x1D25121019F8F123 ∷ bytes 8 0x1D2512101DABCE2F ∷ [])
     ≡ record { end = 11; count = 1 } ∷ record { end = 10; count = 1 } ∷ record { end = 10; count = 1 } ∷ record { end = 15; count = 6 } ∷ []
-unfolding discretionaryIn nibblesBefore nibbles if
+unfolding discretionaryDataInNibbles nibblesBefore nibbles if
 tracks-inside = refl

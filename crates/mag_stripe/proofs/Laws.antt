@@ -17,10 +17,10 @@ use Rattle.basics.proofs.Laws.{if-yes, if-no, if-ind, bool-cases}
 use Rattle.basics.proofs.Order.{equal-or-not}
 use Rattle.mag_stripe.specs.declared.Bitmaps.{Bitmaps}
 use Rattle.mag_stripe.specs.declared.DigitValues.{DigitValues}
-use Rattle.mag_stripe.specs.Track.{trackSeparator, trackPadding, nibblesBefore, discretionaryIn, discretionaryOf, packedNibbles}
-use Rattle.mag_stripe.specs.Bitmap.{bitmapPlacesFrom, bitmapPlaces, unDigitCount, bitmapWithin, canTakeDigits}
-use Rattle.mag_stripe.specs.Digits.{PlacedDigit, placedDigit, lowestDigits, cvc3Digits, unDigits, atcDigits, trackDigits, digitsWrittenInto, trackWithDigits}
-use Rattle.mag_stripe.specs.OtherDigits.{isAmong, isNamedPlace, OtherDigitsKept, noPaddingNibble}
+use Rattle.mag_stripe.specs.Track.{trackSeparator, trackPadding, nibblesBefore, discretionaryDataInNibbles, discretionaryDataOf, packedNibbles}
+use Rattle.mag_stripe.specs.Bitmap.{bitmapPlacesCountedFrom, bitmapPlacesFromOne, unDigitCount, bitmapWithin, trackCanTakeDigits}
+use Rattle.mag_stripe.specs.Digits.{PlacedDigit, placedDigit, lowestDigitsAtPlaces, cvc3Digits, unDigits, atcDigits, trackDigits, trackNibblesWithDigits, trackWithDigitsIfPossible}
+use Rattle.mag_stripe.specs.OtherDigits.{isPlaceAmong, isLastOrInPcvc3OrPunatc, OtherDigitsKept, noneOfLowestNibblesIsF}
 use Rattle.mag_stripe.proofs.Nibbles.{length-nibbles, length-packed, packed-nibbles}
 use Rattle.mag_stripe.proofs.Places.{bit-cases, places-odd, places-even}
 use Rattle.mag_stripe.proofs.Sound.{by-count, Sound, sound-gives, digits-end}
@@ -48,8 +48,8 @@ inside-drop m zero ps h = h
 inside-drop m (suc n) [] h = tt
 inside-drop m (suc n) (p ∷ ps) h = inside-drop m n ps (h .2)
 
-inside-from : (m k p n : ℕ) → 1 ≤ p → upTo m (bitmapPlacesFrom k p n) ≡ true → Inside m (bitmapPlacesFrom k p n)
-unfolding bitmapPlacesFrom
+inside-from : (m k p n : ℕ) → 1 ≤ p → upTo m (bitmapPlacesCountedFrom k p n) ≡ true → Inside m (bitmapPlacesCountedFrom k p n)
+unfolding bitmapPlacesCountedFrom
 inside-from m zero p n q h = tt
 inside-from m (suc k) p n q h =
     elim (bit-cases n)
@@ -59,8 +59,8 @@ inside-from m (suc k) p n q h =
     | inr e ↦ rw (places-even k p n e) (inside-from m k (p + 1) (n / 2) (omega arith) (rw (places-even k p n e) at h))
     ]
 
-within-inside : (m n : ℕ) → bitmapWithin m n ≡ true → Inside m (bitmapPlaces n)
-unfolding bitmapWithin bitmapPlaces
+within-inside : (m n : ℕ) → bitmapWithin m n ≡ true → Inside m (bitmapPlacesFromOne n)
+unfolding bitmapWithin bitmapPlacesFromOne
 within-inside m n h = inside-from m 16 1 n (omega arith) h
 
 -- ---- the places of all digits
@@ -68,8 +68,8 @@ within-inside m n h = inside-from m 16 1 n (omega arith) h
 abbrev placesIn : List PlacedDigit → List ℕ
 placesIn ds = map (λ (d : PlacedDigit). d .place) ds
 
-lowest-places : (base n : ℕ) (ps : List ℕ) → placesIn (lowestDigits base n ps) ≡ ps
-unfolding lowestDigits
+lowest-places : (base n : ℕ) (ps : List ℕ) → placesIn (lowestDigitsAtPlaces base n ps) ≡ ps
+unfolding lowestDigitsAtPlaces
 lowest-places base n [] = refl
 lowest-places base n (p ∷ ps) = ap (λ (l : List ℕ). p ∷ l) (lowest-places base (n / base) ps)
 
@@ -78,51 +78,51 @@ joined [] es = refl
 joined (d ∷ ds) es = ap (λ (l : List ℕ). d .place ∷ l) (joined ds es)
 
 all-places : (b : Bitmaps) (v : DigitValues)
-    → placesIn (trackDigits b v) ≡ bitmapPlaces (b .pcvc3) ++ take (unDigitCount b) (bitmapPlaces (b .punatc)) ++ drop (unDigitCount b) (bitmapPlaces (b .punatc)) ++ 1 ∷ []
+    → placesIn (trackDigits b v) ≡ bitmapPlacesFromOne (b .pcvc3) ++ take (unDigitCount b) (bitmapPlacesFromOne (b .punatc)) ++ drop (unDigitCount b) (bitmapPlacesFromOne (b .punatc)) ++ 1 ∷ []
 unfolding trackDigits
 all-places b v =
     joined (cvc3Digits b v ++ unDigits b v ++ atcDigits b v) (placedDigit 1 (unDigitCount b) ∷ [])
     ∙ rw (joined (cvc3Digits b v ++ unDigits b v) (atcDigits b v), joined (cvc3Digits b v) (unDigits b v),
-      lowest-places 10 (v .cvc3) (bitmapPlaces (b .pcvc3)),
-      lowest-places 16 (v .un) (take (unDigitCount b) (bitmapPlaces (b .punatc))),
-      lowest-places 10 (v .atc) (drop (unDigitCount b) (bitmapPlaces (b .punatc))))
+      lowest-places 10 (v .cvc3) (bitmapPlacesFromOne (b .pcvc3)),
+      lowest-places 16 (v .un) (take (unDigitCount b) (bitmapPlacesFromOne (b .punatc))),
+      lowest-places 10 (v .atc) (drop (unDigitCount b) (bitmapPlacesFromOne (b .punatc))))
 
 -- each is one of the m digits
-places-inside : (t : List ℕ) (b : Bitmaps) (v : DigitValues) → Sound t b → Inside (discretionaryOf t .count) (placesIn (trackDigits b v))
+places-inside : (t : List ℕ) (b : Bitmaps) (v : DigitValues) → Sound t b → Inside (discretionaryDataOf t .count) (placesIn (trackDigits b v))
 places-inside t b v s =
-    let m = discretionaryOf t .count in
-    let code = bitmapPlaces (b .pcvc3) in
-    let low = take (unDigitCount b) (bitmapPlaces (b .punatc)) in
-    let high = drop (unDigitCount b) (bitmapPlaces (b .punatc)) in
+    let m = discretionaryDataOf t .count in
+    let code = bitmapPlacesFromOne (b .pcvc3) in
+    let low = take (unDigitCount b) (bitmapPlacesFromOne (b .punatc)) in
+    let high = drop (unDigitCount b) (bitmapPlacesFromOne (b .punatc)) in
     let u = within-inside m (b .punatc) (s .number) in
     rw (all-places b v)
     (inside-append m (code ++ low ++ high) (1 ∷ [])
     (inside-append m (code ++ low) high
-    (inside-append m code low (within-inside m (b .pcvc3) (s .code)) (inside-take m (unDigitCount b) (bitmapPlaces (b .punatc)) u))
-    (inside-drop m (unDigitCount b) (bitmapPlaces (b .punatc)) u))
+    (inside-append m code low (within-inside m (b .pcvc3) (s .code)) (inside-take m (unDigitCount b) (bitmapPlacesFromOne (b .punatc)) u))
+    (inside-drop m (unDigitCount b) (bitmapPlacesFromOne (b .punatc)) u))
     (omega arith, s .some, tt))
 
 -- what is not named is none of them
-named-only : (b : Bitmaps) (v : DigitValues) (p : ℕ) → isNamedPlace b p ≡ false → isAmong p (placesIn (trackDigits b v)) ≡ false
-unfolding isNamedPlace isAmong
+named-only : (b : Bitmaps) (v : DigitValues) (p : ℕ) → isLastOrInPcvc3OrPunatc b p ≡ false → isPlaceAmong p (placesIn (trackDigits b v)) ≡ false
+unfolding isLastOrInPcvc3OrPunatc isPlaceAmong
 named-only b v p h =
-    let code = bitmapPlaces (b .pcvc3) in
-    let low = take (unDigitCount b) (bitmapPlaces (b .punatc)) in
-    let high = drop (unDigitCount b) (bitmapPlaces (b .punatc)) in
+    let code = bitmapPlacesFromOne (b .pcvc3) in
+    let low = take (unDigitCount b) (bitmapPlacesFromOne (b .punatc)) in
+    let high = drop (unDigitCount b) (bitmapPlacesFromOne (b .punatc)) in
     let one = neither _ _ h in
     let two = neither _ _ (one .1) in
     rw (all-places b v)
     (not-append p (code ++ low ++ high) (1 ∷ [])
     (not-append p (code ++ low) high
-    (not-append p code low (two .0) (not-taken p (unDigitCount b) (bitmapPlaces (b .punatc)) (two .1)))
-    (not-left p (unDigitCount b) (bitmapPlaces (b .punatc)) (two .1)))
+    (not-append p code low (two .0) (not-taken p (unDigitCount b) (bitmapPlacesFromOne (b .punatc)) (two .1)))
+    (not-left p (unDigitCount b) (bitmapPlacesFromOne (b .punatc)) (two .1)))
     (not-cons p 1 [] (eqb-false p 1 (one .0)) refl))
 
 -- ---- the nibbles of the digits
 
 -- a nibble whose place none of them has
-spared : (m end i : ℕ) (ds : List PlacedDigit) → Inside m (placesIn ds) → m ≤ end → isAmong (end - i) (placesIn ds) ≡ false → isAmong i (indices end ds) ≡ false
-unfolding isAmong
+spared : (m end i : ℕ) (ds : List PlacedDigit) → Inside m (placesIn ds) → m ≤ end → isPlaceAmong (end - i) (placesIn ds) ≡ false → isPlaceAmong i (indices end ds) ≡ false
+unfolding isPlaceAmong
 spared m end i [] h b k = refl
 spared m end i (d ∷ ds) h b k =
     not-cons i (end - d .place) (indices end ds)
@@ -130,8 +130,8 @@ spared m end i (d ∷ ds) h b k =
     (spared m end i ds (h .2) b (not-tail (end - i) (d .place) (placesIn ds) k))
 
 -- a nibble before the m digits, or after them
-outside : (m end i : ℕ) (ds : List PlacedDigit) → Inside m (placesIn ds) → m ≤ end → (i + m < end) ⊎ (end ≤ i) → isAmong i (indices end ds) ≡ false
-unfolding isAmong
+outside : (m end i : ℕ) (ds : List PlacedDigit) → Inside m (placesIn ds) → m ≤ end → (i + m < end) ⊎ (end ≤ i) → isPlaceAmong i (indices end ds) ≡ false
+unfolding isPlaceAmong
 outside m end i [] h b k = refl
 outside m end i (d ∷ ds) h b k =
     not-cons i (end - d .place) (indices end ds)
@@ -173,109 +173,109 @@ before-same x (a ∷ s) (b ∷ u) n h e =
 -- ---- a track with the digits in it has its discretionary data where they were
 
 -- no digit is the padding
-base-ten : (n : ℕ) (ps : List ℕ) → Without trackPadding (lowestDigits 10 n ps)
-unfolding lowestDigits
+base-ten : (n : ℕ) (ps : List ℕ) → Without trackPadding (lowestDigitsAtPlaces 10 n ps)
+unfolding lowestDigitsAtPlaces
 base-ten n [] = tt
 base-ten n (p ∷ ps) = ((λ e. omega arith), base-ten (n / 10) ps)
 
-base-sixteen : (n number : ℕ) (ps : List ℕ) → noPaddingNibble n number ≡ true → Without trackPadding (lowestDigits 16 number (take n ps))
-unfolding lowestDigits noPaddingNibble
+base-sixteen : (n number : ℕ) (ps : List ℕ) → noneOfLowestNibblesIsF n number ≡ true → Without trackPadding (lowestDigitsAtPlaces 16 number (take n ps))
+unfolding lowestDigitsAtPlaces noneOfLowestNibblesIsF
 base-sixteen zero number ps h = tt
 base-sixteen (suc n) number [] h = tt
 base-sixteen (suc n) number (p ∷ ps) h =
     elim (bool-cases (eqb (number % 16) trackPadding))
-    [ inl e ↦ absurd (let z : _≡_ {A = ℕ} 0 1 = cc (if-yes false (noPaddingNibble n (number / 16)) e) in omega arith)
-    | inr e ↦ (eqb-false (number % 16) trackPadding e, base-sixteen n (number / 16) ps (sym (if-no false (noPaddingNibble n (number / 16)) e) ∙ h))
+    [ inl e ↦ absurd (let z : _≡_ {A = ℕ} 0 1 = cc (if-yes false (noneOfLowestNibblesIsF n (number / 16)) e) in omega arith)
+    | inr e ↦ (eqb-false (number % 16) trackPadding e, base-sixteen n (number / 16) ps (sym (if-no false (noneOfLowestNibblesIsF n (number / 16)) e) ∙ h))
     ]
 
-unpadded-digits : (t : List ℕ) (b : Bitmaps) (v : DigitValues) → Sound t b → noPaddingNibble (unDigitCount b) (v .un) ≡ true → Without trackPadding (trackDigits b v)
+unpadded-digits : (t : List ℕ) (b : Bitmaps) (v : DigitValues) → Sound t b → noneOfLowestNibblesIsF (unDigitCount b) (v .un) ≡ true → Without trackPadding (trackDigits b v)
 unfolding trackDigits
 unpadded-digits t b v s h =
     without-append trackPadding (cvc3Digits b v ++ unDigits b v ++ atcDigits b v) (placedDigit 1 (unDigitCount b) ∷ [])
     (without-append trackPadding (cvc3Digits b v ++ unDigits b v) (atcDigits b v)
     (without-append trackPadding (cvc3Digits b v) (unDigits b v)
-    (base-ten (v .cvc3) (bitmapPlaces (b .pcvc3)))
-    (base-sixteen (unDigitCount b) (v .un) (bitmapPlaces (b .punatc)) h))
-    (base-ten (v .atc) (drop (unDigitCount b) (bitmapPlaces (b .punatc)))))
+    (base-ten (v .cvc3) (bitmapPlacesFromOne (b .pcvc3)))
+    (base-sixteen (unDigitCount b) (v .un) (bitmapPlacesFromOne (b .punatc)) h))
+    (base-ten (v .atc) (drop (unDigitCount b) (bitmapPlacesFromOne (b .punatc)))))
     ((λ e. omega (arith, s .few)), tt)
 
 data-same : (s u : List ℕ) → nibblesBefore trackSeparator u ≡ nibblesBefore trackSeparator s
-    → nibblesBefore trackPadding (drop (nibblesBefore trackSeparator s + 1) u) ≡ nibblesBefore trackPadding (drop (nibblesBefore trackSeparator s + 1) s) → discretionaryIn u ≡ discretionaryIn s
-unfolding discretionaryIn
+    → nibblesBefore trackPadding (drop (nibblesBefore trackSeparator s + 1) u) ≡ nibblesBefore trackPadding (drop (nibblesBefore trackSeparator s + 1) s) → discretionaryDataInNibbles u ≡ discretionaryDataInNibbles s
+unfolding discretionaryDataInNibbles
 data-same s u d f = rw (d, f)
 
 module _ (t : List ℕ) (b : Bitmaps) (v : DigitValues) (s : Sound t b) where
-  stays : (i : ℕ) → (i + discretionaryOf t .count < discretionaryOf t .end) ⊎ (discretionaryOf t .end ≤ i)
-      → getD (digitsWrittenInto t b v) i 0 ≡ getD (nibbles t) i 0
+  stays : (i : ℕ) → (i + discretionaryDataOf t .count < discretionaryDataOf t .end) ⊎ (discretionaryDataOf t .end ≤ i)
+      → getD (trackNibblesWithDigits t b v) i 0 ≡ getD (nibbles t) i 0
   stays i h =
-      written-other (discretionaryOf t .end) (trackDigits b v) (nibbles t) i
-      (outside (discretionaryOf t .count) (discretionaryOf t .end) i (trackDigits b v) (places-inside t b v s)
+      written-other (discretionaryDataOf t .end) (trackDigits b v) (nibbles t) i
+      (outside (discretionaryDataOf t .count) (discretionaryDataOf t .end) i (trackDigits b v) (places-inside t b v s)
       (omega (arith, digits-end (nibbles t) (s .some))) h)
 
-  same-length : length (nibbles t) ≡ length (digitsWrittenInto t b v)
-  same-length = sym (written-length (discretionaryOf t .end) (trackDigits b v) (nibbles t))
+  same-length : length (nibbles t) ≡ length (trackNibblesWithDigits t b v)
+  same-length = sym (written-length (discretionaryDataOf t .end) (trackDigits b v) (nibbles t))
 
-  same-separator : nibblesBefore trackSeparator (digitsWrittenInto t b v) ≡ nibblesBefore trackSeparator (nibbles t)
+  same-separator : nibblesBefore trackSeparator (trackNibblesWithDigits t b v) ≡ nibblesBefore trackSeparator (nibbles t)
   same-separator =
       let e = digits-end (nibbles t) (s .some) in
-      before-same trackSeparator (nibbles t) (digitsWrittenInto t b v) same-length
+      before-same trackSeparator (nibbles t) (trackNibblesWithDigits t b v) same-length
       (λ i k q. before-least trackSeparator (nibbles t) i k (sym (stays i (inl (omega arith))) ∙ q))
       (stays (nibblesBefore trackSeparator (nibbles t)) (inl (omega arith)))
 
-  module _ (h : noPaddingNibble (unDigitCount b) (v .un) ≡ true) where
-    same-padding : nibblesBefore trackPadding (drop (nibblesBefore trackSeparator (nibbles t) + 1) (digitsWrittenInto t b v))
+  module _ (h : noneOfLowestNibblesIsF (unDigitCount b) (v .un) ≡ true) where
+    same-padding : nibblesBefore trackPadding (drop (nibblesBefore trackSeparator (nibbles t) + 1) (trackNibblesWithDigits t b v))
         ≡ nibblesBefore trackPadding (drop (nibblesBefore trackSeparator (nibbles t) + 1) (nibbles t))
-    unfolding discretionaryIn
+    unfolding discretionaryDataInNibbles
     same-padding =
         let d = nibblesBefore trackSeparator (nibbles t) in
         let f = nibblesBefore trackPadding (drop (d + 1) (nibbles t)) in
-        before-same trackPadding (drop (d + 1) (nibbles t)) (drop (d + 1) (digitsWrittenInto t b v))
-        (length-drop (d + 1) (nibbles t) ∙ ap (λ (n : ℕ). n - (d + 1)) same-length ∙ sym (length-drop (d + 1) (digitsWrittenInto t b v)))
+        before-same trackPadding (drop (d + 1) (nibbles t)) (drop (d + 1) (trackNibblesWithDigits t b v))
+        (length-drop (d + 1) (nibbles t) ∙ ap (λ (n : ℕ). n - (d + 1)) same-length ∙ sym (length-drop (d + 1) (trackNibblesWithDigits t b v)))
         (λ i k q.
-        written-without (discretionaryOf t .end) trackPadding (trackDigits b v) (nibbles t) (d + 1 + i) (unpadded-digits t b v s h)
+        written-without (discretionaryDataOf t .end) trackPadding (trackDigits b v) (nibbles t) (d + 1 + i) (unpadded-digits t b v s h)
         (λ r. before-least trackPadding (drop (d + 1) (nibbles t)) i k (getD-drop (d + 1) (nibbles t) i 0 ∙ r))
-        (sym (getD-drop (d + 1) (digitsWrittenInto t b v) i 0) ∙ q))
-        (getD-drop (d + 1) (digitsWrittenInto t b v) f 0 ∙ stays (d + 1 + f) (inr (omega arith)) ∙ sym (getD-drop (d + 1) (nibbles t) f 0))
+        (sym (getD-drop (d + 1) (trackNibblesWithDigits t b v) i 0) ∙ q))
+        (getD-drop (d + 1) (trackNibblesWithDigits t b v) f 0 ∙ stays (d + 1 + f) (inr (omega arith)) ∙ sym (getD-drop (d + 1) (nibbles t) f 0))
 
-    same-data : discretionaryIn (digitsWrittenInto t b v) ≡ discretionaryIn (nibbles t)
-    same-data = data-same (nibbles t) (digitsWrittenInto t b v) same-separator same-padding
+    same-data : discretionaryDataInNibbles (trackNibblesWithDigits t b v) ≡ discretionaryDataInNibbles (nibbles t)
+    same-data = data-same (nibbles t) (trackNibblesWithDigits t b v) same-separator same-padding
 
 -- ---- the promises of `put_digits`
 
-pub filled-sound : (t u : List ℕ) (b : Bitmaps) (v : DigitValues) → canTakeDigits t b ≡ true → nibbles u ≡ digitsWrittenInto t b v → u ≡ trackWithDigits t b v
-unfolding trackWithDigits
-filled-sound t u b v s e = sym (packed-nibbles u) ∙ ap packedNibbles e ∙ sym (if-yes (packedNibbles (digitsWrittenInto t b v)) t s)
+pub filled-sound : (t u : List ℕ) (b : Bitmaps) (v : DigitValues) → trackCanTakeDigits t b ≡ true → nibbles u ≡ trackNibblesWithDigits t b v → u ≡ trackWithDigitsIfPossible t b v
+unfolding trackWithDigitsIfPossible
+filled-sound t u b v s e = sym (packed-nibbles u) ∙ ap packedNibbles e ∙ sym (if-yes (packedNibbles (trackNibblesWithDigits t b v)) t s)
 
-pub length-filled : (t : List ℕ) (b : Bitmaps) (v : DigitValues) → length (trackWithDigits t b v) ≡ length t
-unfolding trackWithDigits
+pub length-filled : (t : List ℕ) (b : Bitmaps) (v : DigitValues) → length (trackWithDigitsIfPossible t b v) ≡ length t
+unfolding trackWithDigitsIfPossible
 length-filled t b v =
-    if-ind (λ (u : List ℕ). length u ≡ length t) (canTakeDigits t b) (packedNibbles (digitsWrittenInto t b v)) t
-    (λ s. omega (arith, length-packed (digitsWrittenInto t b v), written-length (discretionaryOf t .end) (trackDigits b v) (nibbles t), length-nibbles t))
+    if-ind (λ (u : List ℕ). length u ≡ length t) (trackCanTakeDigits t b) (packedNibbles (trackNibblesWithDigits t b v)) t
+    (λ s. omega (arith, length-packed (trackNibblesWithDigits t b v), written-length (discretionaryDataOf t .end) (trackDigits b v) (nibbles t), length-nibbles t))
     (λ s. refl)
 
-pub filled-unsound : (t : List ℕ) (b : Bitmaps) (v : DigitValues) → canTakeDigits t b ≡ false → t ≡ trackWithDigits t b v
-unfolding trackWithDigits
-filled-unsound t b v s = sym (if-no (packedNibbles (digitsWrittenInto t b v)) t s)
+pub filled-unsound : (t : List ℕ) (b : Bitmaps) (v : DigitValues) → trackCanTakeDigits t b ≡ false → t ≡ trackWithDigitsIfPossible t b v
+unfolding trackWithDigitsIfPossible
+filled-unsound t b v s = sym (if-no (packedNibbles (trackNibblesWithDigits t b v)) t s)
 
 pub kept-unsound : (t : List ℕ) (b : Bitmaps) → OtherDigitsKept b t t
 kept-unsound t b = record { size = refl; others = λ i h. refl }
 
-pub kept-sound : (t u : List ℕ) (b : Bitmaps) (v : DigitValues) → canTakeDigits t b ≡ true → length u ≡ length t → nibbles u ≡ digitsWrittenInto t b v → OtherDigitsKept b t u
+pub kept-sound : (t u : List ℕ) (b : Bitmaps) (v : DigitValues) → trackCanTakeDigits t b ≡ true → length u ≡ length t → nibbles u ≡ trackNibblesWithDigits t b v → OtherDigitsKept b t u
 kept-sound t u b v h n e =
     let s = sound-gives t b h in
     record {
       size = n;
       others = λ i k.
         ap (λ (l : List ℕ). getD l i 0) e
-        ∙ written-other (discretionaryOf t .end) (trackDigits b v) (nibbles t) i
-        (spared (discretionaryOf t .count) (discretionaryOf t .end) i (trackDigits b v) (places-inside t b v s)
+        ∙ written-other (discretionaryDataOf t .end) (trackDigits b v) (nibbles t) i
+        (spared (discretionaryDataOf t .count) (discretionaryDataOf t .end) i (trackDigits b v) (places-inside t b v s)
         (omega (arith, digits-end (nibbles t) (s .some))) (named-only b v _ k));
     }
 
-pub twice-sound : (t u : List ℕ) (b : Bitmaps) (v : DigitValues) → canTakeDigits t b ≡ true → nibbles u ≡ digitsWrittenInto t b v
-    → noPaddingNibble (unDigitCount b) (v .un) ≡ true → trackWithDigits u b v ≡ u
+pub twice-sound : (t u : List ℕ) (b : Bitmaps) (v : DigitValues) → trackCanTakeDigits t b ≡ true → nibbles u ≡ trackNibblesWithDigits t b v
+    → noneOfLowestNibblesIsF (unDigitCount b) (v .un) ≡ true → trackWithDigitsIfPossible u b v ≡ u
 twice-sound t u b v h e k =
     let s = sound-gives t b h in
-    let same : discretionaryOf u ≡ discretionaryOf t = ap discretionaryIn e ∙ same-data t b v s k in
-    sym (filled-sound u u b v (sym (by-count u b (discretionaryOf t) (sym same)) ∙ by-count t b (discretionaryOf t) refl ∙ h)
-    (e ∙ sym (written-twice (discretionaryOf t .end) (trackDigits b v) (nibbles t)) ∙ rw (same, e)))
+    let same : discretionaryDataOf u ≡ discretionaryDataOf t = ap discretionaryDataInNibbles e ∙ same-data t b v s k in
+    sym (filled-sound u u b v (sym (by-count u b (discretionaryDataOf t) (sym same)) ∙ by-count t b (discretionaryDataOf t) refl ∙ h)
+    (e ∙ sym (written-twice (discretionaryDataOf t .end) (trackDigits b v) (nibbles t)) ∙ rw (same, e)))

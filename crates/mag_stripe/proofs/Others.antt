@@ -13,8 +13,8 @@ use borrow.Author.Tests.{ne-eqb, eqb-false}
 use Rattle.basics.specs.Choice.{either}
 use Rattle.basics.proofs.Laws.{either-no}
 use Rattle.basics.proofs.Order.{le-or-gt, equal-or-not}
-use Rattle.mag_stripe.specs.Digits.{PlacedDigit, digitsWritten}
-use Rattle.mag_stripe.specs.OtherDigits.{isAmong}
+use Rattle.mag_stripe.specs.Digits.{PlacedDigit, placedDigitsWrittenBeforeEnd}
+use Rattle.mag_stripe.specs.OtherDigits.{isPlaceAmong}
 use Rattle.mag_stripe.proofs.Writing.{written-length}
 
 -- ---- one of some numbers, or none
@@ -24,30 +24,30 @@ unfolding either
 neither true b e = (e, cc)
 neither false b e = (refl, e)
 
-module _ (p q : ℕ) (ps : List ℕ) (h : isAmong p (q ∷ ps) ≡ false) where
+module _ (p q : ℕ) (ps : List ℕ) (h : isPlaceAmong p (q ∷ ps) ≡ false) where
   pub not-head : p ≢ q
-  unfolding isAmong
+  unfolding isPlaceAmong
   not-head = eqb-false p q (neither _ _ h .0)
 
-  pub not-tail : isAmong p ps ≡ false
-  unfolding isAmong
+  pub not-tail : isPlaceAmong p ps ≡ false
+  unfolding isPlaceAmong
   not-tail = neither _ _ h .1
 
-pub not-cons : (p q : ℕ) (ps : List ℕ) → p ≢ q → isAmong p ps ≡ false → isAmong p (q ∷ ps) ≡ false
-unfolding isAmong
+pub not-cons : (p q : ℕ) (ps : List ℕ) → p ≢ q → isPlaceAmong p ps ≡ false → isPlaceAmong p (q ∷ ps) ≡ false
+unfolding isPlaceAmong
 not-cons p q ps e h = either-no _ _ (ne-eqb p q e) h
 
-pub not-append : (p : ℕ) (ps qs : List ℕ) → isAmong p ps ≡ false → isAmong p qs ≡ false → isAmong p (ps ++ qs) ≡ false
+pub not-append : (p : ℕ) (ps qs : List ℕ) → isPlaceAmong p ps ≡ false → isPlaceAmong p qs ≡ false → isPlaceAmong p (ps ++ qs) ≡ false
 not-append p [] qs h k = k
 not-append p (q ∷ ps) qs h k = not-cons p q (ps ++ qs) (not-head p q ps h) (not-append p ps qs (not-tail p q ps h) k)
 
-pub not-taken : (p n : ℕ) (ps : List ℕ) → isAmong p ps ≡ false → isAmong p (take n ps) ≡ false
-unfolding isAmong
+pub not-taken : (p n : ℕ) (ps : List ℕ) → isPlaceAmong p ps ≡ false → isPlaceAmong p (take n ps) ≡ false
+unfolding isPlaceAmong
 not-taken p zero ps h = refl
 not-taken p (suc n) [] h = refl
 not-taken p (suc n) (q ∷ ps) h = not-cons p q (take n ps) (not-head p q ps h) (not-taken p n ps (not-tail p q ps h))
 
-pub not-left : (p n : ℕ) (ps : List ℕ) → isAmong p ps ≡ false → isAmong p (drop n ps) ≡ false
+pub not-left : (p n : ℕ) (ps : List ℕ) → isPlaceAmong p ps ≡ false → isPlaceAmong p (drop n ps) ≡ false
 not-left p zero ps h = h
 not-left p (suc n) [] h = h
 not-left p (suc n) (q ∷ ps) h = not-left p n ps (not-tail p q ps h)
@@ -57,8 +57,8 @@ not-left p (suc n) (q ∷ ps) h = not-left p n ps (not-tail p q ps h)
 abbrev pub indices : ℕ → List PlacedDigit → List ℕ
 indices end ds = map (λ (d : PlacedDigit). end - d .place) ds
 
-pub written-other : (end : ℕ) (ds : List PlacedDigit) (s : List ℕ) (i : ℕ) → isAmong i (indices end ds) ≡ false → getD (digitsWritten end ds s) i 0 ≡ getD s i 0
-unfolding digitsWritten
+pub written-other : (end : ℕ) (ds : List PlacedDigit) (s : List ℕ) (i : ℕ) → isPlaceAmong i (indices end ds) ≡ false → getD (placedDigitsWrittenBeforeEnd end ds s) i 0 ≡ getD s i 0
+unfolding placedDigitsWrittenBeforeEnd
 written-other end [] s i h = refl
 written-other end (d ∷ ds) s i h =
     written-other end ds (set s (end - d .place) (d .digit)) i (not-tail i _ _ h)
@@ -91,16 +91,16 @@ set-agree s u j x i n h =
     ]
 
 written-agree : (end : ℕ) (ds : List PlacedDigit) (s u : List ℕ) → length s ≡ length u
-    → ((i : ℕ) → isAmong i (indices end ds) ≡ false → getD s i 0 ≡ getD u i 0) → digitsWritten end ds s ≡ digitsWritten end ds u
-unfolding digitsWritten isAmong
+    → ((i : ℕ) → isPlaceAmong i (indices end ds) ≡ false → getD s i 0 ≡ getD u i 0) → placedDigitsWrittenBeforeEnd end ds s ≡ placedDigitsWrittenBeforeEnd end ds u
+unfolding placedDigitsWrittenBeforeEnd isPlaceAmong
 written-agree end [] s u n h = ext-getD 0 s u n (λ i _. h i refl)
 written-agree end (d ∷ ds) s u n h =
     let j = end - d .place in
     written-agree end ds (set s j (d .digit)) (set u j (d .digit)) (length-set s j (d .digit) ∙ n ∙ sym (length-set u j (d .digit)))
     (λ i k. set-agree s u j (d .digit) i n (λ ne. h i (not-cons i j (indices end ds) ne k)))
 
-pub written-twice : (end : ℕ) (ds : List PlacedDigit) (s : List ℕ) → digitsWritten end ds (digitsWritten end ds s) ≡ digitsWritten end ds s
-written-twice end ds s = written-agree end ds (digitsWritten end ds s) s (written-length end ds s) (written-other end ds s)
+pub written-twice : (end : ℕ) (ds : List PlacedDigit) (s : List ℕ) → placedDigitsWrittenBeforeEnd end ds (placedDigitsWrittenBeforeEnd end ds s) ≡ placedDigitsWrittenBeforeEnd end ds s
+written-twice end ds s = written-agree end ds (placedDigitsWrittenBeforeEnd end ds s) s (written-length end ds s) (written-other end ds s)
 
 -- ---- digits that are not x
 
@@ -112,8 +112,8 @@ pub without-append : (x : ℕ) (ds es : List PlacedDigit) → Without x ds → W
 without-append x [] es h k = k
 without-append x (d ∷ ds) es h k = (h .0, without-append x ds es (h .1) k)
 
-pub written-without : (end x : ℕ) (ds : List PlacedDigit) (s : List ℕ) (i : ℕ) → Without x ds → getD s i 0 ≢ x → getD (digitsWritten end ds s) i 0 ≢ x
-unfolding digitsWritten
+pub written-without : (end x : ℕ) (ds : List PlacedDigit) (s : List ℕ) (i : ℕ) → Without x ds → getD s i 0 ≢ x → getD (placedDigitsWrittenBeforeEnd end ds s) i 0 ≢ x
+unfolding placedDigitsWrittenBeforeEnd
 written-without end x [] s i w h = h
 written-without end x (d ∷ ds) s i w h =
     let j = end - d .place in

@@ -15,27 +15,27 @@ use borrow.Author.Tests.{eq-eqb, ne-eqb, le-leb, lt-leb, leb-true}
 use Rattle.basics.specs.Choice.{every}
 use Rattle.basics.proofs.Laws.{if-yes, if-no, bool-cases, both-yes, both-left, both-right}
 use Rattle.basics.proofs.Order.{le-or-gt}
-use Rattle.mag_stripe.specs.Bitmap.{bitmapPlacesFrom, bitmapPlaces, bitCount, bitmapWithin}
+use Rattle.mag_stripe.specs.Bitmap.{bitmapPlacesCountedFrom, bitmapPlacesFromOne, setBitCount, bitmapWithin}
 
 -- the lowest bit is set, or not
 pub bit-cases : (n : ℕ) → (n % 2 ≡ 1) ⊎ (n % 2 ≡ 0)
 bit-cases n = elim (le-or-gt 1 (n % 2)) [ inl h ↦ inl (omega arith) | inr h ↦ inr (omega arith) ]
 
 module _ (k p n : ℕ) where
-  pub places-odd : n % 2 ≡ 1 → bitmapPlacesFrom (suc k) p n ≡ p ∷ bitmapPlacesFrom k (p + 1) (n / 2)
-  unfolding bitmapPlacesFrom
+  pub places-odd : n % 2 ≡ 1 → bitmapPlacesCountedFrom (suc k) p n ≡ p ∷ bitmapPlacesCountedFrom k (p + 1) (n / 2)
+  unfolding bitmapPlacesCountedFrom
   places-odd e = if-yes _ _ (eq-eqb (n % 2) 1 e)
 
-  pub places-even : n % 2 ≡ 0 → bitmapPlacesFrom (suc k) p n ≡ bitmapPlacesFrom k (p + 1) (n / 2)
-  unfolding bitmapPlacesFrom
+  pub places-even : n % 2 ≡ 0 → bitmapPlacesCountedFrom (suc k) p n ≡ bitmapPlacesCountedFrom k (p + 1) (n / 2)
+  unfolding bitmapPlacesCountedFrom
   places-even e = if-no _ _ (ne-eqb (n % 2) 1 (λ f. omega arith))
 
 -- a bound on the bits
 halved : (k n : ℕ) → n < 2 ^ suc k → n / 2 < 2 ^ k
 halved k n h = let e = two-pow-succ k in omega arith
 
-length-from : (k p n : ℕ) → n < 2 ^ k → length (bitmapPlacesFrom k p n) ≡ ones n
-unfolding bitmapPlacesFrom ones
+length-from : (k p n : ℕ) → n < 2 ^ k → length (bitmapPlacesCountedFrom k p n) ≡ ones n
+unfolding bitmapPlacesCountedFrom ones
 length-from zero p n h = let e : n ≡ 0 = omega arith in rw e
 length-from (suc k) p n h =
     let ih = length-from k (p + 1) (n / 2) (halved k n h) in
@@ -44,8 +44,8 @@ length-from (suc k) p n h =
     | inr e ↦ ap length (places-even k p n e) ∙ omega (arith, ones-step n)
     ]
 
-pub bits-counted : (n : ℕ) → n < 2 ^ 16 → (ones n ≡ bitCount n) × (ones n ≤ 16)
-unfolding bitmapPlaces
+pub bits-counted : (n : ℕ) → n < 2 ^ 16 → (ones n ≡ setBitCount n) × (ones n ≤ 16)
+unfolding bitmapPlacesFromOne
 bits-counted n h = (sym (length-from 16 1 n h), ones-le 16 n h)
 
 -- ---- the lowest place
@@ -71,7 +71,7 @@ lowest-bit (suc k) n p h =
         rw (zeros-even k n e) (omega arith, omega arith)
     ]
 
-lowest-from : (k p n : ℕ) → 0 < n → n < 2 ^ k → bitmapPlacesFrom k p n ≡ (trailingZeros k n + p) ∷ bitmapPlacesFrom k p (n - 2 ^ trailingZeros k n)
+lowest-from : (k p n : ℕ) → 0 < n → n < 2 ^ k → bitmapPlacesCountedFrom k p n ≡ (trailingZeros k n + p) ∷ bitmapPlacesCountedFrom k p (n - 2 ^ trailingZeros k n)
 lowest-from zero p n q h = absurd (omega arith)
 lowest-from (suc k) p n q h =
     elim (bit-cases n)
@@ -79,7 +79,7 @@ lowest-from (suc k) p n q h =
         let d : (n - 1) / 2 ≡ n / 2 = omega arith in
         let f : p ≡ 0 + p = omega arith in
         rw (zeros-odd k n e)
-        (places-odd k p n e ∙ ap₂ (λ (x : ℕ) (l : List ℕ). x ∷ l) f (sym (places-even k p (n - 1) (omega arith) ∙ ap (bitmapPlacesFrom k (p + 1)) d)))
+        (places-odd k p n e ∙ ap₂ (λ (x : ℕ) (l : List ℕ). x ∷ l) f (sym (places-even k p (n - 1) (omega arith) ∙ ap (bitmapPlacesCountedFrom k (p + 1)) d)))
     | inr e ↦
         let z = trailingZeros k (n / 2) in
         let w = two-pow-succ z in
@@ -87,18 +87,18 @@ lowest-from (suc k) p n q h =
         let f : z + (p + 1) ≡ suc z + p = omega arith in
         rw (zeros-even k n e)
         (places-even k p n e ∙ lowest-from k (p + 1) (n / 2) (omega arith) (halved k n h)
-        ∙ ap₂ (λ (x : ℕ) (l : List ℕ). x ∷ l) f (sym (places-even k p (n - 2 ^ suc z) (omega arith) ∙ ap (bitmapPlacesFrom k (p + 1)) d)))
+        ∙ ap₂ (λ (x : ℕ) (l : List ℕ). x ∷ l) f (sym (places-even k p (n - 2 ^ suc z) (omega arith) ∙ ap (bitmapPlacesCountedFrom k (p + 1)) d)))
     ]
 
 -- ---- places past so many digits
 
-places-zero : (k p : ℕ) → bitmapPlacesFrom k p 0 ≡ []
-unfolding bitmapPlacesFrom
+places-zero : (k p : ℕ) → bitmapPlacesCountedFrom k p 0 ≡ []
+unfolding bitmapPlacesCountedFrom
 places-zero zero p = refl
 places-zero (suc k) p = places-even k p 0 refl ∙ places-zero k (p + 1)
 
-low-within : (m k p n j : ℕ) → n < 2 ^ j → p + j ≤ m + 1 → every (λ q. leb q m) (bitmapPlacesFrom k p n) ≡ true
-unfolding every bitmapPlacesFrom
+low-within : (m k p n j : ℕ) → n < 2 ^ j → p + j ≤ m + 1 → every (λ q. leb q m) (bitmapPlacesCountedFrom k p n) ≡ true
+unfolding every bitmapPlacesCountedFrom
 low-within m zero p n j h b = refl
 low-within m (suc k) p n zero h b =
     let e : n ≡ 0 = omega arith in rw (e, places-zero (suc k) p)
@@ -115,8 +115,8 @@ grown {n} {a} {b} j e f h =
     let i : n / 2 < 2 ^ j = rw e at h in
     rw f (omega arith)
 
-within-low : (m k p n : ℕ) → n < 2 ^ k → every (λ q. leb q m) (bitmapPlacesFrom k p n) ≡ true → n < 2 ^ (m + 1 - p)
-unfolding every bitmapPlacesFrom
+within-low : (m k p n : ℕ) → n < 2 ^ k → every (λ q. leb q m) (bitmapPlacesCountedFrom k p n) ≡ true → n < 2 ^ (m + 1 - p)
+unfolding every bitmapPlacesCountedFrom
 within-low m zero p n h t = let w = pow-pos (m + 1 - p) in omega arith
 within-low m (suc k) p n h t =
     elim (bit-cases n)
@@ -138,7 +138,7 @@ within-low m (suc k) p n h t =
 
 -- no place past so many digits, by the highest bit that is set
 pub within-by-highest : (n m : ℕ) → n < 2 ^ 16 → leb (16 - leadingZeros 16 n) m ≡ bitmapWithin m n
-unfolding bitmapWithin bitmapPlaces
+unfolding bitmapWithin bitmapPlacesFromOne
 within-by-highest n m h =
     let top = leading-length 16 n h in
     let j = top .0 in
@@ -148,7 +148,7 @@ within-by-highest n m h =
     [ inl fits ↦ le-leb j m fits ∙ sym (low-within m 16 1 n j (top .2) (omega arith))
     | inr past ↦
         lt-leb j m past
-        ∙ elim (bool-cases (every (λ q. leb q m) (bitmapPlacesFrom 16 1 n)))
+        ∙ elim (bool-cases (every (λ q. leb q m) (bitmapPlacesCountedFrom 16 1 n)))
         [ inl t ↦
             let e : m + 1 - 1 ≡ m = omega arith in
             let low : n < 2 ^ m = rw e at (within-low m 16 1 n h t) in
@@ -160,14 +160,14 @@ within-by-highest n m h =
     ])
 
 -- the lowest place of a bitmap that sets one, and the bitmap without it
-module _ (n : ℕ) (h : n < 2 ^ 16) (some : 1 ≤ bitCount n) where
+module _ (n : ℕ) (h : n < 2 ^ 16) (some : 1 ≤ setBitCount n) where
   not-zero : 0 < n
-  unfolding bitmapPlaces
+  unfolding bitmapPlacesFromOne
   not-zero = elim (le-or-gt 1 n) [ inl p ↦ p | inr z ↦ let e : n ≡ 0 = omega arith in absurd (omega (arith, rw (e, places-zero 16 1) at some)) ]
 
   pub zeros-small : (trailingZeros 16 n < 16) × (2 ^ trailingZeros 16 n ≤ n)
   zeros-small = lowest-bit 16 n not-zero h
 
-  pub lowest-place : bitmapPlaces n ≡ (trailingZeros 16 n + 1) ∷ bitmapPlaces (n - 2 ^ trailingZeros 16 n)
-  unfolding bitmapPlaces
+  pub lowest-place : bitmapPlacesFromOne n ≡ (trailingZeros 16 n + 1) ∷ bitmapPlacesFromOne (n - 2 ^ trailingZeros 16 n)
+  unfolding bitmapPlacesFromOne
   lowest-place = lowest-from 16 1 n not-zero h

@@ -13,8 +13,8 @@ use Rattle.basics.specs.Choice.{both}
 use Rattle.basics.proofs.Laws.{if-ind, both-no-left, both-no-right, both-true, both-left, both-right}
 use Rattle.mag_stripe.specs.declared.Bitmaps.{Bitmaps}
 use Rattle.mag_stripe.specs.declared.DiscretionaryData.{DiscretionaryData}
-use Rattle.mag_stripe.specs.Track.{trackSeparator, trackPadding, nibblesBefore, discretionaryIn, discretionaryOf}
-use Rattle.mag_stripe.specs.Bitmap.{bitmapPlaces, bitCount, unDigitCount, bitmapWithin, canTakeDigits}
+use Rattle.mag_stripe.specs.Track.{trackSeparator, trackPadding, nibblesBefore, discretionaryDataInNibbles, discretionaryDataOf}
+use Rattle.mag_stripe.specs.Bitmap.{bitmapPlacesFromOne, setBitCount, unDigitCount, bitmapWithin, trackCanTakeDigits}
 use Rattle.mag_stripe.proofs.Writing.{upTo, upTo-more}
 
 pub before-le : (x : ℕ) (s : List ℕ) → nibblesBefore x s ≤ length s
@@ -24,22 +24,22 @@ before-le x (n ∷ s) = if-ind (λ (k : ℕ). k ≤ suc (length s)) (eqb n x) 0 
 
 -- by the place r of the first D and the end e of the data after it
 pub data-by : (s : List ℕ) (r e : ℕ) → r ≡ 0 + nibblesBefore trackSeparator (drop 0 s) → e ≡ r + 1 + nibblesBefore trackPadding (drop (r + 1) s)
-    → record { end = e; count = e - (r + 1) - 7 } ≡ discretionaryIn s
-unfolding discretionaryIn
+    → record { end = e; count = e - (r + 1) - 7 } ≡ discretionaryDataInNibbles s
+unfolding discretionaryDataInNibbles
 data-by s r e p q =
     let d : r ≡ nibblesBefore trackSeparator s = omega arith in
     let n : e - (r + 1) - 7 ≡ nibblesBefore trackPadding (drop (r + 1) s) - 7 = omega arith in
     rw (n, q, d)
 
 pub data-none : (s : List ℕ) (r e : ℕ) → r ≡ 0 + nibblesBefore trackSeparator (drop 0 s) → e ≡ r + 1 + nibblesBefore trackPadding (drop (r + 1) s)
-    → e - (r + 1) < 7 → record { end = e; count = 0 } ≡ discretionaryIn s
+    → e - (r + 1) < 7 → record { end = e; count = 0 } ≡ discretionaryDataInNibbles s
 data-none s r e p q h =
     let z : e - (r + 1) - 7 ≡ 0 = omega arith in
     rw z at (data-by s r e p q)
 
 -- where there are digits the data end in the track
-pub end-inside : (s : List ℕ) → 1 ≤ discretionaryIn s .count → discretionaryIn s .end ≤ length s
-unfolding discretionaryIn
+pub end-inside : (s : List ℕ) → 1 ≤ discretionaryDataInNibbles s .count → discretionaryDataInNibbles s .end ≤ length s
+unfolding discretionaryDataInNibbles
 end-inside s h =
     omega (arith, before-le trackPadding (drop (nibblesBefore trackSeparator s + 1) s), length-drop (nibblesBefore trackSeparator s + 1) s)
 
@@ -50,44 +50,44 @@ soundFor m b =
     both (leb 1 m)
     (both (bitmapWithin m (b .pcvc3))
     (both (bitmapWithin m (b .punatc))
-    (both (leb (b .natc) (bitCount (b .punatc)))
+    (both (leb (b .natc) (setBitCount (b .punatc)))
     (leb (unDigitCount b) 8))))
 
-module _ (t : List ℕ) (b : Bitmaps) (d : DiscretionaryData) (e : d ≡ discretionaryOf t) where
-  pub by-count : soundFor (d .count) b ≡ canTakeDigits t b
-  unfolding canTakeDigits
+module _ (t : List ℕ) (b : Bitmaps) (d : DiscretionaryData) (e : d ≡ discretionaryDataOf t) where
+  pub by-count : soundFor (d .count) b ≡ trackCanTakeDigits t b
+  unfolding trackCanTakeDigits
   by-count = ap (λ (x : DiscretionaryData). soundFor (x .count) b) e
 
-  pub no-digit : d .count ≡ 0 → false ≡ canTakeDigits t b
+  pub no-digit : d .count ≡ 0 → false ≡ trackCanTakeDigits t b
   no-digit h = sym (both-no-left _ _ (lt-leb 1 (d .count) (omega arith))) ∙ by-count
 
-  pub code-past : bitmapWithin (d .count) (b .pcvc3) ≡ false → false ≡ canTakeDigits t b
+  pub code-past : bitmapWithin (d .count) (b .pcvc3) ≡ false → false ≡ trackCanTakeDigits t b
   code-past h = sym (both-no-right (leb 1 (d .count)) _ (both-no-left _ _ h)) ∙ by-count
 
-  pub number-past : bitmapWithin (d .count) (b .punatc) ≡ false → false ≡ canTakeDigits t b
+  pub number-past : bitmapWithin (d .count) (b .punatc) ≡ false → false ≡ trackCanTakeDigits t b
   number-past h = sym (both-no-right (leb 1 (d .count)) _ (both-no-right (bitmapWithin (d .count) (b .pcvc3)) _ (both-no-left _ _ h))) ∙ by-count
 
   -- all but the last two tests
   module _ (some : d .count ≡ 0 → ⊥) (code : bitmapWithin (d .count) (b .pcvc3) ≡ true) (number : bitmapWithin (d .count) (b .punatc) ≡ true) where
-    by-counts : both (leb (b .natc) (bitCount (b .punatc))) (leb (unDigitCount b) 8) ≡ canTakeDigits t b
+    by-counts : both (leb (b .natc) (setBitCount (b .punatc))) (leb (unDigitCount b) 8) ≡ trackCanTakeDigits t b
     by-counts = sym (both-true _ (le-leb 1 (d .count) (omega arith)) ∙ both-true _ code ∙ both-true _ number) ∙ by-count
 
-    pub below-zero : bitCount (b .punatc) < b .natc → false ≡ canTakeDigits t b
-    below-zero h = sym (both-no-left _ _ (lt-leb (b .natc) (bitCount (b .punatc)) h)) ∙ by-counts
+    pub below-zero : setBitCount (b .punatc) < b .natc → false ≡ trackCanTakeDigits t b
+    below-zero h = sym (both-no-left _ _ (lt-leb (b .natc) (setBitCount (b .punatc)) h)) ∙ by-counts
 
-    pub by-eight : b .natc ≤ bitCount (b .punatc) → leb (unDigitCount b) 8 ≡ canTakeDigits t b
-    by-eight h = sym (both-true _ (le-leb (b .natc) (bitCount (b .punatc)) h)) ∙ by-counts
+    pub by-eight : b .natc ≤ setBitCount (b .punatc) → leb (unDigitCount b) 8 ≡ trackCanTakeDigits t b
+    by-eight h = sym (both-true _ (le-leb (b .natc) (setBitCount (b .punatc)) h)) ∙ by-counts
 
 -- what a sound track gives
 pub record Sound (t : List ℕ) (b : Bitmaps) : Type 0 where
-  pub some : 1 ≤ discretionaryOf t .count
-  pub code : bitmapWithin (discretionaryOf t .count) (b .pcvc3) ≡ true
-  pub number : bitmapWithin (discretionaryOf t .count) (b .punatc) ≡ true
-  pub counter : b .natc ≤ bitCount (b .punatc)
+  pub some : 1 ≤ discretionaryDataOf t .count
+  pub code : bitmapWithin (discretionaryDataOf t .count) (b .pcvc3) ≡ true
+  pub number : bitmapWithin (discretionaryDataOf t .count) (b .punatc) ≡ true
+  pub counter : b .natc ≤ setBitCount (b .punatc)
   pub few : unDigitCount b ≤ 8
 
-pub sound-gives : (t : List ℕ) (b : Bitmaps) → canTakeDigits t b ≡ true → Sound t b
-unfolding canTakeDigits
+pub sound-gives : (t : List ℕ) (b : Bitmaps) → trackCanTakeDigits t b ≡ true → Sound t b
+unfolding trackCanTakeDigits
 sound-gives t b h =
     let r₁ = both-right _ _ h in
     let r₂ = both-right _ _ r₁ in
@@ -101,18 +101,18 @@ sound-gives t b h =
     }
 
 -- as many digits as are before the end, but for eight nibbles
-pub digits-end : (s : List ℕ) → 1 ≤ discretionaryIn s .count → discretionaryIn s .end ≡ nibblesBefore trackSeparator s + 8 + discretionaryIn s .count
-unfolding discretionaryIn
+pub digits-end : (s : List ℕ) → 1 ≤ discretionaryDataInNibbles s .count → discretionaryDataInNibbles s .end ≡ nibblesBefore trackSeparator s + 8 + discretionaryDataInNibbles s .count
+unfolding discretionaryDataInNibbles
 digits-end s h = omega arith
 
 -- the room that it has: the data end in it, and every place of a bitmap is before their end
 pub record Room (end : ℕ) (t : List ℕ) (b : Bitmaps) : Type 0 where
   pub inside : end ≤ length (nibbles t)
   pub some : 1 ≤ end
-  pub code : upTo end (bitmapPlaces (b .pcvc3)) ≡ true
-  pub number : upTo end (bitmapPlaces (b .punatc)) ≡ true
+  pub code : upTo end (bitmapPlacesFromOne (b .pcvc3)) ≡ true
+  pub number : upTo end (bitmapPlacesFromOne (b .punatc)) ≡ true
 
-pub room : (t : List ℕ) (b : Bitmaps) (d : DiscretionaryData) → d ≡ discretionaryOf t → Sound t b → Room (d .end) t b
+pub room : (t : List ℕ) (b : Bitmaps) (d : DiscretionaryData) → d ≡ discretionaryDataOf t → Sound t b → Room (d .end) t b
 unfolding bitmapWithin
 room t b d e s =
     let f = digits-end (nibbles t) (s .some) in

@@ -13,16 +13,16 @@ use Rattle.basics.specs.Choice.{every}
 use Rattle.basics.proofs.Laws.{both-yes, both-left, both-right}
 use Rattle.mag_stripe.specs.declared.Bitmaps.{Bitmaps}
 use Rattle.mag_stripe.specs.declared.DigitValues.{DigitValues}
-use Rattle.mag_stripe.specs.Bitmap.{bitmapPlaces, bitCount, unDigitCount}
-use Rattle.mag_stripe.specs.Digits.{PlacedDigit, placedDigit, lowestDigits, cvc3Digits, unDigits, atcDigits, trackDigits, digitsWritten}
+use Rattle.mag_stripe.specs.Bitmap.{bitmapPlacesFromOne, setBitCount, unDigitCount}
+use Rattle.mag_stripe.specs.Digits.{PlacedDigit, placedDigit, lowestDigitsAtPlaces, cvc3Digits, unDigits, atcDigits, trackDigits, placedDigitsWrittenBeforeEnd}
 
-pub written-length : (end : ℕ) (ds : List PlacedDigit) (s : List ℕ) → length (digitsWritten end ds s) ≡ length s
-unfolding digitsWritten
+pub written-length : (end : ℕ) (ds : List PlacedDigit) (s : List ℕ) → length (placedDigitsWrittenBeforeEnd end ds s) ≡ length s
+unfolding placedDigitsWrittenBeforeEnd
 written-length end [] s = refl
 written-length end (d ∷ ds) s = written-length end ds (set s (end - d .place) (d .digit)) ∙ length-set s (end - d .place) (d .digit)
 
-pub written-append : (end : ℕ) (ds es : List PlacedDigit) (s : List ℕ) → digitsWritten end (ds ++ es) s ≡ digitsWritten end es (digitsWritten end ds s)
-unfolding digitsWritten
+pub written-append : (end : ℕ) (ds es : List PlacedDigit) (s : List ℕ) → placedDigitsWrittenBeforeEnd end (ds ++ es) s ≡ placedDigitsWrittenBeforeEnd end es (placedDigitsWrittenBeforeEnd end ds s)
+unfolding placedDigitsWrittenBeforeEnd
 written-append end [] es s = refl
 written-append end (d ∷ ds) es s = written-append end ds es (set s (end - d .place) (d .digit))
 
@@ -30,15 +30,15 @@ written-append end (d ∷ ds) es s = written-append end ds es (set s (end - d .p
 
 -- what is still to be written: n digits at the places of a bitmap
 abbrev pub left : ℕ → ℕ → ℕ → ℕ → List ℕ → List ℕ → List ℕ
-left end base number n ps s = digitsWritten end (lowestDigits base number (take n ps)) s
+left end base number n ps s = placedDigitsWrittenBeforeEnd end (lowestDigitsAtPlaces base number (take n ps)) s
 
 pub one-written : (end base number n p : ℕ) (ps s : List ℕ)
     → left end base number (suc n) (p ∷ ps) s ≡ left end base (number / base) n ps (set s (end - p) (number % base))
-unfolding digitsWritten lowestDigits
+unfolding placedDigitsWrittenBeforeEnd lowestDigitsAtPlaces
 one-written end base number n p ps s = refl
 
 pub none-left : (end base number : ℕ) (ps s : List ℕ) → left end base number 0 ps s ≡ s
-unfolding digitsWritten lowestDigits
+unfolding placedDigitsWrittenBeforeEnd lowestDigitsAtPlaces
 none-left end base number ps s = refl
 
 -- places in a list are at most so much
@@ -104,7 +104,7 @@ module _ {end base number count : ℕ} {ps s : List ℕ} {copied m : ℕ} {qs u 
   pub copying-place : (p : ℕ) (rs : List ℕ) → qs ≡ p ∷ rs → p ≤ end
   copying-place p rs e = upTo-head end p rs (rw e at (c .inside))
 
-  pub copying-end : count ≤ copied → (qs ≡ drop count ps) × (u ≡ digitsWritten end (lowestDigits base number (take count ps)) s)
+  pub copying-end : count ≤ copied → (qs ≡ drop count ps) × (u ≡ placedDigitsWrittenBeforeEnd end (lowestDigitsAtPlaces base number (take count ps)) s)
   copying-end h =
       let k : copied ≡ count = omega (arith, c .few) in
       let z : count - copied ≡ 0 = omega arith in
@@ -114,22 +114,22 @@ module _ {end base number count : ℕ} {ps s : List ℕ} {copied m : ℕ} {qs u 
 
 module _ (b : Bitmaps) (v : DigitValues) (end q n k : ℕ) (s s₁ s₂ s₃ s₄ rest : List ℕ) where
   pub all-written :
-      q ≡ bitCount (b .pcvc3)
+      q ≡ setBitCount (b .pcvc3)
       → n ≡ unDigitCount b
       → k ≡ b .natc
-      → b .natc ≤ bitCount (b .punatc)
-      → s₁ ≡ digitsWritten end (lowestDigits 10 (v .cvc3) (take q (bitmapPlaces (b .pcvc3)))) s
-      → s₂ ≡ digitsWritten end (lowestDigits 16 (v .un) (take n (bitmapPlaces (b .punatc)))) s₁
-      → rest ≡ drop n (bitmapPlaces (b .punatc))
-      → s₃ ≡ digitsWritten end (lowestDigits 10 (v .atc) (take k rest)) s₂
+      → b .natc ≤ setBitCount (b .punatc)
+      → s₁ ≡ placedDigitsWrittenBeforeEnd end (lowestDigitsAtPlaces 10 (v .cvc3) (take q (bitmapPlacesFromOne (b .pcvc3)))) s
+      → s₂ ≡ placedDigitsWrittenBeforeEnd end (lowestDigitsAtPlaces 16 (v .un) (take n (bitmapPlacesFromOne (b .punatc)))) s₁
+      → rest ≡ drop n (bitmapPlacesFromOne (b .punatc))
+      → s₃ ≡ placedDigitsWrittenBeforeEnd end (lowestDigitsAtPlaces 10 (v .atc) (take k rest)) s₂
       → s₄ ≡ set s₃ (end - 1) n
-      → s₄ ≡ digitsWritten end (trackDigits b v) s
-  unfolding trackDigits digitsWritten
+      → s₄ ≡ placedDigitsWrittenBeforeEnd end (trackDigits b v) s
+  unfolding trackDigits placedDigitsWrittenBeforeEnd
   all-written eq en ek counter h₁ h₂ r h₃ h₄ =
-      let few : length rest ≤ k = omega (arith, ap length r ∙ length-drop n (bitmapPlaces (b .punatc))) in
-      let code : s₁ ≡ digitsWritten end (cvc3Digits b v) s = h₁ ∙ rw (eq, take-length (bitmapPlaces (b .pcvc3))) in
-      let number : s₂ ≡ digitsWritten end (unDigits b v) s₁ = h₂ ∙ rw en in
-      let count : s₃ ≡ digitsWritten end (atcDigits b v) s₂ = h₃ ∙ rw (take-all k rest few, r, en) in
+      let few : length rest ≤ k = omega (arith, ap length r ∙ length-drop n (bitmapPlacesFromOne (b .punatc))) in
+      let code : s₁ ≡ placedDigitsWrittenBeforeEnd end (cvc3Digits b v) s = h₁ ∙ rw (eq, take-length (bitmapPlacesFromOne (b .pcvc3))) in
+      let number : s₂ ≡ placedDigitsWrittenBeforeEnd end (unDigits b v) s₁ = h₂ ∙ rw en in
+      let count : s₃ ≡ placedDigitsWrittenBeforeEnd end (atcDigits b v) s₂ = h₃ ∙ rw (take-all k rest few, r, en) in
       h₄
       ∙ sym (written-append end (cvc3Digits b v ++ unDigits b v ++ atcDigits b v) (placedDigit 1 (unDigitCount b) ∷ []) s
       ∙ rw (written-append end (cvc3Digits b v ++ unDigits b v) (atcDigits b v) s, written-append end (cvc3Digits b v) (unDigits b v) s,

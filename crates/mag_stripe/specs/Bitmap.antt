@@ -8,7 +8,7 @@ use lib.ListN.{length, getD}
 use Rattle.basics.specs.Types.{Count, Value}
 use Rattle.basics.specs.Choice.{if_then_else_, _and_, _≤?_, _=?_, every}
 use Rattle.mag_stripe.specs.declared.Bitmaps.{Bitmaps}
-use Rattle.mag_stripe.specs.Track.{discretionaryOf}
+use Rattle.mag_stripe.specs.Track.{discretionaryDataOf}
 
 -- two bytes as a number, byte 1 the high one; an absent byte counts as 0
 abbrev pub twoByteNumber : Value → ℕ
@@ -20,35 +20,35 @@ bitmapsOf pcvc3 punatc natc =
     record { pcvc3 = twoByteNumber pcvc3; punatc = twoByteNumber punatc; natc = getD natc 0 0 }
 
 -- the places that so many bits of a bitmap set, from the lowest, where the lowest bit is for place p
-unfoldable pub bitmapPlacesFrom : ℕ → ℕ → ℕ → List ℕ
-bitmapPlacesFrom zero p bitmap = []
-bitmapPlacesFrom (suc bits) p bitmap =
-    if bitmap % 2 =? 1 then p ∷ bitmapPlacesFrom bits (p + 1) (bitmap / 2)
-    else bitmapPlacesFrom bits (p + 1) (bitmap / 2)
+unfoldable pub bitmapPlacesCountedFrom : ℕ → ℕ → ℕ → List ℕ
+bitmapPlacesCountedFrom zero p bitmap = []
+bitmapPlacesCountedFrom (suc bits) p bitmap =
+    if bitmap % 2 =? 1 then p ∷ bitmapPlacesCountedFrom bits (p + 1) (bitmap / 2)
+    else bitmapPlacesCountedFrom bits (p + 1) (bitmap / 2)
 
 -- the places that a bitmap of two bytes sets, lowest first
-unfoldable pub bitmapPlaces : ℕ → List ℕ
-bitmapPlaces bitmap = bitmapPlacesFrom 16 1 bitmap
+unfoldable pub bitmapPlacesFromOne : ℕ → List ℕ
+bitmapPlacesFromOne bitmap = bitmapPlacesCountedFrom 16 1 bitmap
 
 -- the number of non-zero bits of a bitmap
-abbrev pub bitCount : ℕ → Count
-bitCount bitmap = length (bitmapPlaces bitmap)
+abbrev pub setBitCount : ℕ → Count
+setBitCount bitmap = length (bitmapPlacesFromOne bitmap)
 
--- nUN (S7.22): the places of PUNATC that are not the counter's; subtraction stops at 0, so `canTakeDigits`
+-- nUN (S7.22): the places of PUNATC that are not the counter's; subtraction stops at 0, so `trackCanTakeDigits`
 -- tests NATC apart
 abbrev pub unDigitCount : Bitmaps → Count
-unDigitCount b = bitCount (b .punatc) - b .natc
+unDigitCount b = setBitCount (b .punatc) - b .natc
 
 -- a bitmap sets no place past the last of m digits
 unfoldable pub bitmapWithin : Count → ℕ → Bool
-bitmapWithin m bitmap = every (λ p. p ≤? m) (bitmapPlaces bitmap)
+bitmapWithin m bitmap = every (λ p. p ≤? m) (bitmapPlacesFromOne bitmap)
 
 -- a track can take the digits: it has discretionary digits, no bitmap sets a place past them, and nUN is 0 to 8
-unfoldable pub canTakeDigits : Value → Bitmaps → Bool
-canTakeDigits t b =
-    let m = discretionaryOf t .count in
+unfoldable pub trackCanTakeDigits : Value → Bitmaps → Bool
+trackCanTakeDigits t b =
+    let m = discretionaryDataOf t .count in
     1 ≤? m
     and bitmapWithin m (b .pcvc3)
     and bitmapWithin m (b .punatc)
-    and b .natc ≤? bitCount (b .punatc)
+    and b .natc ≤? setBitCount (b .punatc)
     and unDigitCount b ≤? 8

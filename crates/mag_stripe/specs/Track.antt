@@ -24,15 +24,15 @@ nibblesBefore x (n ∷ s) = if n =? x then 0 else suc (nibblesBefore x s)
 
 -- the discretionary data of a track's nibbles: where they end, which is the first F after the first D or the end of the
 -- track, and how many digits they have: those after the first seven, expiry date and service code
-unfoldable pub discretionaryIn : Digits → DiscretionaryData
-discretionaryIn s =
+unfoldable pub discretionaryDataInNibbles : Digits → DiscretionaryData
+discretionaryDataInNibbles s =
     let start = nibblesBefore trackSeparator s + 1 in
     let count = nibblesBefore trackPadding (drop start s) in
     record { end = start + count; count = count - 7 }
 
 -- the same of a track's bytes
-abbrev pub discretionaryOf : Value → DiscretionaryData
-discretionaryOf t = discretionaryIn (nibbles t)
+abbrev pub discretionaryDataOf : Value → DiscretionaryData
+discretionaryDataOf t = discretionaryDataInNibbles (nibbles t)
 
 -- nibbles two by two as bytes, high one first: `nibbles` undone
 unfoldable pub packedNibbles : Digits → Bytes

@@ -1,6 +1,6 @@
 // Track 2 of a magnetic stripe card: whether its discretionary data can take the digits of a transaction
 // (`can_take_digits`), and the digits put in (`put_digits`). A track comes in as plain bytes of any length and
-// contents, the bitmaps and values as numbers, which `bitmaps_of` and `values_of` read from the bytes of the
+// contents, the bitmaps and values as numbers, which `bitmaps_of` and `digit_values_of` read from the bytes of the
 // data objects.
 ghost use mathlib.Core.Path.{_≡_};
 ghost use mathlib.Core.Bool.{true};
@@ -9,10 +9,10 @@ ghost use Prim.Native.Nat.{_+_, _≤_, _<_};
 ghost use lib.ListN.{length, take, drop, set, getD};
 ghost use Rattle.basics.specs.Number.{nibbles};
 ghost use Rattle.basics.specs.Choice.{every, _≤?_};
-ghost use Rattle.mag_stripe.specs.Track.{nibblesBefore, discretionaryOf};
-ghost use Rattle.mag_stripe.specs.Bitmap.{twoByteNumber, bitmapsOf, bitmapPlaces, bitCount, unDigitCount, bitmapWithin, canTakeDigits};
-ghost use Rattle.mag_stripe.specs.Digits.{digitValuesOf, lowestDigits, digitsWritten, digitsWrittenInto, trackWithDigits};
-ghost use Rattle.mag_stripe.specs.OtherDigits.{OtherDigitsKept, noPaddingNibble};
+ghost use Rattle.mag_stripe.specs.Track.{nibblesBefore, discretionaryDataOf};
+ghost use Rattle.mag_stripe.specs.Bitmap.{twoByteNumber, bitmapsOf, bitmapPlacesFromOne, setBitCount, unDigitCount, bitmapWithin, trackCanTakeDigits};
+ghost use Rattle.mag_stripe.specs.Digits.{digitValuesOf, lowestDigitsAtPlaces, placedDigitsWrittenBeforeEnd, trackNibblesWithDigits, trackWithDigitsIfPossible};
+ghost use Rattle.mag_stripe.specs.OtherDigits.{OtherDigitsKept, noneOfLowestNibblesIsF};
 
 // The card's bitmaps of track 2, PCVC3 (9F65) and PUNATC (9F66), and how many places of the second are the
 // counter's, NATC (9F67).
@@ -37,7 +37,7 @@ pub struct DiscretionaryData {
 }
 
 // The lowest place that a bitmap sets, counted from the right, from 1, and the bitmap without it.
-struct NextPlace {
+struct NextBitmapPlace {
     place: usize,
     rest: u16,
 }
@@ -54,7 +54,7 @@ pub fn bitmaps_of(pcvc3: &[u8], punatc: &[u8], natc: &[u8]) -> Bitmaps
 }
 
 // The values by the bytes of 9F61, 9F6A and 9F36. An absent byte counts as 0.
-pub fn values_of(cvc3: &[u8], un: &[u8], atc: &[u8]) -> DigitValues
+pub fn digit_values_of(cvc3: &[u8], un: &[u8], atc: &[u8]) -> DigitValues
     ensures { λ r. ⌜ r ≡ digitValuesOf (now (cvc3 .entry)) (now (un .entry)) (now (atc .entry)) ⌝ }
 {
     DigitValues {
@@ -77,7 +77,7 @@ fn word_at(s: &[u8], i: usize) -> u16
 // Whether a track can take the digits: it has discretionary digits, no bitmap sets a place past them, and nUN
 // is 0 to 8.
 pub fn can_take_digits(track: &[u8], bitmaps: Bitmaps) -> bool
-    ensures { λ r. ⌜ r ≡ canTakeDigits (now (track .entry)) bitmaps ⌝ }
+    ensures { λ r. ⌜ r ≡ trackCanTakeDigits (now (track .entry)) bitmaps ⌝ }
 {
     let count = discretionary_of(track).count;
     if count == 0 {
@@ -99,9 +99,9 @@ pub fn can_take_digits(track: &[u8], bitmaps: Bitmaps) -> bool
 
 // Puts the digits of CVC3, UN and ATC into a track, and nUN as its last digit. A track that cannot take them stays.
 pub fn put_digits(track: &mut [u8], bitmaps: Bitmaps, values: DigitValues)
-    ensures digits { λ _. ⌜ now (track .exit) ≡ trackWithDigits (now (track .entry)) bitmaps values ⌝ }
+    ensures digits { λ _. ⌜ now (track .exit) ≡ trackWithDigitsIfPossible (now (track .entry)) bitmaps values ⌝ }
     ensures kept { λ _. ⌜ OtherDigitsKept bitmaps (now (track .entry)) (now (track .exit)) ⌝ }
-    ensures twice { λ _. ⌜ (noPaddingNibble (unDigitCount bitmaps) (values .un) ≡ true → trackWithDigits (now (track .exit)) bitmaps values ≡ now (track .exit)) ⌝ }
+    ensures twice { λ _. ⌜ (noneOfLowestNibblesIsF (unDigitCount bitmaps) (values .un) ≡ true → trackWithDigitsIfPossible (now (track .exit)) bitmaps values ≡ now (track .exit)) ⌝ }
 {
     if can_take_digits(track, bitmaps) {
         write_digits(track, bitmaps, values);
@@ -110,8 +110,8 @@ pub fn put_digits(track: &mut [u8], bitmaps: Bitmaps, values: DigitValues)
 
 // The digits put into a track that can take them.
 fn write_digits(track: &mut [u8], bitmaps: Bitmaps, values: DigitValues)
-    requires { ⌜ canTakeDigits (now track) bitmaps ≡ true ⌝ }
-    ensures { λ _. ⌜ nibbles (now (track .exit)) ≡ digitsWrittenInto (now (track .entry)) bitmaps values ⌝ }
+    requires { ⌜ trackCanTakeDigits (now track) bitmaps ≡ true ⌝ }
+    ensures { λ _. ⌜ nibbles (now (track .exit)) ≡ trackNibblesWithDigits (now (track .entry)) bitmaps values ⌝ }
 {
     let end = discretionary_of(track).end;
     let bits = bit_count(bitmaps.pcvc3);
@@ -125,7 +125,7 @@ fn write_digits(track: &mut [u8], bitmaps: Bitmaps, values: DigitValues)
 
 // The discretionary data of a track.
 fn discretionary_of(track: &[u8]) -> DiscretionaryData
-    ensures { λ r. ⌜ r ≡ discretionaryOf (now (track .entry)) ⌝ }
+    ensures { λ r. ⌜ r ≡ discretionaryDataOf (now (track .entry)) ⌝ }
 {
     let from = first(track, 0, 0xD) + 1;
     let end = first(track, from, 0xF);
@@ -178,7 +178,7 @@ fn put_nibble(track: &mut [u8], i: usize, x: u8)
 
 // The number of non-zero bits of a bitmap.
 fn bit_count(bitmap: u16) -> usize
-    ensures { λ r. ⌜ (r ≡ bitCount bitmap) × (r ≤ 16) ⌝ }
+    ensures { λ r. ⌜ (r ≡ setBitCount bitmap) × (r ≤ 16) ⌝ }
 {
     u16::count_ones(bitmap) as usize
 }
@@ -194,11 +194,11 @@ fn is_within(bitmap: u16, count: usize) -> bool
 // Copies the lowest digits of a number in a base to as many places of a bitmap, the lowest ones, and returns the
 // bitmap of the others. The discretionary data end at the nibble `end`.
 fn copy(track: &mut [u8], end: usize, bitmap: u16, count: usize, number: u32, base: u32) -> u16
-    requires { ⌜ count ≤ bitCount bitmap ⌝ }
-    requires { ⌜ (end ≤ length (nibbles (now track))) × (every (λ p. p ≤? end) (bitmapPlaces bitmap) ≡ true) ⌝ }
+    requires { ⌜ count ≤ setBitCount bitmap ⌝ }
+    requires { ⌜ (end ≤ length (nibbles (now track))) × (every (λ p. p ≤? end) (bitmapPlacesFromOne bitmap) ≡ true) ⌝ }
     requires { ⌜ (1 ≤ base) × (base ≤ 16) ⌝ }
-    ensures { λ r. ⌜ bitmapPlaces r ≡ drop count (bitmapPlaces bitmap) ⌝ }
-    ensures { λ _. ⌜ nibbles (now (track .exit)) ≡ digitsWritten end (lowestDigits base number (take count (bitmapPlaces bitmap))) (nibbles (now (track .entry))) ⌝ }
+    ensures { λ r. ⌜ bitmapPlacesFromOne r ≡ drop count (bitmapPlacesFromOne bitmap) ⌝ }
+    ensures { λ _. ⌜ nibbles (now (track .exit)) ≡ placedDigitsWrittenBeforeEnd end (lowestDigitsAtPlaces base number (take count (bitmapPlacesFromOne bitmap))) (nibbles (now (track .entry))) ⌝ }
 {
     let mut rest = bitmap;
     let mut left = number;
@@ -214,13 +214,13 @@ fn copy(track: &mut [u8], end: usize, bitmap: u16, count: usize, number: u32, ba
 }
 
 // The lowest place that a bitmap sets, and the bitmap of the others.
-fn next_place(bitmap: u16) -> NextPlace
-    requires { ⌜ 1 ≤ bitCount bitmap ⌝ }
-    ensures { λ r. ⌜ (bitmapPlaces bitmap ≡ r .place ∷ bitmapPlaces (r .rest)) × (1 ≤ r .place) ⌝ }
+fn next_place(bitmap: u16) -> NextBitmapPlace
+    requires { ⌜ 1 ≤ setBitCount bitmap ⌝ }
+    ensures { λ r. ⌜ (bitmapPlacesFromOne bitmap ≡ r .place ∷ bitmapPlacesFromOne (r .rest)) × (1 ≤ r .place) ⌝ }
 {
     let zeros = u16::trailing_zeros(bitmap);
     let lowest = 1u16 << zeros;
-    NextPlace {
+    NextBitmapPlace {
         place: zeros as usize + 1,
         rest: bitmap - lowest,
     }

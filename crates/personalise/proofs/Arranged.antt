@@ -15,7 +15,7 @@ use Rattle.basics.proofs.Order.{equal-or-not}
 use Rattle.tlv.specs.Primitives.{Object}
 use Rattle.personalise.specs.declared.Placement.{Placement}
 use Rattle.personalise.specs.Objects.{lacksTag, tagsDistinct}
-use Rattle.personalise.specs.Placements.{placementCount, anyPlacement, isOfObject, putsObjectInto, eachPlacedOnce, objectsFrom}
+use Rattle.personalise.specs.Placements.{countPlacementsWhere, anyPlacement, placesObjectNumber, putsObjectInto, eachPlacedOnce, objectsInRecordFrom}
 use Rattle.personalise.proofs.Clauses.{placesInRecord}
 
 -- ---- lists rearranged
@@ -64,12 +64,12 @@ perm-distinct (add {o} i p) d =
 
 -- ---- the record of an object
 
-none-named : (j k : ℕ) (ps : List Placement) → placementCount (isOfObject j) ps ≡ 0 → anyPlacement (putsObjectInto k j) ps ≡ false
-unfolding placementCount anyPlacement
+none-named : (j k : ℕ) (ps : List Placement) → countPlacementsWhere (placesObjectNumber j) ps ≡ 0 → anyPlacement (putsObjectInto k j) ps ≡ false
+unfolding countPlacementsWhere anyPlacement
 none-named j k [] e = refl
-none-named j k (p ∷ ps) e = elim (bool-cases (isOfObject j p)) [
-  | inl y ↦ absurd (let z = if-yes (suc (placementCount (isOfObject j) ps)) (placementCount (isOfObject j) ps) y in omega arith)
-  | inr n ↦ either-no _ _ (both-no-right _ _ n) (none-named j k ps (sym (if-no (suc (placementCount (isOfObject j) ps)) (placementCount (isOfObject j) ps) n) ∙ e))
+none-named j k (p ∷ ps) e = elim (bool-cases (placesObjectNumber j p)) [
+  | inl y ↦ absurd (let z = if-yes (suc (countPlacementsWhere (placesObjectNumber j) ps)) (countPlacementsWhere (placesObjectNumber j) ps) y in omega arith)
+  | inr n ↦ either-no _ _ (both-no-right _ _ n) (none-named j k ps (sym (if-no (suc (countPlacementsWhere (placesObjectNumber j) ps)) (countPlacementsWhere (placesObjectNumber j) ps) n) ∙ e))
 ]
 
 -- an object that one placement names is in one record, of those that placements name
@@ -87,13 +87,13 @@ drop-right true false c y z = cc
 drop-right false b false y z = refl
 drop-right false b true y z = cc
 
-alone : (j n : ℕ) (ps : List Placement) → placementCount (isOfObject j) ps ≡ 1 → every (placesInRecord n) ps ≡ true → Alone ps j n
-unfolding placementCount anyPlacement every
+alone : (j n : ℕ) (ps : List Placement) → countPlacementsWhere (placesObjectNumber j) ps ≡ 1 → every (placesInRecord n) ps ≡ true → Alone ps j n
+unfolding countPlacementsWhere anyPlacement every
 alone j n [] e r = absurd (omega arith)
-alone j n (p ∷ ps) e r = elim (bool-cases (isOfObject j p)) [
+alone j n (p ∷ ps) e r = elim (bool-cases (placesObjectNumber j p)) [
   | inl y ↦ (
-    let z = if-yes (suc (placementCount (isOfObject j) ps)) (placementCount (isOfObject j) ps) y in
-    let c : placementCount (isOfObject j) ps ≡ 0 = omega arith in
+    let z = if-yes (suc (countPlacementsWhere (placesObjectNumber j) ps)) (countPlacementsWhere (placesObjectNumber j) ps) y in
+    let c : countPlacementsWhere (placesObjectNumber j) ps ≡ 0 = omega arith in
     let b = both-left _ _ r in
     record {
       place = p .into;
@@ -103,7 +103,7 @@ alone j n (p ∷ ps) e r = elim (bool-cases (isOfObject j p)) [
     }
   )
   | inr f ↦ (
-    let a = alone j n ps (sym (if-no (suc (placementCount (isOfObject j) ps)) (placementCount (isOfObject j) ps) f) ∙ e) (both-right _ _ r) in
+    let a = alone j n ps (sym (if-no (suc (countPlacementsWhere (placesObjectNumber j) ps)) (countPlacementsWhere (placesObjectNumber j) ps) f) ∙ e) (both-right _ _ r) in
     record { place = a .place; only = λ k. either-false _ (both-no-right _ _ f) ∙ a .only k; low = a .low; high = a .high }
   )
 ]
@@ -113,21 +113,21 @@ alone j n (p ∷ ps) e r = elim (bool-cases (isOfObject j p)) [
 -- the objects of n records from k on, record by record; the list's are numbered from j on
 unfoldable pub ordered : List Placement → ℕ → ℕ → ℕ → List Object → List Object
 ordered ps k zero j os = []
-ordered ps k (suc n) j os = objectsFrom ps k j os ++ ordered ps (suc k) n j os
+ordered ps k (suc n) j os = objectsInRecordFrom ps k j os ++ ordered ps (suc k) n j os
 
 -- objects of no number
 ordered-nil : (ps : List Placement) (k n j : ℕ) → ordered ps k n j [] ≡ []
-unfolding ordered objectsFrom
+unfolding ordered objectsInRecordFrom
 ordered-nil ps k zero j = refl
 ordered-nil ps k (suc n) j = ordered-nil ps (suc k) n j
 
 module _ (ps : List Placement) (j : ℕ) (o : Object) (os : List Object) where
-  skipped : (k : ℕ) → anyPlacement (putsObjectInto k j) ps ≡ false → objectsFrom ps k j (o ∷ os) ≡ objectsFrom ps k (suc j) os
-  unfolding objectsFrom
+  skipped : (k : ℕ) → anyPlacement (putsObjectInto k j) ps ≡ false → objectsInRecordFrom ps k j (o ∷ os) ≡ objectsInRecordFrom ps k (suc j) os
+  unfolding objectsInRecordFrom
   skipped k e = if-no _ _ e
 
-  taken : (k : ℕ) → anyPlacement (putsObjectInto k j) ps ≡ true → objectsFrom ps k j (o ∷ os) ≡ o ∷ objectsFrom ps k (suc j) os
-  unfolding objectsFrom
+  taken : (k : ℕ) → anyPlacement (putsObjectInto k j) ps ≡ true → objectsInRecordFrom ps k j (o ∷ os) ≡ o ∷ objectsInRecordFrom ps k (suc j) os
+  unfolding objectsInRecordFrom
   taken k e = if-yes _ _ e
 
   module _ (r : ℕ) (only : (k : ℕ) → anyPlacement (putsObjectInto k j) ps ≡ eqb r k) where
@@ -145,7 +145,7 @@ module _ (ps : List Placement) (j : ℕ) (o : Object) (os : List Object) where
     inserted zero k h l = absurd (omega arith)
     inserted (suc n) k h l = elim (equal-or-not r k) [
       | inl e ↦ rw (taken k (only k ∙ eq-eqb r k e), passed n (suc k) (omega arith)) here
-      | inr ne ↦ rw (skipped k (elsewhere k ne)) (insert-behind (objectsFrom ps k (suc j) os) (inserted n (suc k) (omega arith) (omega arith)))
+      | inr ne ↦ rw (skipped k (elsewhere k ne)) (insert-behind (objectsInRecordFrom ps k (suc j) os) (inserted n (suc k) (omega arith) (omega arith)))
     ]
 
 -- the objects in the order of the records are the list's, rearranged

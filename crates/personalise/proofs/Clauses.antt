@@ -9,18 +9,18 @@ use lib.ListN.{length}
 use Rattle.basics.specs.Types.{Bytes, Count}
 use Rattle.basics.specs.Choice.{_and_, _=?_, _≤?_, every}
 use Rattle.basics.specs.Number.{between}
-use Rattle.tlv.specs.Primitives.{primitiveObjects, isPrimitiveList}
+use Rattle.tlv.specs.Primitives.{primitiveObjects, arePrimitiveObjectsParsed}
 use Rattle.afl.specs.declared.AflEntry.{AflEntry}
 use Rattle.afl.specs.declared.CardRecord.{CardRecord}
 use Rattle.afl.specs.Entry.{entrySfi}
-use Rattle.afl.specs.Records.{aflEntries, wholeEntries, aflRecords, aflRecordCount}
+use Rattle.afl.specs.Records.{aflEntries, aflLengthIsMultipleOf4, aflRecords, aflRecordCount}
 use Rattle.personalise.specs.declared.Placement.{Placement}
 use Rattle.personalise.specs.declared.PersonaliseResult.{PersonaliseResult}
-use Rattle.personalise.specs.Objects.{settableInRecord, tagsDistinct}
+use Rattle.personalise.specs.Objects.{tagAndValueAllowedInRecord, tagsDistinct}
 use Rattle.personalise.specs.Placements.{eachPlacedOnce}
-use Rattle.personalise.specs.Entries.{mostEntries, mostRecords}
-use Rattle.personalise.specs.Records.{recordContent, mostRecordContent}
-use Rattle.personalise.specs.Outcome.{recordsRoom, aflRoom, CardPlan, objectsOf, placementsOf}
+use Rattle.personalise.specs.Entries.{mostAflEntries, mostCardRecords}
+use Rattle.personalise.specs.Records.{recordContent, mostRecordContentBytes}
+use Rattle.personalise.specs.Outcome.{leastRecordsBufferSize, leastAflBufferSize, CardPlan, objectsOfPlan, placementsOfPlan}
 use Rattle.personalise.specs.Word.{isWritten}
 
 -- ---- one entry
@@ -79,18 +79,18 @@ inLayout n m p = placesInRecord n p and placesObject m p
 -- for a plan and the caller's buffers r for the records and l for the AFL
 pub record PersonaliseRules (p : CardPlan) (r l : Bytes) : Type 0 where
   -- the buffers are large enough
-  pub recordsLent : recordsRoom ≤ length r
-  pub aflLent : aflRoom ≤ length l
+  pub recordsLent : leastRecordsBufferSize ≤ length r
+  pub aflLent : leastAflBufferSize ≤ length l
   -- the list: whole primitive objects that the card may set in template 70, lengths and digits fitting; no tag twice;
   -- each object in one placement
-  pub run : isPrimitiveList (primitiveObjects (p .list)) ≡ true
-  pub settable : every settableInRecord (objectsOf p) ≡ true
-  pub distinct : tagsDistinct (objectsOf p) ≡ true
-  pub once : eachPlacedOnce (placementsOf p) 1 (objectsOf p) ≡ true
+  pub run : arePrimitiveObjectsParsed (primitiveObjects (p .list)) ≡ true
+  pub settable : every tagAndValueAllowedInRecord (objectsOfPlan p) ≡ true
+  pub distinct : tagsDistinct (objectsOfPlan p) ≡ true
+  pub once : eachPlacedOnce (placementsOfPlan p) 1 (objectsOfPlan p) ≡ true
   -- the AFL: 1 to 62 whole entries, each within its rules, no record named twice, 1 to 128 records
-  pub whole : wholeEntries (p .entries) ≡ true
+  pub whole : aflLengthIsMultipleOf4 (p .entries) ≡ true
   pub someEntry : 1 ≤ length (aflEntries (p .entries))
-  pub fewEntries : length (aflEntries (p .entries)) ≤ mostEntries
+  pub fewEntries : length (aflEntries (p .entries)) ≤ mostAflEntries
   pub lowBits : every lowBitsClear (aflEntries (p .entries)) ≡ true
   pub files : every sfiInRange (aflEntries (p .entries)) ≡ true
   pub firsts : every firstRecordNamed (aflEntries (p .entries)) ≡ true
@@ -98,11 +98,11 @@ pub record PersonaliseRules (p : CardPlan) (r l : Bytes) : Type 0 where
   pub byteFour : every noneOffline (aflEntries (p .entries)) ≡ true
   pub apart : noRecordTwice (aflRecords (p .entries)) ≡ true
   pub someRecord : 1 ≤ aflRecordCount (p .entries)
-  pub fewRecords : aflRecordCount (p .entries) ≤ mostRecords
+  pub fewRecords : aflRecordCount (p .entries) ≤ mostCardRecords
   -- the records: placements name records of the AFL and objects of the list; each content is at most 253 bytes
-  pub named : every (placesInRecord (aflRecordCount (p .entries))) (placementsOf p) ≡ true
-  pub objectsThere : every (placesObject (length (objectsOf p))) (placementsOf p) ≡ true
-  pub contents : (k : ℕ) → 1 ≤ k → k ≤ aflRecordCount (p .entries) → length (recordContent (objectsOf p) (placementsOf p) k) ≤ mostRecordContent
+  pub named : every (placesInRecord (aflRecordCount (p .entries))) (placementsOfPlan p) ≡ true
+  pub objectsThere : every (placesObject (length (objectsOfPlan p))) (placementsOfPlan p) ≡ true
+  pub contents : (k : ℕ) → 1 ≤ k → k ≤ aflRecordCount (p .entries) → length (recordContent (objectsOfPlan p) (placementsOfPlan p) k) ≤ mostRecordContentBytes
 
 -- the answer a reports that all is written exactly where the rules are satisfied
 abbrev pub WrittenExactly : PersonaliseResult → CardPlan → Bytes → Bytes → Type 0

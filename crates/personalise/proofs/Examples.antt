@@ -7,36 +7,36 @@ use Prim.Native.Nat.{ℕ, zero, suc}
 use native.Mathlib.Omega.{arith}
 use lib.ListN.{length, replicate}
 use Rattle.basics.specs.Choice.{if, both, either, every}
-use Rattle.basics.specs.Recursion.{recurseBy, recurse}
-use Rattle.basics.specs.Number.{bigEndianFrom, nibbles}
-use Rattle.tlv.specs.Tag.{tagSize, tagSecondByte, tagThirdByte, tagAt, tagFirstByte, isTemplate, isPrivate}
-use Rattle.tlv.specs.Length.{lengthOneByte, lengthAt}
+use Rattle.basics.specs.Recursion.{recurseWithFuel, recurseWithFuelFromLength}
+use Rattle.basics.specs.Number.{appendBigEndianBytes, nibbles}
+use Rattle.tlv.specs.Tag.{tagSize, tagSizeFromSecondByte, tagSizeFromThirdByte, tagAt, tagFirstByte, isTemplate, isPrivate}
+use Rattle.tlv.specs.Length.{lengthAfter81, lengthAt}
 use Rattle.tlv.specs.Object.{headerOf}
-use Rattle.tlv.specs.Primitives.{objectBefore, primitiveOf, primitiveObjects}
+use Rattle.tlv.specs.Primitives.{prependObject, primitiveAtFront, primitiveObjects}
 use Rattle.tlv.specs.Encoding.{tagBytes, lengthBytes}
-use Rattle.dictionary.specs.Rows.{dictionaryRows, rowPast, findRow}
-use Rattle.dictionary.specs.Form.{numeric, compressed, digitsThenFs, digitsFit, fitsRow}
-use Rattle.afl.specs.Records.{aflEntries, wholeEntries, sumOverEntries}
-use Rattle.reading.specs.Taking.{allowedInTemplate, allowedInResponse}
+use Rattle.dictionary.specs.Rows.{dictionaryRows, rowFoundShifted, findRow}
+use Rattle.dictionary.specs.Form.{isNumeric, isCompressedNumeric, isDigitsThenFs, digitsMatchForm, lengthAndDigitsFitRow}
+use Rattle.afl.specs.Records.{aflEntries, aflLengthIsMultipleOf4, sumOverEntries}
+use Rattle.reading.specs.Taking.{allowedInTemplate, rowAllowsValueFromCard}
 use Rattle.personalise.specs.declared.PersonaliseResult.{PersonaliseResult}
 use Rattle.personalise.specs.declared.PersonaliseResult.the-variants.{Written, BadList, BadEntry, BadRecord}
-use Rattle.personalise.specs.Objects.{settableInRecord, lacksTag, tagsDistinct}
-use Rattle.personalise.specs.Placements.{placementsIn, placementCount, anyPlacement, eachPlacedOnce, objectsFrom}
-use Rattle.personalise.specs.Entries.{apartFrom, validEntryAlone, validEntryAfter, badFrom, badEntry}
-use Rattle.personalise.specs.Records.{contentBytes, cardRecordsFrom, concatenatedRecords, recordBadAt, firstFault, badRecord}
-use Rattle.personalise.specs.Outcome.{cardPlan, listValid, personaliseResult, recordsAfter, aflAfter}
+use Rattle.personalise.specs.Objects.{tagAndValueAllowedInRecord, lacksTag, tagsDistinct}
+use Rattle.personalise.specs.Placements.{placementsIn, countPlacementsWhere, anyPlacement, eachPlacedOnce, objectsInRecordFrom}
+use Rattle.personalise.specs.Entries.{overlapsNoneBefore, validEntrySfi1To10NoOfflineAuth, validEntryAfterWithinCountLimits, firstBadOrTruncatedEntryAfter, firstBadEntry}
+use Rattle.personalise.specs.Records.{encodedObjects, cardRecordsFrom, concatenatedRecords, hasBadPlacementOrOver253Bytes, firstBadNumberFrom, firstBadRecord}
+use Rattle.personalise.specs.Outcome.{cardPlan, objectsValidAndEachPlacedOnce, personaliseResult, recordsBufferAfter, aflBufferAfter}
 use Rattle.personalise.specs.Word.{isWritten}
-use Rattle.personalise.specs.Inner.{listStage}
+use Rattle.personalise.specs.Inner.{resultFromListChecks}
 use Rattle.personalise.proofs.Stages.{short-records, short-afl}
 
 -- the answer to objects, entries and placements in buffers that are large enough (law `after-buffers`)
 abbrev said : List ℕ → List ℕ → List ℕ → PersonaliseResult
-said objects es placements = listStage (cardPlan objects es placements)
+said objects es placements = resultFromListChecks (cardPlan objects es placements)
 
 -- the answer, with the records and the AFL that are left of no bytes
 abbrev done : List ℕ → List ℕ → List ℕ → PersonaliseResult × List ℕ × List ℕ
 done objects es placements =
-    (said objects es placements, recordsAfter (isWritten (said objects es placements)) (cardPlan objects es placements) [], aflAfter (isWritten (said objects es placements)) es [])
+    (said objects es placements, recordsBufferAfter (isWritten (said objects es placements)) (cardPlan objects es placements) [], aflBufferAfter (isWritten (said objects es placements)) es [])
 
 -- records of this length and an AFL of that
 abbrev sizes : ℕ → ℕ → PersonaliseResult
@@ -115,7 +115,7 @@ pub record Examples : Type 0 where
   odd : said (0x9F ∷ 0x08 ∷ 0x02 ∷ 0x00 ∷ 0x02 ∷ []) (0x08 ∷ 0x01 ∷ 0x02 ∷ 0x00 ∷ []) (0x01 ∷ 0x01 ∷ 0x02 ∷ []) ≡ BadRecord 2
 
 examples : Examples
-unfolding primitiveObjects recurse recurseBy primitiveOf objectBefore headerOf tagAt tagSize tagSecondByte tagThirdByte lengthAt lengthOneByte tagFirstByte isTemplate isPrivate bigEndianFrom nibbles if both either every dictionaryRows rowPast findRow allowedInResponse allowedInTemplate fitsRow numeric digitsFit compressed digitsThenFs tagBytes lengthBytes settableInRecord lacksTag tagsDistinct placementsIn placementCount anyPlacement eachPlacedOnce objectsFrom aflEntries wholeEntries sumOverEntries apartFrom validEntryAlone validEntryAfter badFrom badEntry contentBytes cardRecordsFrom concatenatedRecords recordBadAt firstFault badRecord listValid
+unfolding primitiveObjects recurseWithFuelFromLength recurseWithFuel primitiveAtFront prependObject headerOf tagAt tagSize tagSizeFromSecondByte tagSizeFromThirdByte lengthAt lengthAfter81 tagFirstByte isTemplate isPrivate appendBigEndianBytes nibbles if both either every dictionaryRows rowFoundShifted findRow rowAllowsValueFromCard allowedInTemplate lengthAndDigitsFitRow isNumeric digitsMatchForm isCompressedNumeric isDigitsThenFs tagBytes lengthBytes tagAndValueAllowedInRecord lacksTag tagsDistinct placementsIn countPlacementsWhere anyPlacement eachPlacedOnce objectsInRecordFrom aflEntries aflLengthIsMultipleOf4 sumOverEntries overlapsNoneBefore validEntrySfi1To10NoOfflineAuth validEntryAfterWithinCountLimits firstBadOrTruncatedEntryAfter firstBadEntry encodedObjects cardRecordsFrom concatenatedRecords hasBadPlacementOrOver253Bytes firstBadNumberFrom firstBadRecord objectsValidAndEachPlacedOnce
 examples = record { two = refl; order = refl; empty = refl; shortest = refl; fullest = refl; over = refl; split = refl; below = refl; above = refl; twice = refl; left-out = refl; placed-twice = refl; meeting = refl; files = refl; no-entry = refl; cut = refl; sixty-three = refl; sixty-two = refl; all = refl; many = refl; total = refl; low-bits = refl; sfi-zero = refl; sfi-ten = refl; sfi-eleven = refl; first-zero = refl; not-below = refl; offline = refl; session = refl; gpo = refl; template = refl; unknown = refl; private = refl; too-long = refl; digit = refl; object-nine = refl; record-three = refl; record-zero = refl; odd = refl }
 
 -- buffers of 32,767 and 247 bytes, and of 32,768 and 247, whatever they hold, with a list that is bad and no entry

@@ -8,13 +8,13 @@ use native.Mathlib.Omega.{arith}
 use lib.ListN.{length, length-append}
 use Rattle.tlv.specs.declared.TlvHeader.{TlvHeader}
 use Rattle.tlv.specs.declared.ObjectFront.the-variants as front
-use Rattle.tlv.specs.Primitives.{Object, primitiveOf}
+use Rattle.tlv.specs.Primitives.{Object, primitiveAtFront}
 use Rattle.tlv.proofs.Primitives.{firstOf, restOf}
 use Rattle.personalise.specs.declared.Placement.{Placement}
-use Rattle.personalise.specs.Placements.{objectsFrom}
-use Rattle.personalise.specs.Objects.{recordTemplate, listedObjects}
-use Rattle.personalise.specs.Records.{contentBytes, recordContent, cardRecordBytes, cardRecordsFrom, concatenatedRecords, mostRecordContent}
-use Rattle.personalise.specs.Inner.{UsableObjects, bytesWrittenOver, PutsBytes, placedBytes, firstRecordsBytes}
+use Rattle.personalise.specs.Placements.{objectsInRecordFrom}
+use Rattle.personalise.specs.Objects.{tagRecordTemplate, parsedObjectsOrEmpty}
+use Rattle.personalise.specs.Records.{encodedObjects, recordContent, cardRecordBytes, cardRecordsFrom, concatenatedRecords, mostRecordContentBytes}
+use Rattle.personalise.specs.Inner.{AreObjectsAllowedInRecord, bytesWrittenOver, WritesBytesAt, objectBytesIfPlacedInRecord, concatenatedFirstRecords}
 use Rattle.personalise.proofs.Known.{known, known-tag}
 use Rattle.personalise.proofs.Listed.{first-settable, bytes-on, object-length}
 use Rattle.personalise.proofs.Forms.{tag-one, length-most}
@@ -22,9 +22,9 @@ use Rattle.personalise.proofs.Over.{puts-length, puts-next}
 
 -- the content of the objects in s, numbered from j on
 abbrev pub content : List Placement → ℕ → ℕ → List ℕ → List ℕ
-content ps k j s = contentBytes (objectsFrom ps k j (listedObjects s))
+content ps k j s = encodedObjects (objectsInRecordFrom ps k j (parsedObjectsOrEmpty s))
 
-module _ (s : List ℕ) (n : length s ≡ 0 → ⊥) (h : TlvHeader) (e : primitiveOf s ≡ front.Object h) (u : UsableObjects s) (ps : List Placement) (k j : ℕ) where
+module _ (s : List ℕ) (n : length s ≡ 0 → ⊥) (h : TlvHeader) (e : primitiveAtFront s ≡ front.Object h) (u : AreObjectsAllowedInRecord s) (ps : List Placement) (k j : ℕ) where
   -- a tag of at most three bytes, and a length below 256
   pub first-small : (h .tag < 0x1000000) × (length (firstOf s h .value) < 0x100)
   first-small =
@@ -32,7 +32,7 @@ module _ (s : List ℕ) (n : length s ≡ 0 → ⊥) (h : TlvHeader) (e : primit
       (known-tag (firstOf s h) o, omega (arith, o .short))
 
   abbrev first : List ℕ
-  first = placedBytes ps k j (h .tag) (firstOf s h .value)
+  first = objectBytesIfPlacedInRecord ps k j (h .tag) (firstOf s h .value)
 
   abbrev left : List ℕ
   left = content ps k (j + 1) (restOf s h)
@@ -44,7 +44,7 @@ module _ (s : List ℕ) (n : length s ≡ 0 → ⊥) (h : TlvHeader) (e : primit
     pub first-room : to + length first ≤ length out
     first-room = omega (arith, sizes)
 
-    module _ {to′ : ℕ} {out′ : List ℕ} (p : PutsBytes to′ out′ out to first) where
+    module _ {to′ : ℕ} {out′ : List ℕ} (p : WritesBytesAt to′ out′ out to first) where
       pub left-over : bytesWrittenOver out to (content ps k j s) ≡ bytesWrittenOver out′ to′ left
       left-over = ap (bytesWrittenOver out to) (bytes-on s n h e u ps k j) ∙ puts-next out to first first-room p left
 
@@ -62,10 +62,10 @@ module _ (os : List Object) (ps : List Placement) where
   recordsLeft n k = concatenatedRecords (cardRecordsFrom os ps k (n + 1 - k))
 
   -- a record is at most 256 bytes
-  pub record-most : (k : ℕ) → length (recordContent os ps k) ≤ mostRecordContent → length (cardRecordBytes os ps k) ≤ 256
+  pub record-most : (k : ℕ) → length (recordContent os ps k) ≤ mostRecordContentBytes → length (cardRecordBytes os ps k) ≤ 256
   record-most k h =
       let v = recordContent os ps k in
-      omega (arith, object-length recordTemplate v, ap length (tag-one recordTemplate (omega arith)), length-most (length v) (omega arith))
+      omega (arith, object-length tagRecordTemplate v, ap length (tag-one tagRecordTemplate (omega arith)), length-most (length v) (omega arith))
 
   pub records-more : (n k : ℕ) → k ≤ n → recordsLeft n k ≡ cardRecordBytes os ps k ++ recordsLeft n (k + 1)
   unfolding cardRecordsFrom concatenatedRecords
@@ -77,12 +77,12 @@ module _ (os : List Object) (ps : List Placement) where
   unfolding cardRecordsFrom concatenatedRecords
   records-done n k h = let e : n + 1 - k ≡ 0 = omega arith in rw e
 
-  pub records-all : (n : ℕ) → recordsLeft n 1 ≡ firstRecordsBytes os ps n
+  pub records-all : (n : ℕ) → recordsLeft n 1 ≡ concatenatedFirstRecords os ps n
   records-all n = let e : n + 1 - 1 ≡ n = omega arith in ap (λ (m : ℕ). concatenatedRecords (cardRecordsFrom os ps 1 m)) e
 
   -- an iteration of the loop
-  module _ (n k : ℕ) (h : k ≤ n) (f : length (recordContent os ps k) ≤ mostRecordContent) (out : List ℕ) (at : ℕ) (room : at + 256 ≤ length out)
-      {at′ : ℕ} {out′ : List ℕ} (p : PutsBytes at′ out′ out at (cardRecordBytes os ps k)) where
+  module _ (n k : ℕ) (h : k ≤ n) (f : length (recordContent os ps k) ≤ mostRecordContentBytes) (out : List ℕ) (at : ℕ) (room : at + 256 ≤ length out)
+      {at′ : ℕ} {out′ : List ℕ} (p : WritesBytesAt at′ out′ out at (cardRecordBytes os ps k)) where
     fits : at + length (cardRecordBytes os ps k) ≤ length out
     fits = omega (arith, record-most k f)
 

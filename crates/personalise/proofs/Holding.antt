@@ -20,17 +20,17 @@ use Rattle.afl.specs.Records.{aflEntries, aflRecords, aflRecordCount, acceptsAf
 use Rattle.afl.proofs.Records.{records-length}
 use Rattle.afl.proofs.Laws.{kept-keeps}
 use Rattle.personalise.specs.declared.Placement.{Placement}
-use Rattle.personalise.specs.declared.Fault.the-variants.{Nothing}
+use Rattle.personalise.specs.declared.FirstBadItemNumber.the-variants.{Nothing}
 use Rattle.personalise.specs.declared.PersonaliseResult.{PersonaliseResult}
 use Rattle.personalise.specs.declared.PersonaliseResult.the-variants.{Written}
 use Rattle.personalise.specs.declared.WrittenSizes.{WrittenSizes}
-use Rattle.personalise.specs.Objects.{settableInRecord, tagsDistinct}
-use Rattle.personalise.specs.Entries.{validEntryAlone, badEntry}
+use Rattle.personalise.specs.Objects.{tagAndValueAllowedInRecord, tagsDistinct}
+use Rattle.personalise.specs.Entries.{validEntrySfi1To10NoOfflineAuth, firstBadEntry}
 use Rattle.personalise.specs.Records.{cardRecordsFrom}
-use Rattle.personalise.specs.Outcome.{CardPlan, objectsOf, placementsOf, cardRecords, recordBytes, personaliseResult, recordsAfter, aflAfter}
+use Rattle.personalise.specs.Outcome.{CardPlan, objectsOfPlan, placementsOfPlan, cardRecords, allRecordsBytes, personaliseResult, recordsBufferAfter, aflBufferAfter}
 use Rattle.personalise.specs.Word.{isWritten}
-use Rattle.personalise.specs.Read.{putObjects, emptyStoreBytes, storeOfObjects, readAllRecords, CardHolds, CardHoldsIfWritten}
-use Rattle.personalise.specs.Inner.{personaliseWritten}
+use Rattle.personalise.specs.Read.{putObjects, emptyStoreBytes, storeOfObjects, readAllRecords, WrittenCardReadsBackAsObjects, CardReadsBackAsObjectsIfWritten}
+use Rattle.personalise.specs.Inner.{resultAllWritten}
 use Rattle.personalise.proofs.Clauses.{PersonaliseRules}
 use Rattle.personalise.proofs.Rules.{entries-follow, total-most}
 use Rattle.personalise.proofs.Exact.{Passes, passes, passed, kept-of}
@@ -41,8 +41,8 @@ use Rattle.personalise.proofs.ReadBack.{files-of, read-all}
 -- ---- the AFL
 
 -- an entry that keeps these rules keeps those of document 01
-keeps-also : (e : AflEntry) → validEntryAlone e ≡ true → validEntry e ≡ true
-unfolding validEntryAlone
+keeps-also : (e : AflEntry) → validEntrySfi1To10NoOfflineAuth e ≡ true → validEntry e ≡ true
+unfolding validEntrySfi1To10NoOfflineAuth
 keeps-also e k =
     let b = both-right _ _ k in
     let c = both-right _ _ b in
@@ -58,12 +58,12 @@ keeps-also e k =
       offline = omega arith;
     })
 
-all-keep : (es : List AflEntry) → every validEntryAlone es ≡ true → every validEntry es ≡ true
+all-keep : (es : List AflEntry) → every validEntrySfi1To10NoOfflineAuth es ≡ true → every validEntry es ≡ true
 unfolding every
 all-keep [] k = refl
 all-keep (e ∷ es) k = both-yes _ _ (keeps-also e (both-left _ _ k)) (all-keep es (both-right _ _ k))
 
-accepted : (es : List ℕ) → badEntry es ≡ Nothing → 1 ≤ aflRecordCount es → acceptsAfl es ≡ true
+accepted : (es : List ℕ) → firstBadEntry es ≡ Nothing → 1 ≤ aflRecordCount es → acceptsAfl es ≡ true
 unfolding acceptsAfl
 accepted es q s =
     let f = entries-follow es q in
@@ -81,10 +81,10 @@ module _ (p : CardPlan) (r l : List ℕ) (q : Passes p r l) (k : PersonaliseRule
   es = p .entries
 
   abbrev os : List Object
-  os = objectsOf p
+  os = objectsOfPlan p
 
   abbrev ps : List Placement
-  ps = placementsOf p
+  ps = placementsOfPlan p
 
   -- they read back to the store of the list
   read-back : readAllRecords emptyStoreBytes (aflRecords es) (cardRecords p) ≡ some (storeOfObjects os)
@@ -92,7 +92,7 @@ module _ (p : CardPlan) (r l : List ℕ) (q : Passes p r l) (k : PersonaliseRule
       let n = length (aflRecords es) in
       let e : n ≡ aflRecordCount es = records-length es in
       let a = arranged ps (aflRecordCount es) 1 os (k .once) (k .named) in
-      let b = subst (λ (m : ℕ). every settableInRecord (ordered ps 1 m 1 os) ≡ true) (sym e) (perm-every settableInRecord a (k .settable)) in
+      let b = subst (λ (m : ℕ). every tagAndValueAllowedInRecord (ordered ps 1 m 1 os) ≡ true) (sym e) (perm-every tagAndValueAllowedInRecord a (k .settable)) in
       let d = subst (λ (m : ℕ). tagsDistinct (ordered ps 1 m 1 os) ≡ true) (sym e) (perm-distinct a (k .distinct)) in
       let z : length emptyStoreBytes ≡ storeSize = length-replicate {A = ℕ} storeSize 0 in
       ap (λ (m : ℕ). readAllRecords emptyStoreBytes (aflRecords es) (cardRecordsFrom os ps 1 m)) (sym e)
@@ -100,12 +100,12 @@ module _ (p : CardPlan) (r l : List ℕ) (q : Passes p r l) (k : PersonaliseRule
       ∙ ap (λ (m : ℕ). some (putObjects emptyStoreBytes (ordered ps 1 m 1 os))) e
       ∙ ap some (perm-put emptyStoreBytes a (k .settable) (k .distinct) z)
 
-  written-holds : (z : WrittenSizes) → Written z ≡ personaliseWritten p → (x y : List ℕ) → x ≡ recordsAfter true p r → y ≡ aflAfter true es l → CardHolds p z x y
+  written-holds : (z : WrittenSizes) → Written z ≡ resultAllWritten p → (x y : List ℕ) → x ≡ recordsBufferAfter true p r → y ≡ aflBufferAfter true es l → WrittenCardReadsBackAsObjects p z x y
   written-holds z d x y e f =
-      let n : z .records ≡ length (recordBytes p) = cc in
+      let n : z .records ≡ length (allRecordsBytes p) = cc in
       let m : z .afl ≡ length es = cc in
       record {
-        stand = ap (λ (i : ℕ). take i x) n ∙ ap (take (length (recordBytes p))) (e ∙ if-yes _ _ refl) ∙ take-append-seam (recordBytes p) _;
+        stand = ap (λ (i : ℕ). take i x) n ∙ ap (take (length (allRecordsBytes p))) (e ∙ if-yes _ _ refl) ∙ take-append-seam (allRecordsBytes p) _;
         afl = ap (λ (i : ℕ). take i y) m ∙ ap (take (length es)) (f ∙ if-yes _ _ refl) ∙ take-append-seam es _;
         accepted = accepted es (q .entries) (k .someRecord);
         read = read-back;
@@ -113,8 +113,8 @@ module _ (p : CardPlan) (r l : List ℕ) (q : Passes p r l) (k : PersonaliseRule
 
 -- by the answer
 pub holds : (p : CardPlan) (r l : List ℕ) → ((i : ℕ) → getD (p .placements) i 0 < 256) → (a : PersonaliseResult) → a ≡ personaliseResult p r l → (x y : List ℕ)
-    → x ≡ recordsAfter (isWritten a) p r → y ≡ aflAfter (isWritten a) (p .entries) l → CardHoldsIfWritten p a x y
+    → x ≡ recordsBufferAfter (isWritten a) p r → y ≡ aflBufferAfter (isWritten a) (p .entries) l → CardReadsBackAsObjectsIfWritten p a x y
 holds p r l b a e x y f g z d =
     let w : isWritten a ≡ true = ap isWritten d in
     let q = passes p r l (ap isWritten (sym e) ∙ w) in
-    written-holds p r l q (kept-of p r l b q) z (sym d ∙ e ∙ passed p r l q) x y (f ∙ ap (λ (c : Bool). recordsAfter c p r) w) (g ∙ ap (λ (c : Bool). aflAfter c (p .entries) l) w)
+    written-holds p r l q (kept-of p r l b q) z (sym d ∙ e ∙ passed p r l q) x y (f ∙ ap (λ (c : Bool). recordsBufferAfter c p r) w) (g ∙ ap (λ (c : Bool). aflBufferAfter c (p .entries) l) w)

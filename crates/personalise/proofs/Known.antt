@@ -19,14 +19,14 @@ use Rattle.dictionary.proofs.Rule.{rows-proper, proper-row}
 use Rattle.dictionary.proofs.Find.{found}
 use Rattle.dictionary.proofs.Fit.{fits-length}
 use Rattle.store.proofs.Rows.{rows-length, row-inside}
-use Rattle.reading.specs.Taking.{allowedInResponse}
+use Rattle.reading.specs.Taking.{rowAllowsValueFromCard}
 use Rattle.reading.proofs.Laws.{may-come-fits}
-use Rattle.personalise.specs.Objects.{recordTemplate, rowSettableInRecord, settableInRecord}
+use Rattle.personalise.specs.Objects.{tagRecordTemplate, rowAllowsValueInRecord, tagAndValueAllowedInRecord}
 
 pub record Known (o : Object) : Type 0 where
   pub place : ℕ
   pub found : findRow dictionaryRows (o .tag) ≡ At place
-  pub comes : allowedInResponse inRecordResponse (rowAt place) recordTemplate (o .value) ≡ true
+  pub comes : rowAllowsValueFromCard inRecordResponse (rowAt place) tagRecordTemplate (o .value) ≡ true
   pub row : place < rowCount
   pub tag : wellFormedTag (o .tag) ≡ true
   pub primitive : isTemplate (o .tag) ≡ false
@@ -38,15 +38,15 @@ rows-primitive : every (λ r. not (isTemplate (r .tag))) dictionaryRows ≡ true
 unfolding dictionaryRows every both isTemplate tagFirstByte if
 rows-primitive = refl
 
-pub known : (o : Object) → settableInRecord o ≡ true → Known o
-unfolding settableInRecord
+pub known : (o : Object) → tagAndValueAllowedInRecord o ≡ true → Known o
+unfolding tagAndValueAllowedInRecord
 known o e = go (findRow dictionaryRows (o .tag)) refl e
   where
-    at-row : (k : ℕ) → findRow dictionaryRows (o .tag) ≡ At k → allowedInResponse inRecordResponse (rowAt k) recordTemplate (o .value) ≡ true → Known o
+    at-row : (k : ℕ) → findRow dictionaryRows (o .tag) ≡ At k → rowAllowsValueFromCard inRecordResponse (rowAt k) tagRecordTemplate (o .value) ≡ true → Known o
     at-row k q c =
         let f = found dictionaryRows (o .tag) k q in
         let r : k < rowCount = omega (arith, rows-length) in
-        let m = fits-length (rowAt k) (o .value) (may-come-fits inRecordResponse (rowAt k) recordTemplate (o .value) c) .1 in
+        let m = fits-length (rowAt k) (o .value) (may-come-fits inRecordResponse (rowAt k) tagRecordTemplate (o .value) c) .1 in
         record {
           place = k;
           found = q;
@@ -58,7 +58,7 @@ known o e = go (findRow dictionaryRows (o .tag)) refl e
           short = omega (arith, row-inside k r .1);
         }
 
-    go : (x : RowFound) → findRow dictionaryRows (o .tag) ≡ x → rowSettableInRecord x (o .value) ≡ true → Known o
+    go : (x : RowFound) → findRow dictionaryRows (o .tag) ≡ x → rowAllowsValueInRecord x (o .value) ≡ true → Known o
     go Unknown q c = let z : _≡_ {A = ℕ} 0 1 = cc in absurd (omega arith)
     go (At k) q c = at-row k q c
 

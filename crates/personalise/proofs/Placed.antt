@@ -11,8 +11,8 @@ use borrow.Author.Tests.{eq-eqb, ne-eqb, le-leb, lt-leb}
 use Rattle.basics.proofs.Laws.{if-yes, if-no, either-left, either-false, both-yes, both-true, both-no-left, both-no-right}
 use Rattle.tlv.proofs.Laws.{tail, tail-is}
 use Rattle.personalise.specs.declared.Placement.{Placement}
-use Rattle.personalise.specs.Placements.{placement, placementsIn, placementCount, anyPlacement}
-use Rattle.personalise.specs.Records.{placementStrays}
+use Rattle.personalise.specs.Placements.{placement, placementsIn, countPlacementsWhere, anyPlacement}
+use Rattle.personalise.specs.Records.{isOutOfRangePlacementInto}
 use Rattle.personalise.proofs.Clauses.{inLayout}
 
 split : (s : List ℕ) → (length s ≡ 0 → ⊥) → placementsIn s ≡ placement (getD s 0 0) (getD s 1 0) ∷ placementsIn (drop 2 s)
@@ -32,8 +32,8 @@ unfolding placementsIn anyPlacement
 any-end f [] z = refl
 any-end f (r ∷ s) z = absurd (omega arith)
 
-pub count-end : (f : Placement → Bool) (s : List ℕ) → length s ≡ 0 → placementCount f (placementsIn s) ≡ 0
-unfolding placementsIn placementCount
+pub count-end : (f : Placement → Bool) (s : List ℕ) → length s ≡ 0 → countPlacementsWhere f (placementsIn s) ≡ 0
+unfolding placementsIn countPlacementsWhere
 count-end f [] z = refl
 count-end f (r ∷ s) z = absurd (omega arith)
 
@@ -54,37 +54,37 @@ module _ (s : List ℕ) (h : length s ≡ 0 → ⊥) (p : Placement) (q : p ≡ 
     unfolding anyPlacement
     any-on e = ap (anyPlacement f) apart ∙ either-false _ e
 
-    pub count-yes : (m : ℕ) → f p ≡ true → m + placementCount f (placementsIn s) ≡ m + 1 + placementCount f (placementsIn (tail s n))
-    unfolding placementCount
-    count-yes m e = let d : placementCount f (placementsIn s) ≡ suc (placementCount f (placementsIn (tail s n))) = ap (placementCount f) apart ∙ if-yes _ _ e in omega arith
+    pub count-yes : (m : ℕ) → f p ≡ true → m + countPlacementsWhere f (placementsIn s) ≡ m + 1 + countPlacementsWhere f (placementsIn (tail s n))
+    unfolding countPlacementsWhere
+    count-yes m e = let d : countPlacementsWhere f (placementsIn s) ≡ suc (countPlacementsWhere f (placementsIn (tail s n))) = ap (countPlacementsWhere f) apart ∙ if-yes _ _ e in omega arith
 
-    pub count-no : (m : ℕ) → f p ≡ false → m + placementCount f (placementsIn s) ≡ m + placementCount f (placementsIn (tail s n))
-    unfolding placementCount
-    count-no m e = ap (λ (x : ℕ). m + x) (ap (placementCount f) apart ∙ if-no _ _ e)
+    pub count-no : (m : ℕ) → f p ≡ false → m + countPlacementsWhere f (placementsIn s) ≡ m + countPlacementsWhere f (placementsIn (tail s n))
+    unfolding countPlacementsWhere
+    count-no m e = ap (λ (x : ℕ). m + x) (ap (countPlacementsWhere f) apart ∙ if-no _ _ e)
 
 -- ---- one placement
 
 module _ (n m k : ℕ) (p : Placement) where
-  pub stray-other : (p .into ≡ k → ⊥) → placementStrays n m k p ≡ false
+  pub stray-other : (p .into ≡ k → ⊥) → isOutOfRangePlacementInto n m k p ≡ false
   stray-other e = both-no-left _ _ (ne-eqb _ _ e)
 
   module _ (e : p .into ≡ k) where
-    outside : inLayout n m p ≡ false → placementStrays n m k p ≡ true
+    outside : inLayout n m p ≡ false → isOutOfRangePlacementInto n m k p ≡ true
     outside f = both-true _ (eq-eqb _ _ e) ∙ ap not f
 
-    pub stray-zero : p .into ≡ 0 → placementStrays n m k p ≡ true
+    pub stray-zero : p .into ≡ 0 → isOutOfRangePlacementInto n m k p ≡ true
     stray-zero z = outside (both-no-left _ _ (both-no-left _ _ (lt-leb 1 (p .into) (omega arith))))
 
-    pub stray-past : n < p .into → placementStrays n m k p ≡ true
+    pub stray-past : n < p .into → isOutOfRangePlacementInto n m k p ≡ true
     stray-past h = outside (both-no-left _ _ (both-no-right _ _ (lt-leb (p .into) n h)))
 
-    pub stray-no-object : p .object ≡ 0 → placementStrays n m k p ≡ true
+    pub stray-no-object : p .object ≡ 0 → isOutOfRangePlacementInto n m k p ≡ true
     stray-no-object z = outside (both-no-right _ _ (both-no-left _ _ (lt-leb 1 (p .object) (omega arith))))
 
-    pub stray-object-past : m < p .object → placementStrays n m k p ≡ true
+    pub stray-object-past : m < p .object → isOutOfRangePlacementInto n m k p ≡ true
     stray-object-past h = outside (both-no-right _ _ (both-no-right _ _ (lt-leb (p .object) m h)))
 
-    pub stray-none : (p .into ≡ 0 → ⊥) → p .into ≤ n → (p .object ≡ 0 → ⊥) → p .object ≤ m → placementStrays n m k p ≡ false
+    pub stray-none : (p .into ≡ 0 → ⊥) → p .into ≤ n → (p .object ≡ 0 → ⊥) → p .object ≤ m → isOutOfRangePlacementInto n m k p ≡ false
     stray-none a b o d =
         both-true _ (eq-eqb _ _ e)
         ∙ ap not (both-yes _ _ (both-yes _ _ (le-leb 1 (p .into) (omega arith)) (le-leb _ _ b)) (both-yes _ _ (le-leb 1 (p .object) (omega arith)) (le-leb _ _ d)))

@@ -19,25 +19,25 @@ use Rattle.tlv.specs.Tag.{tagFirstByte, isTemplate, tagSize}
 use Rattle.tlv.specs.Object.{tlvHeader, headerOf, headerValue}
 use Rattle.tlv.specs.Tree.{Forest, end, leaf, objectCount, parseTree}
 use Rattle.tlv.specs.Primitives.{Object}
-use Rattle.tlv.specs.Encoding.{tagBytes, lengthBytes, objectBytes, encodeTree, wellFormedTag, Encodable}
+use Rattle.tlv.specs.Encoding.{tagBytes, lengthBytes, objectBytes, encodeTree, wellFormedTag, EncodableWithinLevels}
 use Rattle.tlv.specs.declared.ObjectFront.the-variants as front
 use Rattle.tlv.proofs.Encoding.{header-encoded, parse-encode}
 use Rattle.dictionary.specs.Rows.{dictionaryRows, findRow, storeSize, inRecordResponse}
-use Rattle.dictionary.specs.Named.{rowNumberOf}
-use Rattle.store.specs.Place.{isFree, putRow}
+use Rattle.dictionary.specs.Named.{rowNumberOfTagOrZero}
+use Rattle.store.specs.Place.{isRowAbsentOrEmpty, putRow}
 use Rattle.afl.specs.declared.AflEntry.{AflEntry}
 use Rattle.afl.specs.declared.CardRecord.{CardRecord}
 use Rattle.afl.specs.Entry.{entrySfi, entryRecordCount}
-use Rattle.afl.specs.Records.{consecutiveRecords, entryRecords, entriesRecords}
+use Rattle.afl.specs.Records.{consecutiveRecords, entryRecords, recordsOfEntries}
 use Rattle.reading.specs.declared.Awaited.{Awaited}
-use Rattle.reading.specs.Taking.{primitiveItem, primitiveItems, allowedInResponse, TakeState, takeState, takeItem, takeAll}
-use Rattle.reading.specs.Answer.{ReadingOutcome, readingOutcome, template, frontBody, responseBody, templateBody, storedIfAllowed, templateParts, readParts, readTree, readBody, isRead, isStatus9000, isResponseLength, readAnswer}
+use Rattle.reading.specs.Taking.{primitiveItem, primitiveItems, rowAllowsValueFromCard, StoringState, storingState, storeItem, storeAllItems}
+use Rattle.reading.specs.Answer.{ReadingOutcome, readingOutcome, template, bodyOfOneObject, parseResponseBody, templateBody, readingIfAllAllowed, templateBodyItems, readBodyItems, readParsedBody, readBody, isBodyToBeRead, isStatus9000, responseLengthIs2To258, readAnswer}
 use Rattle.reading.proofs.Laws.{item-put, next-good}
-use Rattle.personalise.specs.Objects.{recordTemplate, settableInRecord, lacksTag, tagsDistinct}
+use Rattle.personalise.specs.Objects.{tagRecordTemplate, tagAndValueAllowedInRecord, lacksTag, tagsDistinct}
 use Rattle.personalise.specs.declared.Placement.{Placement}
-use Rattle.personalise.specs.Placements.{objectsFrom}
-use Rattle.personalise.specs.Records.{contentBytes, recordContent, cardRecordsFrom as records, mostRecordContent}
-use Rattle.personalise.specs.Read.{putObjects, readOneRecord, readRemaining, readAllRecords}
+use Rattle.personalise.specs.Placements.{objectsInRecordFrom}
+use Rattle.personalise.specs.Records.{encodedObjects, recordContent, cardRecordsFrom as records, mostRecordContentBytes}
+use Rattle.personalise.specs.Read.{putObjects, readRecordWith9000, readOnIfAccepted, readAllRecords}
 use Rattle.personalise.proofs.Clauses.{sfiInRange}
 use Rattle.personalise.proofs.Known.{known}
 use Rattle.personalise.proofs.Forms.{tag-one, length-most}
@@ -52,12 +52,12 @@ leaves : List Object → Forest
 leaves [] = end
 leaves (o ∷ os) = leaf (o .tag) (o .value) (leaves os)
 
-encoded : (os : List Object) → encodeTree (leaves os) ≡ contentBytes os
-unfolding encodeTree contentBytes leaves
+encoded : (os : List Object) → encodeTree (leaves os) ≡ encodedObjects os
+unfolding encodeTree encodedObjects leaves
 encoded [] = refl
 encoded (o ∷ os) = ap (λ (s : List ℕ). objectBytes (o .tag) (o .value) ++ s) (encoded os)
 
-encodable : (os : List Object) → every settableInRecord os ≡ true → Encodable (leaves os) 3
+encodable : (os : List Object) → every tagAndValueAllowedInRecord os ≡ true → EncodableWithinLevels (leaves os) 3
 unfolding every leaves
 encodable [] e = tt
 encodable (o ∷ os) e = let k = known o (both-left _ _ e) in (k .tag, k .primitive, omega (arith, k .short), encodable os (both-right _ _ e))
@@ -65,75 +65,75 @@ encodable (o ∷ os) e = let k = known o (both-left _ _ e) in (k .tag, k .primit
 -- ---- taking the objects
 
 -- an object that may come and whose row is free is put
-take-one : (b : List ℕ) (o : Object) → settableInRecord o ≡ true → isFree dictionaryRows b (rowNumberOf (o .tag)) ≡ true
-    → takeItem inRecordResponse b (primitiveItem recordTemplate (o .tag) (o .value)) ≡ takeState true (put b o)
-unfolding allowedInResponse
+take-one : (b : List ℕ) (o : Object) → tagAndValueAllowedInRecord o ≡ true → isRowAbsentOrEmpty dictionaryRows b (rowNumberOfTagOrZero (o .tag)) ≡ true
+    → storeItem inRecordResponse b (primitiveItem tagRecordTemplate (o .tag) (o .value)) ≡ storingState true (put b o)
+unfolding rowAllowsValueFromCard
 take-one b o s f =
     let k = known o s in
     let e = known-place o k in
-    item-put inRecordResponse b (primitiveItem recordTemplate (o .tag) (o .value)) (findRow dictionaryRows (o .tag)) refl (k .place) (k .found)
-    (both-no-right _ _ (ap not (both-left _ _ (k .comes)))) (k .comes) (sym (ap (isFree dictionaryRows b) e) ∙ f)
-    ∙ ap (λ (i : ℕ). takeState true (putRow dictionaryRows b i (o .value))) (sym e)
+    item-put inRecordResponse b (primitiveItem tagRecordTemplate (o .tag) (o .value)) (findRow dictionaryRows (o .tag)) refl (k .place) (k .found)
+    (both-no-right _ _ (ap not (both-left _ _ (k .comes)))) (k .comes) (sym (ap (isRowAbsentOrEmpty dictionaryRows b) e) ∙ f)
+    ∙ ap (λ (i : ℕ). storingState true (putRow dictionaryRows b i (o .value))) (sym e)
 
-take-leaves : (b : List ℕ) (os : List Object) → every settableInRecord os ≡ true → tagsDistinct os ≡ true → length b ≡ storeSize → FreeIn b os
-    → takeAll inRecordResponse (takeState true b) (primitiveItems recordTemplate (leaves os)) ≡ takeState true (putObjects b os)
-unfolding primitiveItems takeAll putObjects every tagsDistinct leaves
+take-leaves : (b : List ℕ) (os : List Object) → every tagAndValueAllowedInRecord os ≡ true → tagsDistinct os ≡ true → length b ≡ storeSize → FreeIn b os
+    → storeAllItems inRecordResponse (storingState true b) (primitiveItems tagRecordTemplate (leaves os)) ≡ storingState true (putObjects b os)
+unfolding primitiveItems storeAllItems putObjects every tagsDistinct leaves
 take-leaves b [] e d l f = refl
 take-leaves b (o ∷ os) e d l f =
-    ap (λ (w : TakeState). takeAll inRecordResponse w (primitiveItems recordTemplate (leaves os))) (next-good inRecordResponse b (primitiveItem recordTemplate (o .tag) (o .value)) refl ∙ take-one b o (both-left _ _ e) (f .0))
+    ap (λ (w : StoringState). storeAllItems inRecordResponse w (primitiveItems tagRecordTemplate (leaves os))) (next-good inRecordResponse b (primitiveItem tagRecordTemplate (o .tag) (o .value)) refl ∙ take-one b o (both-left _ _ e) (f .0))
     ∙ take-leaves (put b o) os (both-right _ _ e) (both-right _ _ d) (put-size b o (both-left _ _ e) l)
     (free-put b o os (both-left _ _ e) (both-right _ _ e) (both-left _ _ d) l (f .1))
 
 -- ---- a record's answer
 
-template-tag : wellFormedTag recordTemplate ≡ true
+template-tag : wellFormedTag tagRecordTemplate ≡ true
 unfolding wellFormedTag tagBytes tagSize if both
 template-tag = refl
 
-template-is : isTemplate recordTemplate ≡ true
+template-is : isTemplate tagRecordTemplate ≡ true
 unfolding isTemplate tagFirstByte if
 template-is = refl
 
-module _ (os : List Object) (e : every settableInRecord os ≡ true) (h : length (contentBytes os) ≤ mostRecordContent) where
+module _ (os : List Object) (e : every tagAndValueAllowedInRecord os ≡ true) (h : length (encodedObjects os) ≤ mostRecordContentBytes) where
   abbrev inner : List ℕ
-  inner = contentBytes os
+  inner = encodedObjects os
 
   abbrev whole : List ℕ
-  whole = objectBytes recordTemplate inner
+  whole = objectBytes tagRecordTemplate inner
 
   abbrev from : ℕ
-  from = length (tagBytes recordTemplate) + length (lengthBytes (length inner))
+  from = length (tagBytes tagRecordTemplate) + length (lengthBytes (length inner))
 
-  head : headerOf whole ≡ front.Object (tlvHeader recordTemplate from (length inner))
-  head = ap headerOf (sym (append-nil whole)) ∙ header-encoded recordTemplate inner [] template-tag
+  head : headerOf whole ≡ front.Object (tlvHeader tagRecordTemplate from (length inner))
+  head = ap headerOf (sym (append-nil whole)) ∙ header-encoded tagRecordTemplate inner [] template-tag
 
-  value : headerValue whole (tlvHeader recordTemplate from (length inner)) ≡ inner
+  value : headerValue whole (tlvHeader tagRecordTemplate from (length inner)) ≡ inner
   value =
-      ap (take (length inner)) (drop-append-add (tagBytes recordTemplate) (lengthBytes (length inner) ++ inner) (length (lengthBytes (length inner)))
+      ap (take (length inner)) (drop-append-add (tagBytes tagRecordTemplate) (lengthBytes (length inner) ++ inner) (length (lengthBytes (length inner)))
       ∙ drop-append-seam (lengthBytes (length inner)) inner) ∙ take-length inner
 
-  body : responseBody whole ≡ some (template recordTemplate (leaves os))
-  unfolding responseBody
+  body : parseResponseBody whole ≡ some (template tagRecordTemplate (leaves os))
+  unfolding parseResponseBody
   body =
-      ap (frontBody whole) head
-      ∙ if-yes _ _ (eq-eqb (from + length inner) (length whole) (omega (arith, object-length recordTemplate inner)))
+      ap (bodyOfOneObject whole) head
+      ∙ if-yes _ _ (eq-eqb (from + length inner) (length whole) (omega (arith, object-length tagRecordTemplate inner)))
       ∙ if-yes _ _ template-is
-      ∙ ap (templateBody recordTemplate) (ap (parseTree 3) (value ∙ sym (encoded os)) ∙ parse-encode (leaves os) 3 (encodable os e))
+      ∙ ap (templateBody tagRecordTemplate) (ap (parseTree 3) (value ∙ sym (encoded os)) ∙ parse-encode (leaves os) 3 (encodable os e))
 
   -- at most 256 bytes
   whole-most : length whole ≤ 256
-  whole-most = omega (arith, object-length recordTemplate inner, ap length (tag-one recordTemplate (omega arith)), length-most (length inner) (omega arith))
+  whole-most = omega (arith, object-length tagRecordTemplate inner, ap length (tag-one tagRecordTemplate (omega arith)), length-most (length inner) (omega arith))
 
   module _ (b : List ℕ) (d : tagsDistinct os ≡ true) (l : length b ≡ storeSize) (f : FreeIn b os) (r : CardRecord) (sfi : r .sfi ≤ 10) where
     abbrev awaited : Awaited
     awaited = Awaited.Record (record { number = r .sfi })
 
     read-body : readBody awaited b whole ≡ readingOutcome reasonNone (1 + objectCount (leaves os)) (putObjects b os)
-    unfolding readBody templateParts
+    unfolding readBody templateBodyItems
     read-body =
-        ap (readTree awaited b) body
-        ∙ ap (readParts awaited b (1 + objectCount (leaves os))) (if-yes (some (primitiveItems recordTemplate (leaves os))) none refl)
-        ∙ ap (storedIfAllowed b (1 + objectCount (leaves os))) (take-leaves b os e d l f) ∙ if-yes _ _ refl
+        ap (readParsedBody awaited b) body
+        ∙ ap (readBodyItems awaited b (1 + objectCount (leaves os))) (if-yes (some (primitiveItems tagRecordTemplate (leaves os))) none refl)
+        ∙ ap (readingIfAllAllowed b (1 + objectCount (leaves os))) (take-leaves b os e d l f) ∙ if-yes _ _ refl
 
     abbrev answer : List ℕ
     answer = whole ++ (0x90 ∷ 0x00 ∷ [])
@@ -141,8 +141,8 @@ module _ (os : List Object) (e : every settableInRecord os ≡ true) (h : length
     size : length answer ≡ length whole + 2
     size = length-append whole (0x90 ∷ 0x00 ∷ [])
 
-    good-length : isResponseLength answer ≡ true
-    unfolding isResponseLength
+    good-length : responseLengthIs2To258 answer ≡ true
+    unfolding responseLengthIs2To258
     good-length = both-yes _ _ (le-leb 2 (length answer) (omega (arith, size))) (le-leb (length answer) 258 (omega (arith, size, whole-most)))
 
     good-status : isStatus9000 answer ≡ true
@@ -153,8 +153,8 @@ module _ (os : List Object) (e : every settableInRecord os ≡ true) (h : length
         both-yes _ _ (ap (λ (i : ℕ). eqb (getD answer i 0) 0x90) x ∙ ap (λ (i : ℕ). eqb i 0x90) (getD-append-add whole (0x90 ∷ 0x00 ∷ []) 0 0))
         (ap (λ (i : ℕ). eqb (getD answer i 0) 0) y ∙ ap (λ (i : ℕ). eqb i 0) (getD-append-add whole (0x90 ∷ 0x00 ∷ []) 1 0))
 
-    read-one : readOneRecord b r whole ≡ readingOutcome reasonNone (1 + objectCount (leaves os)) (putObjects b os)
-    unfolding readAnswer isRead
+    read-one : readRecordWith9000 b r whole ≡ readingOutcome reasonNone (1 + objectCount (leaves os)) (putObjects b os)
+    unfolding readAnswer isBodyToBeRead
     read-one =
         let x : length whole ≡ length answer - 2 = omega (arith, size) in
         if-yes _ _ good-length ∙ if-yes _ _ good-status ∙ if-yes _ _ (le-leb (r .sfi) 10 sfi)
@@ -201,27 +201,27 @@ unfolding consecutiveRecords every
 files-from g n zero h = refl
 files-from g n (suc k) h = both-yes _ _ (le-leb g 10 h) (files-from g (n + 1) k h)
 
-pub files-of : (es : List AflEntry) → every sfiInRange es ≡ true → every read-sfi (entriesRecords es) ≡ true
-unfolding entriesRecords every
+pub files-of : (es : List AflEntry) → every sfiInRange es ≡ true → every read-sfi (recordsOfEntries es) ≡ true
+unfolding recordsOfEntries every
 files-of [] e = refl
 files-of (x ∷ es) e =
-    every-join read-sfi (entryRecords x) (entriesRecords es) (files-from (entrySfi x) (x .first) (entryRecordCount x) (leb-true (entrySfi x) 10 (both-right _ _ (both-left _ _ e))))
+    every-join read-sfi (entryRecords x) (recordsOfEntries es) (files-from (entrySfi x) (x .first) (entryRecordCount x) (leb-true (entrySfi x) 10 (both-right _ _ (both-left _ _ e))))
     (files-of es (both-right _ _ e))
 
 pub read-all : (os : List Object) (ps : List Placement) (rs : List CardRecord) (k : ℕ) (b : List ℕ)
     → every read-sfi rs ≡ true
-    → ((i : ℕ) → k ≤ i → i < k + length rs → length (recordContent os ps i) ≤ mostRecordContent)
-    → every settableInRecord (ordered ps k (length rs) 1 os) ≡ true → tagsDistinct (ordered ps k (length rs) 1 os) ≡ true
+    → ((i : ℕ) → k ≤ i → i < k + length rs → length (recordContent os ps i) ≤ mostRecordContentBytes)
+    → every tagAndValueAllowedInRecord (ordered ps k (length rs) 1 os) ≡ true → tagsDistinct (ordered ps k (length rs) 1 os) ≡ true
     → length b ≡ storeSize → FreeIn b (ordered ps k (length rs) 1 os)
     → readAllRecords b rs (records os ps k (length rs)) ≡ some (putObjects b (ordered ps k (length rs) 1 os))
 unfolding readAllRecords records ordered every putObjects
 read-all os ps [] k b g h e d l f = refl
 read-all os ps (r ∷ rs) k b g h e d l f =
-    let x = objectsFrom ps k 1 os in
+    let x = objectsInRecordFrom ps k 1 os in
     let y = ordered ps (suc k) (length rs) 1 os in
     let z = free-behind b x y e d l f in
-    let q = read-one x (every-first settableInRecord x y e) (h k (omega arith) (omega arith)) b (distinct-first x y d) l (free-first b x y f) r (leb-true (r .sfi) 10 (both-left _ _ g)) in
-    ap (λ (o : ReadingOutcome). readRemaining o (λ c. readAllRecords c rs (records os ps (suc k) (length rs)))) q
+    let q = read-one x (every-first tagAndValueAllowedInRecord x y e) (h k (omega arith) (omega arith)) b (distinct-first x y d) l (free-first b x y f) r (leb-true (r .sfi) 10 (both-left _ _ g)) in
+    ap (λ (o : ReadingOutcome). readOnIfAccepted o (λ c. readAllRecords c rs (records os ps (suc k) (length rs)))) q
     ∙ if-yes _ _ refl
-    ∙ read-all os ps rs (suc k) (putObjects b x) (both-right _ _ g) (λ i m n. h i (omega arith) (omega arith)) (every-second settableInRecord x y e) (distinct-second x y d) (z .0) (z .1)
+    ∙ read-all os ps rs (suc k) (putObjects b x) (both-right _ _ g) (λ i m n. h i (omega arith) (omega arith)) (every-second tagAndValueAllowedInRecord x y e) (distinct-second x y d) (z .0) (z .1)
     ∙ ap some (sym (put-join b x y))

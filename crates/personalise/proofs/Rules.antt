@@ -15,11 +15,11 @@ use Rattle.basics.specs.Choice.{both, every}
 use Rattle.basics.proofs.Laws.{if-yes, if-no, bool-cases, both-yes, both-left, both-right, both-assoc}
 use Rattle.afl.specs.declared.AflEntry.{AflEntry}
 use Rattle.afl.specs.Entry.{entryRecordCount}
-use Rattle.afl.specs.Records.{aflEntries, wholeEntries, sumOverEntries, aflRecordCount}
+use Rattle.afl.specs.Records.{aflEntries, aflLengthIsMultipleOf4, sumOverEntries, aflRecordCount}
 use Rattle.afl.proofs.Records.{whole-length}
-use Rattle.personalise.specs.declared.Fault.{Fault}
-use Rattle.personalise.specs.declared.Fault.the-variants.{At, Nothing}
-use Rattle.personalise.specs.Entries.{mostEntries, mostRecords, entriesOverlap, apartFrom, validEntryAlone, validEntryAfter, badFrom, badEntry}
+use Rattle.personalise.specs.declared.FirstBadItemNumber.{FirstBadItemNumber}
+use Rattle.personalise.specs.declared.FirstBadItemNumber.the-variants.{At, Nothing}
+use Rattle.personalise.specs.Entries.{mostAflEntries, mostCardRecords, entriesOverlap, overlapsNoneBefore, validEntrySfi1To10NoOfflineAuth, validEntryAfterWithinCountLimits, firstBadOrTruncatedEntryAfter, firstBadEntry}
 use Rattle.personalise.proofs.Proposed.{entries-count}
 
 -- no two entries name a record both
@@ -58,11 +58,11 @@ every-same f g h (x ∷ l) = ap₂ both (h x) (every-same f g h l)
 -- ---- one more entry before the others
 
 module _ (before : List AflEntry) (e : AflEntry) where
-  apart-more : (es : List AflEntry) → every (apartFrom (before ++ (e ∷ []))) es ≡ both (every (apartFrom before) es) (every (λ f. not (entriesOverlap e f)) es)
-  unfolding apartFrom
+  apart-more : (es : List AflEntry) → every (overlapsNoneBefore (before ++ (e ∷ []))) es ≡ both (every (overlapsNoneBefore before) es) (every (λ f. not (entriesOverlap e f)) es)
+  unfolding overlapsNoneBefore
   apart-more es =
       every-same _ _ (λ f. every-snoc (λ d. not (entriesOverlap d f)) before e) es
-      ∙ every-split (apartFrom before) (λ f. not (entriesOverlap e f)) es
+      ∙ every-split (overlapsNoneBefore before) (λ f. not (entriesOverlap e f)) es
 
   length-more : length (before ++ (e ∷ [])) ≡ length before + 1
   length-more = length-append before (e ∷ [])
@@ -81,42 +81,42 @@ sum-more before e = sum-join entryRecordCount before (e ∷ []) ∙ rw add-zero
 pub record Follows (before es : List AflEntry) (w : Bool) : Type 0 where
   pub whole : w ≡ true
   pub some : 1 ≤ length before + length es
-  pub few : length before + length es ≤ mostEntries
-  pub alone : every validEntryAlone es ≡ true
-  pub behind : every (apartFrom before) es ≡ true
+  pub few : length before + length es ≤ mostAflEntries
+  pub alone : every validEntrySfi1To10NoOfflineAuth es ≡ true
+  pub behind : every (overlapsNoneBefore before) es ≡ true
   pub apart : allApart es ≡ true
-  pub room : sumOverEntries entryRecordCount before + sumOverEntries entryRecordCount es ≤ mostRecords
+  pub room : sumOverEntries entryRecordCount before + sumOverEntries entryRecordCount es ≤ mostCardRecords
 
 -- what an entry that satisfies the rules after those before it keeps
 pub record EntryKept (before : List AflEntry) (e : AflEntry) : Type 0 where
-  pub few : length before < mostEntries
-  pub alone : validEntryAlone e ≡ true
-  pub apart : apartFrom before e ≡ true
-  pub room : sumOverEntries entryRecordCount before + entryRecordCount e ≤ mostRecords
+  pub few : length before < mostAflEntries
+  pub alone : validEntrySfi1To10NoOfflineAuth e ≡ true
+  pub apart : overlapsNoneBefore before e ≡ true
+  pub room : sumOverEntries entryRecordCount before + entryRecordCount e ≤ mostCardRecords
 
-keeps-kept : (before : List AflEntry) (e : AflEntry) → validEntryAfter before e ≡ true → EntryKept before e
-unfolding validEntryAfter
+keeps-kept : (before : List AflEntry) (e : AflEntry) → validEntryAfterWithinCountLimits before e ≡ true → EntryKept before e
+unfolding validEntryAfterWithinCountLimits
 keeps-kept before e k =
     let b = both-right _ _ k in
     let c = both-right _ _ b in
     record { few = ltb-true _ _ (both-left _ _ k); alone = both-left _ _ b; apart = both-left _ _ c; room = leb-true _ _ (both-right _ _ c) }
 
-kept-behind : (before : List AflEntry) (e : AflEntry) → EntryKept before e → validEntryAfter before e ≡ true
-unfolding validEntryAfter
+kept-behind : (before : List AflEntry) (e : AflEntry) → EntryKept before e → validEntryAfterWithinCountLimits before e ≡ true
+unfolding validEntryAfterWithinCountLimits
 kept-behind before e k = both-yes _ _ (lt-ltb _ _ (k .few)) (both-yes _ _ (k .alone) (both-yes _ _ (k .apart) (le-leb _ _ (k .room))))
 
-not-nothing : {A : Type 0} {x : Fault} {i : ℕ} → x ≡ At i → x ≡ Nothing → A
+not-nothing : {A : Type 0} {x : FirstBadItemNumber} {i : ℕ} → x ≡ At i → x ≡ Nothing → A
 not-nothing p q = let z : _≡_ {A = ℕ} 0 1 = cc in absurd (omega arith)
 
-pub follows : (es before : List AflEntry) (w : Bool) → length before ≤ mostEntries → sumOverEntries entryRecordCount before ≤ mostRecords
-    → badFrom before es w ≡ Nothing → Follows before es w
-unfolding badFrom every allApart sumOverEntries
+pub follows : (es before : List AflEntry) (w : Bool) → length before ≤ mostAflEntries → sumOverEntries entryRecordCount before ≤ mostCardRecords
+    → firstBadOrTruncatedEntryAfter before es w ≡ Nothing → Follows before es w
+unfolding firstBadOrTruncatedEntryAfter every allApart sumOverEntries
 follows [] before w l r q = elim (bool-cases (both w (ltb 0 (length before)))) [
   | inl y ↦ (let n : 0 < length before = ltb-true _ _ (both-right _ _ y) in
       record { whole = both-left _ _ y; some = omega arith; few = omega arith; alone = refl; behind = refl; apart = refl; room = omega arith })
   | inr n ↦ not-nothing (if-no Nothing (At (length before + 1)) n) q
 ]
-follows (e ∷ es) before w l r q = elim (bool-cases (validEntryAfter before e)) [
+follows (e ∷ es) before w l r q = elim (bool-cases (validEntryAfterWithinCountLimits before e)) [
   | inl y ↦ (
     let k = keeps-kept before e y in
     let n = length-more before e in
@@ -136,8 +136,8 @@ follows (e ∷ es) before w l r q = elim (bool-cases (validEntryAfter before e))
   | inr n ↦ not-nothing (if-no _ (At (length before + 1)) n) q
 ]
 
-pub follows-back : (es before : List AflEntry) (w : Bool) → Follows before es w → badFrom before es w ≡ Nothing
-unfolding badFrom every allApart sumOverEntries
+pub follows-back : (es before : List AflEntry) (w : Bool) → Follows before es w → firstBadOrTruncatedEntryAfter before es w ≡ Nothing
+unfolding firstBadOrTruncatedEntryAfter every allApart sumOverEntries
 follows-back [] before w f = if-yes _ _ (both-yes _ _ (f .whole) (lt-ltb 0 (length before) (omega (arith, f .some))))
 follows-back (e ∷ es) before w f =
     let n = length-more before e in
@@ -156,13 +156,13 @@ follows-back (e ∷ es) before w f =
     })
 
 -- the number of a bad entry is at most 63
-pub number-most : (es before : List AflEntry) (w : Bool) (i : ℕ) → length before ≤ mostEntries → badFrom before es w ≡ At i → i ≤ 63
-unfolding badFrom
+pub number-most : (es before : List AflEntry) (w : Bool) (i : ℕ) → length before ≤ mostAflEntries → firstBadOrTruncatedEntryAfter before es w ≡ At i → i ≤ 63
+unfolding firstBadOrTruncatedEntryAfter
 number-most [] before w i l q = elim (bool-cases (both w (ltb 0 (length before)))) [
   | inl y ↦ not-nothing q (if-yes Nothing (At (length before + 1)) y)
   | inr n ↦ (let e : At (length before + 1) ≡ At i = sym (if-no Nothing (At (length before + 1)) n) ∙ q in let z : length before + 1 ≡ i = cc in omega arith)
 ]
-number-most (e ∷ es) before w i l q = elim (bool-cases (validEntryAfter before e)) [
+number-most (e ∷ es) before w i l q = elim (bool-cases (validEntryAfterWithinCountLimits before e)) [
   | inl y ↦ (let k = keeps-kept before e y in let n = length-more before e in
       number-most es (before ++ (e ∷ [])) w i (omega (arith, k .few)) (sym (if-yes _ _ y) ∙ q))
   | inr n ↦ (let e : At (length before + 1) ≡ At i = sym (if-no _ (At (length before + 1)) n) ∙ q in let z : length before + 1 ≡ i = cc in omega arith)
@@ -170,10 +170,10 @@ number-most (e ∷ es) before w i l q = elim (bool-cases (validEntryAfter before
 
 -- ---- a whole AFL
 
-module _ (es : List ℕ) (q : badEntry es ≡ Nothing) where
-  pub entries-follow : Follows [] (aflEntries es) (wholeEntries es)
-  unfolding badEntry sumOverEntries
-  entries-follow = follows (aflEntries es) [] (wholeEntries es) (omega arith) (omega arith) q
+module _ (es : List ℕ) (q : firstBadEntry es ≡ Nothing) where
+  pub entries-follow : Follows [] (aflEntries es) (aflLengthIsMultipleOf4 es)
+  unfolding firstBadEntry sumOverEntries
+  entries-follow = follows (aflEntries es) [] (aflLengthIsMultipleOf4 es) (omega arith) (omega arith) q
 
   -- at most 248 bytes, and at most 128 records
   pub afl-most : length es ≤ 248
@@ -182,10 +182,10 @@ module _ (es : List ℕ) (q : badEntry es ≡ Nothing) where
       let w = whole-length es (f .whole) in
       omega (arith, entries-count es w, f .few)
 
-  pub total-most : aflRecordCount es ≤ mostRecords
+  pub total-most : aflRecordCount es ≤ mostCardRecords
   unfolding sumOverEntries
   total-most = omega (arith, entries-follow .room)
 
-pub entry-number : (es : List ℕ) (i : ℕ) → badEntry es ≡ At i → i ≤ 63
-unfolding badEntry
-entry-number es i q = number-most (aflEntries es) [] (wholeEntries es) i (omega arith) q
+pub entry-number : (es : List ℕ) (i : ℕ) → firstBadEntry es ≡ At i → i ≤ 63
+unfolding firstBadEntry
+entry-number es i q = number-most (aflEntries es) [] (aflLengthIsMultipleOf4 es) i (omega arith) q

@@ -14,7 +14,7 @@ use Rattle.basics.proofs.Order.{le-or-gt, equal-or-not}
 use Rattle.afl.specs.declared.AflEntry.{AflEntry}
 use Rattle.afl.specs.declared.CardRecord.{CardRecord}
 use Rattle.afl.specs.Entry.{entrySfi, entryRecordCount}
-use Rattle.afl.specs.Records.{consecutiveRecords, entryRecords, entriesRecords}
+use Rattle.afl.specs.Records.{consecutiveRecords, entryRecords, recordsOfEntries}
 use Rattle.personalise.specs.Entries.{entriesOverlap}
 use Rattle.personalise.proofs.Clauses.{recordsInOrder, sameRecord, lacksRecord, noRecordTwice}
 use Rattle.personalise.proofs.Rules.{allApart, every-split, every-same}
@@ -150,20 +150,20 @@ unfolding every
 order-of e es k = (leb-true _ _ (both-left _ _ k), both-right _ _ k)
 
 lack-all : (e : AflEntry) (es : List AflEntry) → e .first ≤ e .last → every recordsInOrder es ≡ true
-    → every (λ r. lacksRecord r (entriesRecords es)) (entryRecords e) ≡ every (λ f. not (entriesOverlap e f)) es
-unfolding entriesRecords every lacksRecord both-lack both
+    → every (λ r. lacksRecord r (recordsOfEntries es)) (entryRecords e) ≡ every (λ f. not (entriesOverlap e f)) es
+unfolding recordsOfEntries every lacksRecord both-lack both
 lack-all e [] p k = every-true (λ r. true) (λ r. refl) (entryRecords e)
 lack-all e (f ∷ es) p k =
     let o = order-of f es k in
-    every-same _ _ (λ r. every-append (λ s. not (sameRecord r s)) (entryRecords f) (entriesRecords es)) (entryRecords e)
-    ∙ every-split (λ r. lacksRecord r (entryRecords f)) (λ r. lacksRecord r (entriesRecords es)) (entryRecords e)
+    every-same _ _ (λ r. every-append (λ s. not (sameRecord r s)) (entryRecords f) (recordsOfEntries es)) (entryRecords e)
+    ∙ every-split (λ r. lacksRecord r (entryRecords f)) (λ r. lacksRecord r (recordsOfEntries es)) (entryRecords e)
     ∙ ap₂ both (lack-is e f p (o .0)) (lack-all e es p (o .1))
 
-pub twice-is : (es : List AflEntry) → every recordsInOrder es ≡ true → noRecordTwice (entriesRecords es) ≡ allApart es
-unfolding entriesRecords allApart noRecordTwice
+pub twice-is : (es : List AflEntry) → every recordsInOrder es ≡ true → noRecordTwice (recordsOfEntries es) ≡ allApart es
+unfolding recordsOfEntries allApart noRecordTwice
 twice-is [] k = refl
 twice-is (e ∷ es) k =
     let o = order-of e es k in
-    twice-join (entryRecords e) (entriesRecords es)
+    twice-join (entryRecords e) (recordsOfEntries es)
     ∙ both-true _ (run-once (entrySfi e) (e .first) (entryRecordCount e))
     ∙ ap₂ both (lack-all e es (o .0) (o .1)) (twice-is es (o .1))

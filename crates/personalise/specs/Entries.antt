@@ -10,22 +10,22 @@ use Rattle.basics.specs.Choice.{if_then_else_, _and_, _≤?_, _<?_, _=?_, every
 use Rattle.basics.specs.Number.{between}
 use Rattle.afl.specs.declared.AflEntry.{AflEntry}
 use Rattle.afl.specs.Entry.{entrySfi, entryRecordCount}
-use Rattle.afl.specs.Records.{aflEntries, wholeEntries, sumOverEntries}
-use Rattle.personalise.specs.declared.Fault.{Fault}
-use Rattle.personalise.specs.declared.Fault.the-variants.{At, Nothing}
+use Rattle.afl.specs.Records.{aflEntries, aflLengthIsMultipleOf4, sumOverEntries}
+use Rattle.personalise.specs.declared.FirstBadItemNumber.{FirstBadItemNumber}
+use Rattle.personalise.specs.declared.FirstBadItemNumber.the-variants.{At, Nothing}
 
 -- the most entries, and the most records
-abbrev pub mostEntries : Count
-mostEntries = 62
+abbrev pub mostAflEntries : Count
+mostAflEntries = 62
 
-abbrev pub mostRecords : Count
-mostRecords = 128
+abbrev pub mostCardRecords : Count
+mostCardRecords = 128
 
 -- ---- one entry
 
 -- by itself: no low bit in byte 1, a file number from 1 to 10, records numbered from 1 on, in order, and byte 4 zero
-unfoldable pub validEntryAlone : AflEntry → Bool
-validEntryAlone e =
+unfoldable pub validEntrySfi1To10NoOfflineAuth : AflEntry → Bool
+validEntrySfi1To10NoOfflineAuth e =
     e .lead % 8 =? 0
     and between 1 (entrySfi e) 10
     and 1 ≤? e .first
@@ -37,30 +37,30 @@ abbrev pub entriesOverlap : AflEntry → AflEntry → Bool
 entriesOverlap e f = entrySfi e =? entrySfi f and e .first ≤? f .last and f .first ≤? e .last
 
 -- an entry names no record that one of the entries before it names
-unfoldable pub apartFrom : List AflEntry → AflEntry → Bool
-apartFrom before e = every (λ f. not (entriesOverlap f e)) before
+unfoldable pub overlapsNoneBefore : List AflEntry → AflEntry → Bool
+overlapsNoneBefore before e = every (λ f. not (entriesOverlap f e)) before
 
 -- after those before it: one of 62 at most, valid by itself, no record named twice, 128 records at most
-unfoldable pub validEntryAfter : List AflEntry → AflEntry → Bool
-validEntryAfter before e =
-    length before <? mostEntries
-    and validEntryAlone e
-    and apartFrom before e
-    and sumOverEntries entryRecordCount before + entryRecordCount e ≤? mostRecords
+unfoldable pub validEntryAfterWithinCountLimits : List AflEntry → AflEntry → Bool
+validEntryAfterWithinCountLimits before e =
+    length before <? mostAflEntries
+    and validEntrySfi1To10NoOfflineAuth e
+    and overlapsNoneBefore before e
+    and sumOverEntries entryRecordCount before + entryRecordCount e ≤? mostCardRecords
 
 -- ---- the first bad entry, by its number from 1
 
 -- the first bad one of some entries, after those before; at their end one that is truncated is bad (`whole` says that
 -- there is none), and so is the first where there is no entry
-unfoldable pub badFrom : List AflEntry → List AflEntry → Bool → Fault
-badFrom before [] whole = if whole and 0 <? length before then Nothing else At (length before + 1)
-badFrom before (e ∷ es) whole =
-    if validEntryAfter before e then badFrom (before ++ (e ∷ [])) es whole
+unfoldable pub firstBadOrTruncatedEntryAfter : List AflEntry → List AflEntry → Bool → FirstBadItemNumber
+firstBadOrTruncatedEntryAfter before [] whole = if whole and 0 <? length before then Nothing else At (length before + 1)
+firstBadOrTruncatedEntryAfter before (e ∷ es) whole =
+    if validEntryAfterWithinCountLimits before e then firstBadOrTruncatedEntryAfter (before ++ (e ∷ [])) es whole
     else At (length before + 1)
 
 -- the first bad entry of an AFL
-unfoldable pub badEntry : AflBytes → Fault
-badEntry s = badFrom [] (aflEntries s) (wholeEntries s)
+unfoldable pub firstBadEntry : AflBytes → FirstBadItemNumber
+firstBadEntry s = firstBadOrTruncatedEntryAfter [] (aflEntries s) (aflLengthIsMultipleOf4 s)
 
 -- ---- what holds of it, proved in proofs/ (Rules, Twice) for all entries
 --   follows, follows-back    no entry is bad exactly where each satisfies the rules by itself, no two meet, there are 1

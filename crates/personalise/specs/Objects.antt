@@ -9,29 +9,29 @@ use Rattle.basics.specs.Choice.{_and_, _=?_, every}
 use Rattle.tlv.specs.Primitives.{Object, primitiveObjects}
 use Rattle.dictionary.specs.declared.RowFound.{RowFound}
 use Rattle.dictionary.specs.Rows.{dictionaryRows, rowAt, findRow, inRecordResponse}
-use Rattle.reading.specs.Taking.{allowedInResponse}
+use Rattle.reading.specs.Taking.{rowAllowsValueFromCard}
 
 -- the template of a record
-abbrev pub recordTemplate : Tag
-recordTemplate = 0x70
+abbrev pub tagRecordTemplate : Tag
+tagRecordTemplate = 0x70
 
 -- the objects of a list, none where the bytes are no list
-abbrev pub objectsOrNone : Option (List Object) → List Object
-objectsOrNone none = []
-objectsOrNone (some os) = os
+abbrev pub objectsOrEmpty : Option (List Object) → List Object
+objectsOrEmpty none = []
+objectsOrEmpty (some os) = os
 
-abbrev pub listedObjects : Bytes → List Object
-listedObjects list = objectsOrNone (primitiveObjects list)
+abbrev pub parsedObjectsOrEmpty : Bytes → List Object
+parsedObjectsOrEmpty list = objectsOrEmpty (primitiveObjects list)
 
 -- by its row in the table: the card may set it in template 70 with an answer to READ RECORD, its length and digits fit;
 -- an unknown tag has no row
-abbrev pub rowSettableInRecord : RowFound → Value → Bool
-rowSettableInRecord RowFound.Unknown v = false
-rowSettableInRecord (RowFound.At k) v = allowedInResponse inRecordResponse (rowAt k) recordTemplate v
+abbrev pub rowAllowsValueInRecord : RowFound → Value → Bool
+rowAllowsValueInRecord RowFound.Unknown v = false
+rowAllowsValueInRecord (RowFound.At k) v = rowAllowsValueFromCard inRecordResponse (rowAt k) tagRecordTemplate v
 
 -- an object is one that the card may set in template 70, its length and digits fitting
-unfoldable pub settableInRecord : Object → Bool
-settableInRecord o = rowSettableInRecord (findRow dictionaryRows (o .tag)) (o .value)
+unfoldable pub tagAndValueAllowedInRecord : Object → Bool
+tagAndValueAllowedInRecord o = rowAllowsValueInRecord (findRow dictionaryRows (o .tag)) (o .value)
 
 -- no object of a list has this tag, whatever its value
 unfoldable pub lacksTag : Tag → List Object → Bool

@@ -24,9 +24,9 @@ placementsIn (r ∷ []) = placement r 0 ∷ []
 placementsIn (r ∷ o ∷ s) = placement r o ∷ placementsIn s
 
 -- how many placements pass a test
-unfoldable pub placementCount : (Placement → Bool) → List Placement → Count
-placementCount f [] = 0
-placementCount f (p ∷ ps) = if f p then suc (placementCount f ps) else placementCount f ps
+unfoldable pub countPlacementsWhere : (Placement → Bool) → List Placement → Count
+countPlacementsWhere f [] = 0
+countPlacementsWhere f (p ∷ ps) = if f p then suc (countPlacementsWhere f ps) else countPlacementsWhere f ps
 
 -- some placement passes a test
 unfoldable pub anyPlacement : (Placement → Bool) → List Placement → Bool
@@ -34,8 +34,8 @@ anyPlacement f [] = false
 anyPlacement f (p ∷ ps) = f p or anyPlacement f ps
 
 -- a placement names object j
-abbrev pub isOfObject : ObjectNumber → Placement → Bool
-isOfObject j p = p .object =? j
+abbrev pub placesObjectNumber : ObjectNumber → Placement → Bool
+placesObjectNumber j p = p .object =? j
 
 -- a placement puts object j into record k
 abbrev pub putsObjectInto : RecordNumber → ObjectNumber → Placement → Bool
@@ -44,11 +44,11 @@ putsObjectInto k j p = p .into =? k and p .object =? j
 -- each of the objects, which are numbered from j on, is named by one placement and no more
 unfoldable pub eachPlacedOnce : List Placement → ObjectNumber → List Object → Bool
 eachPlacedOnce ps j [] = true
-eachPlacedOnce ps j (o ∷ os) = placementCount (isOfObject j) ps =? 1 and eachPlacedOnce ps (suc j) os
+eachPlacedOnce ps j (o ∷ os) = countPlacementsWhere (placesObjectNumber j) ps =? 1 and eachPlacedOnce ps (suc j) os
 
 -- those of the objects, numbered from j on, that some placement puts into record k, in the list's order
-unfoldable pub objectsFrom : List Placement → RecordNumber → ObjectNumber → List Object → List Object
-objectsFrom ps k j [] = []
-objectsFrom ps k j (o ∷ os) =
-    if anyPlacement (putsObjectInto k j) ps then o ∷ objectsFrom ps k (suc j) os
-    else objectsFrom ps k (suc j) os
+unfoldable pub objectsInRecordFrom : List Placement → RecordNumber → ObjectNumber → List Object → List Object
+objectsInRecordFrom ps k j [] = []
+objectsInRecordFrom ps k j (o ∷ os) =
+    if anyPlacement (putsObjectInto k j) ps then o ∷ objectsInRecordFrom ps k (suc j) os
+    else objectsInRecordFrom ps k (suc j) os

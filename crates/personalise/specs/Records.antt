@@ -10,25 +10,25 @@ use Rattle.basics.specs.Number.{between}
 use Rattle.tlv.specs.Primitives.{Object}
 use Rattle.tlv.specs.Encoding.{objectBytes}
 use Rattle.personalise.specs.declared.Placement.{Placement}
-use Rattle.personalise.specs.declared.Fault.{Fault}
-use Rattle.personalise.specs.declared.Fault.the-variants.{At, Nothing}
-use Rattle.personalise.specs.Objects.{recordTemplate}
-use Rattle.personalise.specs.Placements.{anyPlacement, objectsFrom}
+use Rattle.personalise.specs.declared.FirstBadItemNumber.{FirstBadItemNumber}
+use Rattle.personalise.specs.declared.FirstBadItemNumber.the-variants.{At, Nothing}
+use Rattle.personalise.specs.Objects.{tagRecordTemplate}
+use Rattle.personalise.specs.Placements.{anyPlacement, objectsInRecordFrom}
 
 -- ---- bytes
 
 -- objects concatenated, each length in as few bytes as it can be
-unfoldable pub contentBytes : List Object → Bytes
-contentBytes [] = []
-contentBytes (o ∷ os) = objectBytes (o .tag) (o .value) ++ contentBytes os
+unfoldable pub encodedObjects : List Object → Bytes
+encodedObjects [] = []
+encodedObjects (o ∷ os) = objectBytes (o .tag) (o .value) ++ encodedObjects os
 
 -- what record k holds inside its template
 abbrev pub recordContent : List Object → List Placement → RecordNumber → Bytes
-recordContent os ps k = contentBytes (objectsFrom ps k 1 os)
+recordContent os ps k = encodedObjects (objectsInRecordFrom ps k 1 os)
 
 -- record k: 70, the shortest length, its objects
 abbrev pub cardRecordBytes : List Object → List Placement → RecordNumber → Bytes
-cardRecordBytes os ps k = objectBytes recordTemplate (recordContent os ps k)
+cardRecordBytes os ps k = objectBytes tagRecordTemplate (recordContent os ps k)
 
 -- n records from number k on
 unfoldable pub cardRecordsFrom : List Object → List Placement → RecordNumber → Count → List Bytes
@@ -43,26 +43,26 @@ concatenatedRecords (s ∷ ss) = s ++ concatenatedRecords ss
 -- ---- bad records
 
 -- the most bytes inside a record's template
-abbrev pub mostRecordContent : Length
-mostRecordContent = 253
+abbrev pub mostRecordContentBytes : Length
+mostRecordContentBytes = 253
 
 -- a placement names record k, and either that is none of n records or the object none of m
-abbrev pub placementStrays : Count → Count → RecordNumber → Placement → Bool
-placementStrays n m k p = p .into =? k and not (between 1 (p .into) n and between 1 (p .object) m)
+abbrev pub isOutOfRangePlacementInto : Count → Count → RecordNumber → Placement → Bool
+isOutOfRangePlacementInto n m k p = p .into =? k and not (between 1 (p .into) n and between 1 (p .object) m)
 
 -- record k is bad, of n records: a placement into it strays, or its content is over 253 bytes
-unfoldable pub recordBadAt : List Object → List Placement → Count → RecordNumber → Bool
-recordBadAt os ps n k =
-    anyPlacement (placementStrays n (length os) k) ps or mostRecordContent <? length (recordContent os ps k)
+unfoldable pub hasBadPlacementOrOver253Bytes : List Object → List Placement → Count → RecordNumber → Bool
+hasBadPlacementOrOver253Bytes os ps n k =
+    anyPlacement (isOutOfRangePlacementInto n (length os) k) ps or mostRecordContentBytes <? length (recordContent os ps k)
 
 -- the first of m numbers from k on that passes a test
-unfoldable pub firstFault : (ℕ → Bool) → ℕ → Count → Fault
-firstFault f k zero = Nothing
-firstFault f k (suc m) = if f k then At k else firstFault f (suc k) m
+unfoldable pub firstBadNumberFrom : (ℕ → Bool) → ℕ → Count → FirstBadItemNumber
+firstBadNumberFrom f k zero = Nothing
+firstBadNumberFrom f k (suc m) = if f k then At k else firstBadNumberFrom f (suc k) m
 
 -- the least bad record, of n: a placement's record is a byte, and n is at most 128
-unfoldable pub badRecord : List Object → List Placement → Count → Fault
-badRecord os ps n = firstFault (recordBadAt os ps n) 0 256
+unfoldable pub firstBadRecord : List Object → List Placement → Count → FirstBadItemNumber
+firstBadRecord os ps n = firstBadNumberFrom (hasBadPlacementOrOver253Bytes os ps n) 0 256
 
 -- ---- what holds of it, proved in proofs/ (Least, Stages) for all lists and placements
 --   no-bad, no-bad-back    where no bad record is named none of the first 256 numbers is bad; where no number is bad

@@ -1,5 +1,5 @@
 // What the records hold: the size of each content, and the least bad record.
-use crate::Fault;
+use crate::FirstBadItemNumber;
 use crate::objects;
 use crate::placements;
 use tlv::ObjectFront;
@@ -7,38 +7,38 @@ ghost use mathlib.Core.Path.{_≡_};
 ghost use mathlib.Core.Bool.{true};
 ghost use Prim.Native.Nat.{_<_};
 ghost use lib.ListN.{length};
-ghost use Rattle.tlv.specs.Primitives.{primitiveObjects, isPrimitiveList};
+ghost use Rattle.tlv.specs.Primitives.{primitiveObjects, arePrimitiveObjectsParsed};
 ghost use Rattle.tlv.specs.Encoding.{tagBytes, lengthBytes};
 ghost use Rattle.personalise.specs.Placements.{placementsIn};
-ghost use Rattle.personalise.specs.Records.{recordContent, recordBadAt, badRecord};
-ghost use Rattle.personalise.specs.Objects.{listedObjects};
-ghost use Rattle.personalise.specs.Inner.{cappedSize, objectSize, placedSize};
+ghost use Rattle.personalise.specs.Records.{recordContent, hasBadPlacementOrOver253Bytes, firstBadRecord};
+ghost use Rattle.personalise.specs.Objects.{parsedObjectsOrEmpty};
+ghost use Rattle.personalise.specs.Inner.{sizeCappedAt254, encodedObjectSize, encodedSizeIfPlacedInRecord};
 
 // The most bytes of a content, and what stands for any size above.
 const MOST: usize = 253;
 const OVER: usize = 254;
 
 // The least bad record of so many.
-pub(crate) fn bad_record(objects: &[u8], placements: &[u8], records: usize) -> Fault
-    requires { ⌜ isPrimitiveList (primitiveObjects (now objects)) ≡ true ⌝ }
-    ensures { λ r. ⌜ r ≡ badRecord (listedObjects (now (objects .entry))) (placementsIn (now (placements .entry))) records ⌝ }
+pub(crate) fn bad_record(objects: &[u8], placements: &[u8], records: usize) -> FirstBadItemNumber
+    requires { ⌜ arePrimitiveObjectsParsed (primitiveObjects (now objects)) ≡ true ⌝ }
+    ensures { λ r. ⌜ r ≡ firstBadRecord (parsedObjectsOrEmpty (now (objects .entry))) (placementsIn (now (placements .entry))) records ⌝ }
 {
     let count = objects::count(objects);
     let mut k: usize = 0;
     while k < 256 {
         if is_bad(objects, placements, k, records, count) {
-            return Fault::At(k);
+            return FirstBadItemNumber::At(k);
         }
         k += 1;
     }
-    Fault::Nothing
+    FirstBadItemNumber::Nothing
 }
 
 // Whether record k is bad: a placement strays, or the content is too long.
 fn is_bad(objects: &[u8], placements: &[u8], k: usize, records: usize, count: usize) -> bool
-    requires { ⌜ isPrimitiveList (primitiveObjects (now objects)) ≡ true ⌝ }
-    requires { ⌜ count ≡ length (listedObjects (now objects)) ⌝ }
-    ensures { λ r. ⌜ r ≡ recordBadAt (listedObjects (now (objects .entry))) (placementsIn (now (placements .entry))) records k ⌝ }
+    requires { ⌜ arePrimitiveObjectsParsed (primitiveObjects (now objects)) ≡ true ⌝ }
+    requires { ⌜ count ≡ length (parsedObjectsOrEmpty (now objects)) ⌝ }
+    ensures { λ r. ⌜ r ≡ hasBadPlacementOrOver253Bytes (parsedObjectsOrEmpty (now (objects .entry))) (placementsIn (now (placements .entry))) records k ⌝ }
 {
     if placements::is_misplaced(placements, k, records, count) {
         return true;
@@ -48,14 +48,14 @@ fn is_bad(objects: &[u8], placements: &[u8], k: usize, records: usize, count: us
 
 // How many bytes record k has inside its template; 254 for any number above 253.
 pub(crate) fn size(objects: &[u8], placements: &[u8], k: usize) -> usize
-    requires { ⌜ isPrimitiveList (primitiveObjects (now objects)) ≡ true ⌝ }
-    ensures { λ r. ⌜ r ≡ cappedSize (length (recordContent (listedObjects (now (objects .entry))) (placementsIn (now (placements .entry))) k)) ⌝ }
+    requires { ⌜ arePrimitiveObjectsParsed (primitiveObjects (now objects)) ≡ true ⌝ }
+    ensures { λ r. ⌜ r ≡ sizeCappedAt254 (length (recordContent (parsedObjectsOrEmpty (now (objects .entry))) (placementsIn (now (placements .entry))) k)) ⌝ }
 {
     let mut s = objects;
     let mut number: usize = 1;
     let mut total: usize = 0;
     while s.len() != 0 {
-        let front = tlv::primitive(s);
+        let front = tlv::primitive_at_front(s);
         let ObjectFront::Object(h) = front else {
             return OVER;
         };
@@ -74,7 +74,7 @@ pub(crate) fn size(objects: &[u8], placements: &[u8], k: usize) -> usize
 
 // The size of an object in a record, 0 where it is not present; 254 for any size above 253.
 fn placed_size(placements: &[u8], k: usize, number: usize, tag: u32, len: usize) -> usize
-    ensures { λ r. ⌜ r ≡ cappedSize (placedSize (placementsIn (now (placements .entry))) k number tag len) ⌝ }
+    ensures { λ r. ⌜ r ≡ sizeCappedAt254 (encodedSizeIfPlacedInRecord (placementsIn (now (placements .entry))) k number tag len) ⌝ }
 {
     if !placements::is_placed(placements, k, number) {
         return 0;
@@ -84,7 +84,7 @@ fn placed_size(placements: &[u8], k: usize, number: usize, tag: u32, len: usize)
 
 // The size of an object with its shortest length; 254 for any size above 253.
 fn object_size(tag: u32, len: usize) -> usize
-    ensures { λ r. ⌜ r ≡ cappedSize (objectSize tag len) ⌝ }
+    ensures { λ r. ⌜ r ≡ sizeCappedAt254 (encodedObjectSize tag len) ⌝ }
 {
     if MOST < len {
         return OVER;

@@ -1,12 +1,12 @@
 // The entries of the AFL as it is proposed: each against the rules and those before it.
-use crate::Fault;
+use crate::FirstBadItemNumber;
 use afl::AflEntry;
 ghost use mathlib.Core.Path.{_≡_};
 ghost use Prim.Native.Nat.{_≤_, _%_};
 ghost use lib.ListN.{length};
-ghost use Rattle.afl.specs.Entry.{firstEntry, entryRecordCount};
+ghost use Rattle.afl.specs.Entry.{firstAflEntry, entryRecordCount};
 ghost use Rattle.afl.specs.Records.{aflEntries as entriesIn, aflRecordCount};
-ghost use Rattle.personalise.specs.Entries.{validEntryAlone, apartFrom, entriesOverlap as meetsBoth, validEntryAfter, badEntry};
+ghost use Rattle.personalise.specs.Entries.{validEntrySfi1To10NoOfflineAuth, overlapsNoneBefore, entriesOverlap as meetsBoth, validEntryAfterWithinCountLimits, firstBadEntry};
 
 // The most entries and records, and the highest file number.
 const MOST_ENTRIES: usize = 62;
@@ -14,24 +14,24 @@ const MOST_RECORDS: usize = 128;
 const LAST_SFI: u8 = 10;
 
 // The first bad entry, by its number from 1; the first where there is none.
-pub(crate) fn bad_entry(entries: &[u8]) -> Fault
-    ensures { λ r. ⌜ r ≡ badEntry (now (entries .entry)) ⌝ }
+pub(crate) fn bad_entry(entries: &[u8]) -> FirstBadItemNumber
+    ensures { λ r. ⌜ r ≡ firstBadEntry (now (entries .entry)) ⌝ }
 {
     let mut at = 0;
     while 4 <= entries.len() - at {
         let e = front(&entries[at..]);
         if !keeps_behind(&entries[..at], e) {
-            return Fault::At(at / 4 + 1);
+            return FirstBadItemNumber::At(at / 4 + 1);
         }
         at += 4;
     }
     if at < entries.len() {
-        return Fault::At(at / 4 + 1);
+        return FirstBadItemNumber::At(at / 4 + 1);
     }
     if at == 0 {
-        return Fault::At(1);
+        return FirstBadItemNumber::At(1);
     }
-    Fault::Nothing
+    FirstBadItemNumber::Nothing
 }
 
 // How many records some entries name.
@@ -52,7 +52,7 @@ pub(crate) fn count_records(entries: &[u8]) -> usize
 // Whether an entry satisfies the rules after those before it.
 fn keeps_behind(before: &[u8], e: AflEntry) -> bool
     requires { ⌜ length (now before) % 4 ≡ 0 ⌝ }
-    ensures { λ r. ⌜ r ≡ validEntryAfter (entriesIn (now (before .entry))) e ⌝ }
+    ensures { λ r. ⌜ r ≡ validEntryAfterWithinCountLimits (entriesIn (now (before .entry))) e ⌝ }
 {
     if MOST_ENTRIES <= before.len() / 4 {
         return false;
@@ -68,7 +68,7 @@ fn keeps_behind(before: &[u8], e: AflEntry) -> bool
 
 // Whether an entry names no record that one before it names.
 fn is_apart(before: &[u8], e: AflEntry) -> bool
-    ensures { λ r. ⌜ r ≡ apartFrom (entriesIn (now (before .entry))) e ⌝ }
+    ensures { λ r. ⌜ r ≡ overlapsNoneBefore (entriesIn (now (before .entry))) e ⌝ }
 {
     let mut rest = before;
     while 4 <= rest.len() {
@@ -83,7 +83,7 @@ fn is_apart(before: &[u8], e: AflEntry) -> bool
 
 // Whether an entry satisfies the rules by itself.
 fn keeps_alone(e: AflEntry) -> bool
-    ensures { λ r. ⌜ r ≡ validEntryAlone e ⌝ }
+    ensures { λ r. ⌜ r ≡ validEntrySfi1To10NoOfflineAuth e ⌝ }
 {
     if e.lead % 8 != 0 {
         return false;
@@ -116,7 +116,7 @@ fn meets(e: AflEntry, f: AflEntry) -> bool
 // The entry at the front of the bytes.
 fn front(s: &[u8]) -> AflEntry
     requires { ⌜ 4 ≤ length (now s) ⌝ }
-    ensures { λ r. ⌜ r ≡ firstEntry (now (s .entry)) ⌝ }
+    ensures { λ r. ⌜ r ≡ firstAflEntry (now (s .entry)) ⌝ }
 {
     AflEntry {
         lead: s[0],

@@ -14,12 +14,12 @@ ghost use Prim.Native.Nat.{_≤_};
 ghost use lib.ListN.{length};
 ghost use Rattle.afl.specs.Records.{aflRecordCount};
 ghost use Rattle.personalise.specs.Placements.{placementsIn};
-ghost use Rattle.personalise.specs.Entries.{badEntry, mostRecords};
-ghost use Rattle.personalise.specs.Objects.{listedObjects};
-ghost use Rattle.personalise.specs.Outcome.{aflRoom, cardPlan, personaliseResult, recordsAfter, aflAfter};
-ghost use Rattle.personalise.specs.Word.{SmallResult, isWritten, personaliseWord, isWrittenWord};
-ghost use Rattle.personalise.specs.Read.{CardHoldsIfWritten};
-ghost use Rattle.personalise.specs.Inner.{UsableObjects, ContentsFit, BuffersFit, entryStage, recordStage, personaliseWritten};
+ghost use Rattle.personalise.specs.Entries.{firstBadEntry, mostCardRecords};
+ghost use Rattle.personalise.specs.Objects.{parsedObjectsOrEmpty};
+ghost use Rattle.personalise.specs.Outcome.{leastAflBufferSize, cardPlan, personaliseResult, recordsBufferAfter, aflBufferAfter};
+ghost use Rattle.personalise.specs.Word.{PersonaliseFieldsWithinBounds, isWritten, personaliseWord, isPersonaliseWordOfWritten};
+ghost use Rattle.personalise.specs.Read.{CardReadsBackAsObjectsIfWritten};
+ghost use Rattle.personalise.specs.Inner.{AreObjectsAllowedInRecord, RecordContentsWithin253Bytes, RecordsAndAflBuffersLargeEnough, resultFromEntryChecks, resultFromRecordChecks, resultAllWritten};
 
 // Where an object goes: the number of its record and its own, both counted from 1.
 pub struct Placement {
@@ -28,7 +28,7 @@ pub struct Placement {
 }
 
 // The number of the first that is bad, if any is.
-pub enum Fault {
+pub enum FirstBadItemNumber {
     At(usize),
     Nothing,
 }
@@ -68,11 +68,11 @@ pub fn personalise(
 ) -> PersonaliseResult
     ensures said { λ r. ⌜ r ≡ personaliseResult
         (cardPlan (now (objects .entry)) (now (entries .entry)) (now (placements .entry))) (now (records .entry)) (now (afl .entry)) ⌝ }
-    ensures wrote { λ r. ⌜ now (records .exit) ≡ recordsAfter (isWritten r)
+    ensures wrote { λ r. ⌜ now (records .exit) ≡ recordsBufferAfter (isWritten r)
         (cardPlan (now (objects .entry)) (now (entries .entry)) (now (placements .entry))) (now (records .entry)) ⌝ }
-    ensures located { λ r. ⌜ now (afl .exit) ≡ aflAfter (isWritten r) (now (entries .entry)) (now (afl .entry)) ⌝ }
-    ensures small { λ r. ⌜ SmallResult r ⌝ }
-    ensures reads { λ r. ⌜ CardHoldsIfWritten
+    ensures located { λ r. ⌜ now (afl .exit) ≡ aflBufferAfter (isWritten r) (now (entries .entry)) (now (afl .entry)) ⌝ }
+    ensures small { λ r. ⌜ PersonaliseFieldsWithinBounds r ⌝ }
+    ensures reads { λ r. ⌜ CardReadsBackAsObjectsIfWritten
         (cardPlan (now (objects .entry)) (now (entries .entry)) (now (placements .entry))) r (now (records .exit)) (now (afl .exit)) ⌝ }
 {
     if records.len() < RECORDS_ROOM {
@@ -98,9 +98,9 @@ pub extern "C" fn emv_personalise(
 ) -> u64
     ensures said { λ r. ⌜ r ≡ personaliseWord
         (personaliseResult (cardPlan (now (objects .entry)) (now (entries .entry)) (now (placements .entry))) (now (records .entry)) (now (afl .entry))) ⌝ }
-    ensures wrote { λ r. ⌜ now (records .exit) ≡ recordsAfter (isWrittenWord r)
+    ensures wrote { λ r. ⌜ now (records .exit) ≡ recordsBufferAfter (isPersonaliseWordOfWritten r)
         (cardPlan (now (objects .entry)) (now (entries .entry)) (now (placements .entry))) (now (records .entry)) ⌝ }
-    ensures located { λ r. ⌜ now (afl .exit) ≡ aflAfter (isWrittenWord r) (now (entries .entry)) (now (afl .entry)) ⌝ }
+    ensures located { λ r. ⌜ now (afl .exit) ≡ aflBufferAfter (isPersonaliseWordOfWritten r) (now (entries .entry)) (now (afl .entry)) ⌝ }
 {
     let answer = personalise(objects, entries, placements, records, afl);
     word(answer)
@@ -108,7 +108,7 @@ pub extern "C" fn emv_personalise(
 
 // An answer as one word.
 fn word(answer: PersonaliseResult) -> u64
-    requires { ⌜ SmallResult answer ⌝ }
+    requires { ⌜ PersonaliseFieldsWithinBounds answer ⌝ }
     ensures { λ r. ⌜ r ≡ personaliseWord answer ⌝ }
 {
     match answer {
@@ -129,17 +129,17 @@ fn with_list(
     records: &mut [u8],
     afl: &mut [u8],
 ) -> PersonaliseResult
-    requires { ⌜ UsableObjects (now objects) ⌝ }
-    requires { ⌜ BuffersFit (now records) (now afl) ⌝ }
-    ensures said { λ r. ⌜ r ≡ entryStage (cardPlan (now (objects .entry)) (now (entries .entry)) (now (placements .entry))) ⌝ }
-    ensures wrote { λ r. ⌜ now (records .exit) ≡ recordsAfter (isWritten r)
+    requires { ⌜ AreObjectsAllowedInRecord (now objects) ⌝ }
+    requires { ⌜ RecordsAndAflBuffersLargeEnough (now records) (now afl) ⌝ }
+    ensures said { λ r. ⌜ r ≡ resultFromEntryChecks (cardPlan (now (objects .entry)) (now (entries .entry)) (now (placements .entry))) ⌝ }
+    ensures wrote { λ r. ⌜ now (records .exit) ≡ recordsBufferAfter (isWritten r)
         (cardPlan (now (objects .entry)) (now (entries .entry)) (now (placements .entry))) (now (records .entry)) ⌝ }
-    ensures located { λ r. ⌜ now (afl .exit) ≡ aflAfter (isWritten r) (now (entries .entry)) (now (afl .entry)) ⌝ }
+    ensures located { λ r. ⌜ now (afl .exit) ≡ aflBufferAfter (isWritten r) (now (entries .entry)) (now (afl .entry)) ⌝ }
 {
     let fault = entries::bad_entry(entries);
     match fault {
-        Fault::At(i) => PersonaliseResult::BadEntry(i),
-        Fault::Nothing => with_entries(objects, entries, placements, records, afl),
+        FirstBadItemNumber::At(i) => PersonaliseResult::BadEntry(i),
+        FirstBadItemNumber::Nothing => with_entries(objects, entries, placements, records, afl),
     }
 }
 
@@ -151,19 +151,19 @@ fn with_entries(
     records: &mut [u8],
     afl: &mut [u8],
 ) -> PersonaliseResult
-    requires { ⌜ UsableObjects (now objects) ⌝ }
-    requires { ⌜ BuffersFit (now records) (now afl) ⌝ }
-    requires { ⌜ badEntry (now entries) ≡ Fault.Nothing ⌝ }
-    ensures said { λ r. ⌜ r ≡ recordStage (cardPlan (now (objects .entry)) (now (entries .entry)) (now (placements .entry))) ⌝ }
-    ensures wrote { λ r. ⌜ now (records .exit) ≡ recordsAfter (isWritten r)
+    requires { ⌜ AreObjectsAllowedInRecord (now objects) ⌝ }
+    requires { ⌜ RecordsAndAflBuffersLargeEnough (now records) (now afl) ⌝ }
+    requires { ⌜ firstBadEntry (now entries) ≡ FirstBadItemNumber.Nothing ⌝ }
+    ensures said { λ r. ⌜ r ≡ resultFromRecordChecks (cardPlan (now (objects .entry)) (now (entries .entry)) (now (placements .entry))) ⌝ }
+    ensures wrote { λ r. ⌜ now (records .exit) ≡ recordsBufferAfter (isWritten r)
         (cardPlan (now (objects .entry)) (now (entries .entry)) (now (placements .entry))) (now (records .entry)) ⌝ }
-    ensures located { λ r. ⌜ now (afl .exit) ≡ aflAfter (isWritten r) (now (entries .entry)) (now (afl .entry)) ⌝ }
+    ensures located { λ r. ⌜ now (afl .exit) ≡ aflBufferAfter (isWritten r) (now (entries .entry)) (now (afl .entry)) ⌝ }
 {
     let count = entries::count_records(entries);
     let fault = contents::bad_record(objects, placements, count);
     match fault {
-        Fault::At(k) => PersonaliseResult::BadRecord(k),
-        Fault::Nothing => write_all(objects, entries, placements, count, records, afl),
+        FirstBadItemNumber::At(k) => PersonaliseResult::BadRecord(k),
+        FirstBadItemNumber::Nothing => write_all(objects, entries, placements, count, records, afl),
     }
 }
 
@@ -176,14 +176,14 @@ fn write_all(
     records: &mut [u8],
     afl: &mut [u8],
 ) -> PersonaliseResult
-    requires { ⌜ UsableObjects (now objects) ⌝ }
-    requires { ⌜ BuffersFit (now records) (now afl) ⌝ }
-    requires { ⌜ (count ≡ aflRecordCount (now entries)) × (count ≤ mostRecords) × (length (now entries) ≤ aflRoom) ⌝ }
-    requires { ⌜ ContentsFit (listedObjects (now objects)) (placementsIn (now placements)) count ⌝ }
-    ensures said { λ r. ⌜ r ≡ personaliseWritten (cardPlan (now (objects .entry)) (now (entries .entry)) (now (placements .entry))) ⌝ }
-    ensures wrote { λ r. ⌜ now (records .exit) ≡ recordsAfter (isWritten r)
+    requires { ⌜ AreObjectsAllowedInRecord (now objects) ⌝ }
+    requires { ⌜ RecordsAndAflBuffersLargeEnough (now records) (now afl) ⌝ }
+    requires { ⌜ (count ≡ aflRecordCount (now entries)) × (count ≤ mostCardRecords) × (length (now entries) ≤ leastAflBufferSize) ⌝ }
+    requires { ⌜ RecordContentsWithin253Bytes (parsedObjectsOrEmpty (now objects)) (placementsIn (now placements)) count ⌝ }
+    ensures said { λ r. ⌜ r ≡ resultAllWritten (cardPlan (now (objects .entry)) (now (entries .entry)) (now (placements .entry))) ⌝ }
+    ensures wrote { λ r. ⌜ now (records .exit) ≡ recordsBufferAfter (isWritten r)
         (cardPlan (now (objects .entry)) (now (entries .entry)) (now (placements .entry))) (now (records .entry)) ⌝ }
-    ensures located { λ r. ⌜ now (afl .exit) ≡ aflAfter (isWritten r) (now (entries .entry)) (now (afl .entry)) ⌝ }
+    ensures located { λ r. ⌜ now (afl .exit) ≡ aflBufferAfter (isWritten r) (now (entries .entry)) (now (afl .entry)) ⌝ }
 {
     let size = writing::put_records(objects, placements, count, records);
     bytes::copy(entries, afl);

@@ -1,26 +1,26 @@
 // The list of objects: what its rules require of each, and how many there are.
 use crate::placements;
-use dictionary::{Attributes, RowFound};
+use dictionary::{RowAttributes, RowFound};
 use tlv::ObjectFront;
 ghost use mathlib.Core.Path.{_≡_};
 ghost use mathlib.Core.Bool.{true};
 ghost use lib.ListN.{length};
-ghost use Rattle.tlv.specs.Primitives.{tlvObject, primitiveObjects, isPrimitiveList};
+ghost use Rattle.tlv.specs.Primitives.{tlvObject, primitiveObjects, arePrimitiveObjectsParsed};
 ghost use Rattle.dictionary.specs.Rows.{inRecordResponse};
-ghost use Rattle.dictionary.specs.Packing.{rowWithAttributes};
-ghost use Rattle.reading.specs.Taking.{allowedInResponse};
-ghost use Rattle.personalise.specs.Objects.{recordTemplate, listedObjects, settableInRecord};
+ghost use Rattle.dictionary.specs.Packing.{rowWithAttributesAndTagZero};
+ghost use Rattle.reading.specs.Taking.{rowAllowsValueFromCard};
+ghost use Rattle.personalise.specs.Objects.{tagRecordTemplate, parsedObjectsOrEmpty, tagAndValueAllowedInRecord};
 ghost use Rattle.personalise.specs.Placements.{placementsIn};
-ghost use Rattle.personalise.specs.Inner.{listLacksTag, parsedListValid};
+ghost use Rattle.personalise.specs.Inner.{listParsedAndLacksTag, parsedObjectsValidAndPlacedOnce};
 
 // Whether the bytes are a run of objects that may all be set, no tag twice, each placed once.
 pub(crate) fn keeps(objects: &[u8], placements: &[u8]) -> bool
-    ensures { λ r. ⌜ r ≡ parsedListValid (placementsIn (now (placements .entry))) 1 (primitiveObjects (now (objects .entry))) ⌝ }
+    ensures { λ r. ⌜ r ≡ parsedObjectsValidAndPlacedOnce (placementsIn (now (placements .entry))) 1 (primitiveObjects (now (objects .entry))) ⌝ }
 {
     let mut s = objects;
     let mut number: usize = 1;
     while s.len() != 0 {
-        let front = tlv::primitive(s);
+        let front = tlv::primitive_at_front(s);
         let ObjectFront::Object(h) = front else {
             return false;
         };
@@ -45,13 +45,13 @@ pub(crate) fn keeps(objects: &[u8], placements: &[u8]) -> bool
 
 // How many objects a run has.
 pub(crate) fn count(objects: &[u8]) -> usize
-    requires { ⌜ isPrimitiveList (primitiveObjects (now objects)) ≡ true ⌝ }
-    ensures { λ r. ⌜ r ≡ length (listedObjects (now (objects .entry))) ⌝ }
+    requires { ⌜ arePrimitiveObjectsParsed (primitiveObjects (now objects)) ≡ true ⌝ }
+    ensures { λ r. ⌜ r ≡ length (parsedObjectsOrEmpty (now (objects .entry))) ⌝ }
 {
     let mut s = objects;
     let mut n: usize = 0;
     while s.len() != 0 {
-        let front = tlv::primitive(s);
+        let front = tlv::primitive_at_front(s);
         let ObjectFront::Object(h) = front else {
             return n;
         };
@@ -65,11 +65,11 @@ pub(crate) fn count(objects: &[u8]) -> usize
 
 // Whether the bytes are a run without a tag.
 fn lacks_tag(objects: &[u8], tag: u32) -> bool
-    ensures { λ r. ⌜ r ≡ listLacksTag tag (primitiveObjects (now (objects .entry))) ⌝ }
+    ensures { λ r. ⌜ r ≡ listParsedAndLacksTag tag (primitiveObjects (now (objects .entry))) ⌝ }
 {
     let mut s = objects;
     while s.len() != 0 {
-        let front = tlv::primitive(s);
+        let front = tlv::primitive_at_front(s);
         let ObjectFront::Object(h) = front else {
             return false;
         };
@@ -85,7 +85,7 @@ fn lacks_tag(objects: &[u8], tag: u32) -> bool
 
 // Whether the card may set an object in template 70, its length and digits fitting.
 fn is_settable(tag: u32, v: &[u8]) -> bool
-    ensures { λ r. ⌜ r ≡ settableInRecord (tlvObject tag (now (v .entry))) ⌝ }
+    ensures { λ r. ⌜ r ≡ tagAndValueAllowedInRecord (tlvObject tag (now (v .entry))) ⌝ }
 {
     let found = dictionary::lookup_row(tag).found;
     let RowFound::At(row) = found else {
@@ -96,8 +96,8 @@ fn is_settable(tag: u32, v: &[u8]) -> bool
 }
 
 // Whether the card may bring an object of these attributes in a record, with this value.
-fn may_come(attributes: Attributes, v: &[u8]) -> bool
-    ensures { λ r. ⌜ r ≡ allowedInResponse inRecordResponse (rowWithAttributes attributes) recordTemplate (now (v .entry)) ⌝ }
+fn may_come(attributes: RowAttributes, v: &[u8]) -> bool
+    ensures { λ r. ⌜ r ≡ rowAllowsValueFromCard inRecordResponse (rowWithAttributesAndTagZero attributes) tagRecordTemplate (now (v .entry)) ⌝ }
 {
     if attributes.setters / dictionary::CARD % 2 != 1 {
         return false;
@@ -108,5 +108,5 @@ fn may_come(attributes: Attributes, v: &[u8]) -> bool
     if attributes.templates / dictionary::IN_70 % 2 != 1 {
         return false;
     }
-    dictionary::fits(attributes, v)
+    dictionary::length_and_digits_fit_row(attributes, v)
 }

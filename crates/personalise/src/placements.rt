@@ -3,13 +3,13 @@ use crate::Placement;
 ghost use mathlib.Core.Path.{_≡_};
 ghost use Prim.Native.Nat.{min};
 ghost use lib.ListN.{getD};
-ghost use Rattle.personalise.specs.Placements.{placement, placementsIn, placementCount, anyPlacement, isOfObject, putsObjectInto};
-ghost use Rattle.personalise.specs.Records.{placementStrays as straysFrom};
-ghost use Rattle.personalise.specs.Inner.{misplaced};
+ghost use Rattle.personalise.specs.Placements.{placement, placementsIn, countPlacementsWhere, anyPlacement, placesObjectNumber, putsObjectInto};
+ghost use Rattle.personalise.specs.Records.{isOutOfRangePlacementInto as straysFrom};
+ghost use Rattle.personalise.specs.Inner.{recordHasOutOfRangePlacement};
 
 // How many placements name an object.
 pub(crate) fn count_named(placements: &[u8], object: usize) -> usize
-    ensures { λ r. ⌜ r ≡ placementCount (isOfObject object) (placementsIn (now (placements .entry))) ⌝ }
+    ensures { λ r. ⌜ r ≡ countPlacementsWhere (placesObjectNumber object) (placementsIn (now (placements .entry))) ⌝ }
 {
     let mut rest = placements;
     let mut count: usize = 0;
@@ -42,7 +42,7 @@ pub(crate) fn is_placed(placements: &[u8], into: usize, object: usize) -> bool
 
 // Whether some placement names a record that is none of `records`, or with it an object that is none of `objects`.
 pub(crate) fn is_misplaced(placements: &[u8], into: usize, records: usize, objects: usize) -> bool
-    ensures { λ r. ⌜ r ≡ misplaced (placementsIn (now (placements .entry))) records objects into ⌝ }
+    ensures { λ r. ⌜ r ≡ recordHasOutOfRangePlacement (placementsIn (now (placements .entry))) records objects into ⌝ }
 {
     let mut rest = placements;
     while rest.len() != 0 {

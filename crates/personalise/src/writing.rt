@@ -6,19 +6,19 @@ ghost use Prim.Native.Nat.{_+_, _*_, _≤_, _<_};
 ghost use lib.ListN.{length};
 ghost use Rattle.tlv.specs.Encoding.{tagBytes, lengthBytes, objectBytes};
 ghost use Rattle.personalise.specs.Placements.{placementsIn};
-ghost use Rattle.personalise.specs.Records.{recordContent, cardRecordBytes, mostRecordContent};
-ghost use Rattle.personalise.specs.Objects.{listedObjects};
-ghost use Rattle.personalise.specs.Inner.{UsableObjects, ContentsFit, PutsBytes, placedBytes, bytesFor};
+ghost use Rattle.personalise.specs.Records.{recordContent, cardRecordBytes, mostRecordContentBytes};
+ghost use Rattle.personalise.specs.Objects.{parsedObjectsOrEmpty};
+ghost use Rattle.personalise.specs.Inner.{AreObjectsAllowedInRecord, RecordContentsWithin253Bytes, WritesBytesAt, objectBytesIfPlacedInRecord, concatenatedRecordsFromBytes};
 
 // The tag of a record's template.
 const TEMPLATE: u32 = 0x70;
 
 // Writes the records 1 to `records`, concatenated.
 pub(crate) fn put_records(objects: &[u8], placements: &[u8], records: usize, out: &mut [u8]) -> usize
-    requires { ⌜ UsableObjects (now objects) ⌝ }
-    requires { ⌜ ContentsFit (listedObjects (now objects)) (placementsIn (now placements)) records ⌝ }
+    requires { ⌜ AreObjectsAllowedInRecord (now objects) ⌝ }
+    requires { ⌜ RecordContentsWithin253Bytes (parsedObjectsOrEmpty (now objects)) (placementsIn (now placements)) records ⌝ }
     requires { ⌜ (records < 256) × (256 * records ≤ length (now out)) ⌝ }
-    ensures { λ r. ⌜ PutsBytes r (now (out .exit)) (now (out .entry)) 0 (bytesFor (now (objects .entry)) (now (placements .entry)) records) ⌝ }
+    ensures { λ r. ⌜ WritesBytesAt r (now (out .exit)) (now (out .entry)) 0 (concatenatedRecordsFromBytes (now (objects .entry)) (now (placements .entry)) records) ⌝ }
 {
     let mut k: usize = 1;
     let mut at: usize = 0;
@@ -31,11 +31,11 @@ pub(crate) fn put_records(objects: &[u8], placements: &[u8], records: usize, out
 
 // Writes record k: the template's tag, the length and the objects.
 fn put_record(objects: &[u8], placements: &[u8], k: usize, out: &mut [u8], at: usize) -> usize
-    requires { ⌜ UsableObjects (now objects) ⌝ }
-    requires { ⌜ length (recordContent (listedObjects (now objects)) (placementsIn (now placements)) k) ≤ mostRecordContent ⌝ }
+    requires { ⌜ AreObjectsAllowedInRecord (now objects) ⌝ }
+    requires { ⌜ length (recordContent (parsedObjectsOrEmpty (now objects)) (placementsIn (now placements)) k) ≤ mostRecordContentBytes ⌝ }
     requires { ⌜ at + 256 ≤ length (now out) ⌝ }
-    ensures { λ r. ⌜ PutsBytes r (now (out .exit)) (now (out .entry)) at
-        (cardRecordBytes (listedObjects (now (objects .entry))) (placementsIn (now (placements .entry))) k) ⌝ }
+    ensures { λ r. ⌜ WritesBytesAt r (now (out .exit)) (now (out .entry)) at
+        (cardRecordBytes (parsedObjectsOrEmpty (now (objects .entry))) (placementsIn (now (placements .entry))) k) ⌝ }
 {
     let size = contents::size(objects, placements, k);
     let behind_tag = put_tag(out, at, TEMPLATE);
@@ -45,16 +45,16 @@ fn put_record(objects: &[u8], placements: &[u8], k: usize, out: &mut [u8], at: u
 
 // Writes the objects of record k, in the list's order.
 fn put_content(objects: &[u8], placements: &[u8], k: usize, out: &mut [u8], at: usize) -> usize
-    requires { ⌜ UsableObjects (now objects) ⌝ }
-    requires { ⌜ at + length (recordContent (listedObjects (now objects)) (placementsIn (now placements)) k) ≤ length (now out) ⌝ }
-    ensures { λ r. ⌜ PutsBytes r (now (out .exit)) (now (out .entry)) at
-        (recordContent (listedObjects (now (objects .entry))) (placementsIn (now (placements .entry))) k) ⌝ }
+    requires { ⌜ AreObjectsAllowedInRecord (now objects) ⌝ }
+    requires { ⌜ at + length (recordContent (parsedObjectsOrEmpty (now objects)) (placementsIn (now placements)) k) ≤ length (now out) ⌝ }
+    ensures { λ r. ⌜ WritesBytesAt r (now (out .exit)) (now (out .entry)) at
+        (recordContent (parsedObjectsOrEmpty (now (objects .entry))) (placementsIn (now (placements .entry))) k) ⌝ }
 {
     let mut s = objects;
     let mut number: usize = 1;
     let mut to = at;
     while s.len() != 0 {
-        let front = tlv::primitive(s);
+        let front = tlv::primitive_at_front(s);
         let ObjectFront::Object(h) = front else {
             return to;
         };
@@ -80,9 +80,9 @@ fn put_placed(
     at: usize,
 ) -> usize
     requires { ⌜ (tag < 0x1000000) × (length (now v) < 0x100) ⌝ }
-    requires { ⌜ at + length (placedBytes (placementsIn (now placements)) k number tag (now v)) ≤ length (now out) ⌝ }
-    ensures { λ r. ⌜ PutsBytes r (now (out .exit)) (now (out .entry)) at
-        (placedBytes (placementsIn (now (placements .entry))) k number tag (now (v .entry))) ⌝ }
+    requires { ⌜ at + length (objectBytesIfPlacedInRecord (placementsIn (now placements)) k number tag (now v)) ≤ length (now out) ⌝ }
+    ensures { λ r. ⌜ WritesBytesAt r (now (out .exit)) (now (out .entry)) at
+        (objectBytesIfPlacedInRecord (placementsIn (now (placements .entry))) k number tag (now (v .entry))) ⌝ }
 {
     if !placements::is_placed(placements, k, number) {
         return at;
@@ -94,7 +94,7 @@ fn put_placed(
 fn put_object(out: &mut [u8], at: usize, tag: u32, v: &[u8]) -> usize
     requires { ⌜ (tag < 0x1000000) × (length (now v) < 0x100) ⌝ }
     requires { ⌜ at + length (objectBytes tag (now v)) ≤ length (now out) ⌝ }
-    ensures { λ r. ⌜ PutsBytes r (now (out .exit)) (now (out .entry)) at (objectBytes tag (now (v .entry))) ⌝ }
+    ensures { λ r. ⌜ WritesBytesAt r (now (out .exit)) (now (out .entry)) at (objectBytes tag (now (v .entry))) ⌝ }
 {
     let behind_tag = put_tag(out, at, tag);
     let behind_length = put_length(out, behind_tag, v.len());
@@ -104,7 +104,7 @@ fn put_object(out: &mut [u8], at: usize, tag: u32, v: &[u8]) -> usize
 // Writes a tag.
 fn put_tag(out: &mut [u8], at: usize, tag: u32) -> usize
     requires { ⌜ (tag < 0x1000000) × (at + length (tagBytes tag) ≤ length (now out)) ⌝ }
-    ensures { λ r. ⌜ PutsBytes r (now (out .exit)) (now (out .entry)) at (tagBytes tag) ⌝ }
+    ensures { λ r. ⌜ WritesBytesAt r (now (out .exit)) (now (out .entry)) at (tagBytes tag) ⌝ }
 {
     if tag < 0x100 {
         out[at] = tag as u8;
@@ -124,7 +124,7 @@ fn put_tag(out: &mut [u8], at: usize, tag: u32) -> usize
 // Writes a length below 256 in as few bytes as it can be.
 fn put_length(out: &mut [u8], at: usize, len: usize) -> usize
     requires { ⌜ (len < 0x100) × (at + length (lengthBytes len) ≤ length (now out)) ⌝ }
-    ensures { λ r. ⌜ PutsBytes r (now (out .exit)) (now (out .entry)) at (lengthBytes len) ⌝ }
+    ensures { λ r. ⌜ WritesBytesAt r (now (out .exit)) (now (out .entry)) at (lengthBytes len) ⌝ }
 {
     if len < 0x80 {
         out[at] = len as u8;
@@ -138,7 +138,7 @@ fn put_length(out: &mut [u8], at: usize, len: usize) -> usize
 // Writes bytes.
 fn put_value(out: &mut [u8], at: usize, v: &[u8]) -> usize
     requires { ⌜ at + length (now v) ≤ length (now out) ⌝ }
-    ensures { λ r. ⌜ PutsBytes r (now (out .exit)) (now (out .entry)) at (now (v .entry)) ⌝ }
+    ensures { λ r. ⌜ WritesBytesAt r (now (out .exit)) (now (out .entry)) at (now (v .entry)) ⌝ }
 {
     let e = at + v.len();
     bytes::copy(v, &mut out[at..e]);

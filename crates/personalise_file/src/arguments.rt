@@ -30,7 +30,7 @@ fn with_argument(arguments: PersonaliseArguments, i: usize) -> PersonaliseArgume
     let n = os::arg(i, &mut space);
     let word = &space[..n];
     let mut out = arguments;
-    if basics::same(word, b"--tell") {
+    if basics::bytes_equal(word, b"--tell") {
         out.tell = true;
         return out;
     }

@@ -15,7 +15,7 @@ use arguments::PersonaliseArguments;
 use libc::{STDERR_FILENO, STDIN_FILENO};
 
 // How much of a file is there, whether to read on, and whether a part could not be read.
-struct Filled {
+struct FileReadProgress {
     size: usize,
     going: bool,
     failed: bool,
@@ -113,8 +113,8 @@ fn answered_of(fd: i32) -> u8 {
 }
 
 // Fills the space from a file. Each part has a character or more, so there are no more iterations than characters.
-fn read(fd: i32, space: &mut [u8]) -> Filled {
-    let mut state = Filled {
+fn read(fd: i32, space: &mut [u8]) -> FileReadProgress {
+    let mut state = FileReadProgress {
         size: 0,
         going: true,
         failed: false,
@@ -128,7 +128,7 @@ fn read(fd: i32, space: &mut [u8]) -> Filled {
 }
 
 // One more part, after those that are present.
-fn read_part(state: Filled, fd: i32, space: &mut [u8]) -> Filled {
+fn read_part(state: FileReadProgress, fd: i32, space: &mut [u8]) -> FileReadProgress {
     let filled = state.size;
     if space.len() <= filled {
         return ended(filled, false);
@@ -143,15 +143,15 @@ fn read_part(state: Filled, fd: i32, space: &mut [u8]) -> Filled {
         return ended(filled, false);
     }
     let n = io::count(got, rest);
-    Filled {
+    FileReadProgress {
         size: filled + n,
         going: true,
         failed: false,
     }
 }
 
-fn ended(size: usize, failed: bool) -> Filled {
-    Filled {
+fn ended(size: usize, failed: bool) -> FileReadProgress {
+    FileReadProgress {
         size,
         going: false,
         failed,
@@ -165,8 +165,8 @@ fn laid_out(chars: &[u8]) -> u8 {
     let mut objects = [0u8; BYTES];
     let mut entries = [0u8; BYTES];
     let mut placements = [0u8; BYTES];
-    let given = text::parse_lines(chars, &mut objects, &mut entries, &mut placements);
-    if !text::is_whole(given) {
+    let given = text::parse_personalise_lines(chars, &mut objects, &mut entries, &mut placements);
+    if !text::check_request_and_print_missing(given) {
         return NEITHER;
     }
     let listed = front(&objects, given.objects.size);
@@ -180,7 +180,7 @@ fn written(objects: &[u8], entries: &[u8], placements: &[u8]) -> u8 {
     let mut records = [0u8; RECORDS];
     let mut afl = [0u8; AFL];
     let answer = personalise::personalise(objects, entries, placements, &mut records, &mut afl);
-    if shown::print_result(answer, &records, &afl) {
+    if shown::print_personalise_result(answer, &records, &afl) {
         return WRITTEN;
     }
     REFUSED

@@ -1,18 +1,18 @@
 // The answer on standard output: the AFL and each record on a line, or the refusal in words.
 use crate::front;
-use crate::text::counted;
+use crate::text::increment_saturating;
 use personalise::PersonaliseResult;
 use tlv::ObjectFront;
 ghost use Prim.Native.Nat.{_≤_};
 ghost use lib.ListN.{length};
 
 // Shows an answer with what is written at the front of the buffers: whether anything is.
-pub fn print_result(answer: PersonaliseResult, records: &[u8], afl: &[u8]) -> bool {
+pub fn print_personalise_result(answer: PersonaliseResult, records: &[u8], afl: &[u8]) -> bool {
     match answer {
         PersonaliseResult::Written(sizes) => {
-            print::text(b"locator");
-            print::bytes(front(afl, sizes.afl));
-            print::text(b"\n");
+            print::print_text(b"locator");
+            print::print_bytes(front(afl, sizes.afl));
+            print::print_text(b"\n");
             all_records(front(records, sizes.records));
             true
         }
@@ -33,7 +33,7 @@ fn all_records(records: &[u8]) {
         }
         record_line(number, &rest[..size]);
         rest = &rest[size..];
-        number = counted(number);
+        number = increment_saturating(number);
     }
 }
 
@@ -49,45 +49,45 @@ fn first_size(s: &[u8]) -> usize
 }
 
 fn record_line(number: usize, bytes: &[u8]) {
-    print::text(b"record ");
+    print::print_text(b"record ");
     print::print_number(number);
-    print::text(b":");
-    print::bytes(bytes);
-    print::text(b"\n");
+    print::print_text(b":");
+    print::print_bytes(bytes);
+    print::print_text(b"\n");
 }
 
 // ---- refusals
 
 // A refusal in words.
 fn refused(answer: PersonaliseResult) -> bool {
-    print::text(b"refused: ");
+    print::print_text(b"refused: ");
     match answer {
-        PersonaliseResult::Written(_) => print::text(b"nothing"),
-        PersonaliseResult::ShortRecords => print::text(b"records buffer shorter than 32,768 bytes"),
-        PersonaliseResult::ShortAfl => print::text(b"locator buffer shorter than 248 bytes"),
+        PersonaliseResult::Written(_) => print::print_text(b"nothing"),
+        PersonaliseResult::ShortRecords => print::print_text(b"records buffer shorter than 32,768 bytes"),
+        PersonaliseResult::ShortAfl => print::print_text(b"locator buffer shorter than 248 bytes"),
         PersonaliseResult::BadList => list_words(),
         PersonaliseResult::BadEntry(i) => entry_words(i),
         PersonaliseResult::BadRecord(k) => record_words(k),
     }
-    print::text(b"\n");
+    print::print_text(b"\n");
     false
 }
 
 fn list_words() {
-    print::text(b"list: every object must be whole, of a tag for template 70, ");
-    print::text(b"of a length and digits that fit, there once and placed once");
+    print::print_text(b"list: every object must be whole, of a tag for template 70, ");
+    print::print_text(b"of a length and digits that fit, there once and placed once");
 }
 
 fn entry_words(number: usize) {
-    print::text(b"entry ");
+    print::print_text(b"entry ");
     print::print_number(number);
-    print::text(b": must be there, whole and among the first 62, byte 1 eight times a file 1 to 10, ");
-    print::text(b"first record not 0, last not below it, byte 4 zero, no record named before, at most 128 in all");
+    print::print_text(b": must be there, whole and among the first 62, byte 1 eight times a file 1 to 10, ");
+    print::print_text(b"first record not 0, last not below it, byte 4 zero, no record named before, at most 128 in all");
 }
 
 fn record_words(number: usize) {
-    print::text(b"record ");
+    print::print_text(b"record ");
     print::print_number(number);
-    print::text(b": must be one of the locator's, hold objects of the list only, ");
-    print::text(b"with at most 253 bytes of content");
+    print::print_text(b": must be one of the locator's, hold objects of the list only, ");
+    print::print_text(b"with at most 253 bytes of content");
 }

@@ -1,27 +1,27 @@
 // The lines of a file: `objects HEX`, `entries HEX` and `placements HEX`, each once.
 use crate::complain;
 use libc::STDERR_FILENO;
-use text_line::Decoded;
+use text_line::HexDecoded;
 ghost use Prim.Native.Nat.{_≤_};
 ghost use lib.ListN.{length};
 
 // What a line brought: whether it was present, and how many bytes it has.
-pub struct Part {
+pub struct RequestPartGiven {
     pub there: bool,
     pub size: usize,
 }
 
 // What the lines brought so far, the number of the line that is read, and whether one was wrong.
-pub struct Given {
-    pub objects: Part,
-    pub entries: Part,
-    pub placements: Part,
+pub struct PersonaliseRequestText {
+    pub objects: RequestPartGiven,
+    pub entries: RequestPartGiven,
+    pub placements: RequestPartGiven,
     pub number: usize,
     pub wrong: bool,
 }
 
 // The first word of a line.
-enum PartWord {
+enum PartKeyword {
     Absent,
     Objects,
     Entries,
@@ -30,7 +30,7 @@ enum PartWord {
 }
 
 // Reads all lines, up to one that is wrong, which is reported by its number.
-pub fn parse_lines(chars: &[u8], objects: &mut [u8], entries: &mut [u8], placements: &mut [u8]) -> Given {
+pub fn parse_personalise_lines(chars: &[u8], objects: &mut [u8], entries: &mut [u8], placements: &mut [u8]) -> PersonaliseRequestText {
     let mut given = nothing();
     let mut rest = chars;
     while rest.len() != 0 {
@@ -45,12 +45,12 @@ pub fn parse_lines(chars: &[u8], objects: &mut [u8], entries: &mut [u8], placeme
     given
 }
 
-fn nothing() -> Given {
-    let absent = Part {
+fn nothing() -> PersonaliseRequestText {
+    let absent = RequestPartGiven {
         there: false,
         size: 0,
     };
-    Given {
+    PersonaliseRequestText {
         objects: absent,
         entries: absent,
         placements: absent,
@@ -68,24 +68,24 @@ fn line_end(s: &[u8]) -> usize
 
 // One more line; nothing after a wrong one is examined.
 fn with_line(
-    given: Given,
+    given: PersonaliseRequestText,
     line: &[u8],
     objects: &mut [u8],
     entries: &mut [u8],
     placements: &mut [u8],
-) -> Given {
+) -> PersonaliseRequestText {
     if given.wrong {
         return given;
     }
     let text = text_line::uncommented(line);
-    let rest = text_line::behind_word(text);
+    let rest = text_line::after_first_word(text);
     let word = word_named(text_line::first_word(text));
     match word {
-        PartWord::Absent => next_line(given),
-        PartWord::Objects => with_objects(given, text_line::decode_hex(rest, objects)),
-        PartWord::Entries => with_entries(given, text_line::decode_hex(rest, entries)),
-        PartWord::Placements => with_placements(given, text_line::decode_hex(rest, placements)),
-        PartWord::Unknown => wrong(
+        PartKeyword::Absent => next_line(given),
+        PartKeyword::Objects => with_objects(given, text_line::decode_hex(rest, objects)),
+        PartKeyword::Entries => with_entries(given, text_line::decode_hex(rest, entries)),
+        PartKeyword::Placements => with_placements(given, text_line::decode_hex(rest, placements)),
+        PartKeyword::Unknown => wrong(
             given,
             b"unknown word; expected objects HEX, entries HEX or placements HEX",
         ),
@@ -93,51 +93,51 @@ fn with_line(
 }
 
 // Which word it is.
-fn word_named(w: &[u8]) -> PartWord {
+fn word_named(w: &[u8]) -> PartKeyword {
     if w.len() == 0 {
-        return PartWord::Absent;
+        return PartKeyword::Absent;
     }
-    if basics::same(w, b"objects") {
-        return PartWord::Objects;
+    if basics::bytes_equal(w, b"objects") {
+        return PartKeyword::Objects;
     }
-    if basics::same(w, b"entries") {
-        return PartWord::Entries;
+    if basics::bytes_equal(w, b"entries") {
+        return PartKeyword::Entries;
     }
-    if basics::same(w, b"placements") {
-        return PartWord::Placements;
+    if basics::bytes_equal(w, b"placements") {
+        return PartKeyword::Placements;
     }
-    PartWord::Unknown
+    PartKeyword::Unknown
 }
 
 // ---- one more line of each kind
 
-fn with_objects(given: Given, d: Decoded) -> Given {
+fn with_objects(given: PersonaliseRequestText, d: HexDecoded) -> PersonaliseRequestText {
     let mut out = checked(given, given.objects.there, d);
     out.objects = brought(d);
     out
 }
 
-fn with_entries(given: Given, d: Decoded) -> Given {
+fn with_entries(given: PersonaliseRequestText, d: HexDecoded) -> PersonaliseRequestText {
     let mut out = checked(given, given.entries.there, d);
     out.entries = brought(d);
     out
 }
 
-fn with_placements(given: Given, d: Decoded) -> Given {
+fn with_placements(given: PersonaliseRequestText, d: HexDecoded) -> PersonaliseRequestText {
     let mut out = checked(given, given.placements.there, d);
     out.placements = brought(d);
     out
 }
 
-fn brought(d: Decoded) -> Part {
-    Part {
+fn brought(d: HexDecoded) -> RequestPartGiven {
+    RequestPartGiven {
         there: true,
         size: d.size,
     }
 }
 
 // The next line, unless this one comes twice or what follows its word spells no bytes.
-fn checked(given: Given, twice: bool, d: Decoded) -> Given {
+fn checked(given: PersonaliseRequestText, twice: bool, d: HexDecoded) -> PersonaliseRequestText {
     if twice {
         return wrong(given, b"this word for the second time; expected it once");
     }
@@ -152,21 +152,21 @@ fn checked(given: Given, twice: bool, d: Decoded) -> Given {
     }
 }
 
-fn next_line(given: Given) -> Given {
+fn next_line(given: PersonaliseRequestText) -> PersonaliseRequestText {
     let mut out = given;
-    out.number = counted(given.number);
+    out.number = increment_saturating(given.number);
     out
 }
 
 // One more; the greatest number stays.
-pub fn counted(n: usize) -> usize {
+pub fn increment_saturating(n: usize) -> usize {
     if n < usize::MAX { n + 1 } else { n }
 }
 
 // ---- what is wrong
 
 // A line that is wrong, by its number, with what was expected.
-fn wrong(given: Given, words: &[u8]) -> Given {
+fn wrong(given: PersonaliseRequestText, words: &[u8]) -> PersonaliseRequestText {
     complain(b"personalise: line ");
     io::print_decimal(STDERR_FILENO, given.number as u64);
     complain(b": ");
@@ -178,7 +178,7 @@ fn wrong(given: Given, words: &[u8]) -> Given {
 }
 
 // Whether no line was wrong and each was there; the first that is absent is reported at the line after the last.
-pub fn is_whole(given: Given) -> bool {
+pub fn check_request_and_print_missing(given: PersonaliseRequestText) -> bool {
     if given.wrong {
         return false;
     }
@@ -187,7 +187,7 @@ pub fn is_whole(given: Given) -> bool {
         && is_there(given, given.placements, b"expected placements HEX; the file ends")
 }
 
-fn is_there(given: Given, part: Part, words: &[u8]) -> bool {
+fn is_there(given: PersonaliseRequestText, part: RequestPartGiven, words: &[u8]) -> bool {
     if !part.there {
         wrong(given, words);
     }

@@ -1,16 +1,16 @@
 // The bits that are set in 82, 95, 9F07 and DF811B, a line each, in words (Book C-2, A.1.16, A.1.170, A.1.23
 // and A.1.91).
-use crate::table::words;
-use crate::{margin, print_number, text};
+use crate::table::print_words_of_number;
+use crate::{print_indentation, print_number, print_text};
 
 // The bits of an object that has words for them; of any other object nothing.
-pub fn bit_lines(tag: u32, value: &[u8], levels: usize) {
+pub fn print_bit_lines(tag: u32, value: &[u8], levels: usize) {
     match tag {
         0x82 => bytes_of(tag, value, levels),
         0x95 => bytes_of(tag, value, levels),
         0x9F07 => bytes_of(tag, value, levels),
         0xDF811B => bytes_of(tag, value, levels),
-        _ => text(b""),
+        _ => print_text(b""),
     }
 }
 
@@ -40,14 +40,14 @@ fn bit_of(tag: u32, byte: usize, bit: usize, set: u8, levels: usize) {
     if set == 0 {
         return;
     }
-    margin(levels);
-    text(b"byte ");
+    print_indentation(levels);
+    print_text(b"byte ");
     print_number(byte);
-    text(b" b");
+    print_text(b" b");
     print_number(bit);
-    text(b": ");
+    print_text(b": ");
     meaning(tag, byte, bit);
-    text(b"\n");
+    print_text(b"\n");
 }
 
 fn meaning(tag: u32, byte: usize, bit: usize) {
@@ -61,7 +61,7 @@ fn meaning(tag: u32, byte: usize, bit: usize) {
 
 // The words of a bit, from a table whose numbers have the byte for the first digit and the bit for the second.
 fn bit_words(byte: usize, bit: usize, table: &[u8]) {
-    words(two_digits(byte, bit), table, b"RFU");
+    print_words_of_number(two_digits(byte, bit), table, b"RFU");
 }
 
 // The number of two hexadecimal digits; 0 where one of them is none.
@@ -94,7 +94,7 @@ fn aip(byte: usize, bit: usize) {
 }
 
 // The name of a bit of the Terminal Verification Results, by its number: 0 is byte 1 b8, 39 is byte 5 b1.
-pub fn result_name(bit: usize) {
+pub fn print_tvr_bit_name(bit: usize) {
     result(bit / 8 + 1, 8 - bit % 8);
 }
 

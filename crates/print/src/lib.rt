@@ -8,11 +8,11 @@ mod table;
 pub mod tree;
 
 
-use crate::table::decimal_words;
+use crate::table::print_words_of_decimal;
 use session_record::{AwaitedResponse, CallResult, Outcome, OutcomeParameters, Phase, Reply};
 
 // Text, as it is.
-pub fn text(s: &[u8]) {
+pub fn print_text(s: &[u8]) {
     io::write_all(1, s);
 }
 
@@ -33,7 +33,7 @@ pub fn print_number(n: usize) {
 }
 
 // Bytes, two digits each, a space before each.
-pub fn bytes(s: &[u8]) {
+pub fn print_bytes(s: &[u8]) {
     let mut i = 0;
     while i < s.len() {
         io::write_all(1, b" ");
@@ -43,22 +43,22 @@ pub fn bytes(s: &[u8]) {
 }
 
 // A reply, and a new line: a command with its bytes, an outcome with its reason, or a refusal.
-pub fn reply(reply: Reply, buffer: &[u8]) {
+pub fn print_reply(reply: Reply, buffer: &[u8]) {
     let answer = reply.answer;
     answered(answer, buffer);
-    text(b"\n");
+    print_text(b"\n");
 }
 
 // The same, and after an outcome the CVM in words.
-pub fn reply_with_cvm(reply: Reply, buffer: &[u8]) {
+pub fn print_reply_with_cvm(reply: Reply, buffer: &[u8]) {
     let answer = reply.answer;
     answered(answer, buffer);
     if let CallResult::Outcome(end) = answer {
-        text(b" method ");
+        print_text(b" method ");
         numbered(end.cvm);
         cvm_words(end.cvm);
     }
-    text(b"\n");
+    print_text(b"\n");
 }
 
 // What a call returns, by its numbers.
@@ -69,13 +69,13 @@ fn answered(answer: CallResult, buffer: &[u8]) {
         }
         CallResult::Outcome(end) => {
             let outcome = end.outcome;
-            text(b"outcome ");
+            print_text(b"outcome ");
             print_number(basics::widen(session_record::outcome_number(outcome)));
-            text(b" reason ");
+            print_text(b" reason ");
             print_number(basics::widen(end.reason));
         }
         CallResult::Refused(refusal) => {
-            text(b"refused ");
+            print_text(b"refused ");
             print_number(basics::widen(refusal.number));
         }
     }
@@ -83,9 +83,9 @@ fn answered(answer: CallResult, buffer: &[u8]) {
 
 // A command: the front of the buffer.
 fn command(size: usize, buffer: &[u8]) {
-    text(b"command");
+    print_text(b"command");
     if size <= buffer.len() {
-        bytes(&buffer[..size]);
+        print_bytes(&buffer[..size]);
     }
 }
 
@@ -108,19 +108,19 @@ fn digit(n: u8) -> u8 {
 // ---- in words
 
 // A reply in words, with the count of commands handed out and the transaction limit, and a new line.
-pub fn reply_in_words(reply: Reply, buffer: &[u8]) {
+pub fn print_reply_in_words(reply: Reply, buffer: &[u8]) {
     let answer = reply.answer;
-    answer_in_words(answer, buffer);
+    print_result_in_words(answer, buffer);
     let session = reply.session;
-    text(b", count ");
-    print_number(basics::widen(session_record::count(session)));
+    print_text(b", count ");
+    print_number(basics::widen(session_record::command_count(session)));
     let phase = session.phase;
-    held_limit(phase);
-    text(b"\n");
+    print_transaction_limit_of_phase(phase);
+    print_text(b"\n");
 }
 
 // The transaction limit after a comma, where a phase holds one: an amount's twelve digits as a number.
-pub fn held_limit(phase: Phase) {
+pub fn print_transaction_limit_of_phase(phase: Phase) {
     if let Phase::Waiting(awaited) = phase {
         awaited_limit(awaited);
     }
@@ -128,7 +128,7 @@ pub fn held_limit(phase: Phase) {
 
 fn awaited_limit(awaited: AwaitedResponse) {
     match awaited {
-        AwaitedResponse::Gpo => text(b""),
+        AwaitedResponse::Gpo => print_text(b""),
         AwaitedResponse::Record(place) => limit(place.limit),
         AwaitedResponse::Cryptogram(asked) => limit(asked.limit),
         AwaitedResponse::Checksum(checksum) => limit(checksum.limit),
@@ -136,13 +136,13 @@ fn awaited_limit(awaited: AwaitedResponse) {
 }
 
 fn limit(amount: u64) {
-    text(b", limit ");
+    print_text(b", limit ");
     io::print_decimal(1, amount);
 }
 
 // What a call returns, in words: a command by its name with its bytes, an outcome with its reason and the CVM,
 // or a refusal.
-pub fn answer_in_words(answer: CallResult, buffer: &[u8]) {
+pub fn print_result_in_words(answer: CallResult, buffer: &[u8]) {
     match answer {
         CallResult::Command(issued) => {
             named_command(issued.size, buffer);
@@ -151,7 +151,7 @@ pub fn answer_in_words(answer: CallResult, buffer: &[u8]) {
             ending(end);
         }
         CallResult::Refused(refusal) => {
-            text(b"refused ");
+            print_text(b"refused ");
             numbered(refusal.number);
             refusal_words(refusal.number);
         }
@@ -160,71 +160,71 @@ pub fn answer_in_words(answer: CallResult, buffer: &[u8]) {
 
 // A command by its name, with its bytes: the front of the buffer.
 fn named_command(size: usize, buffer: &[u8]) {
-    text(b"command ");
+    print_text(b"command ");
     if size <= buffer.len() {
         let sent = &buffer[..size];
         command_name(sent);
-        text(b":");
-        bytes(sent);
+        print_text(b":");
+        print_bytes(sent);
     }
 }
 
 // The name of a command, by its instruction byte (Book C-2, chapter 5).
 fn command_name(sent: &[u8]) {
     match basics::byte_at(sent, 1) {
-        0xA8 => text(b"GET PROCESSING OPTIONS"),
+        0xA8 => print_text(b"GET PROCESSING OPTIONS"),
         0xB2 => record_name(basics::byte_at(sent, 2), basics::byte_at(sent, 3)),
         0xAE => cryptogram_name(basics::byte_at(sent, 2)),
-        0x2A => text(b"COMPUTE CRYPTOGRAPHIC CHECKSUM"),
-        _ => text(b"unknown"),
+        0x2A => print_text(b"COMPUTE CRYPTOGRAPHIC CHECKSUM"),
+        _ => print_text(b"unknown"),
     }
 }
 
 // A record by its number, P1, and its file, the top five bits of P2.
 fn record_name(p1: u8, p2: u8) {
-    text(b"READ RECORD file ");
+    print_text(b"READ RECORD file ");
     print_number(basics::widen(p2 / 8));
-    text(b" record ");
+    print_text(b" record ");
     print_number(basics::widen(p1));
 }
 
 // A cryptogram by what P1 requests.
 fn cryptogram_name(p1: u8) {
     match p1 {
-        0x00 => text(b"GENERATE AC decline"),
-        0x40 => text(b"GENERATE AC offline"),
-        0x80 => text(b"GENERATE AC online"),
-        _ => text(b"GENERATE AC"),
+        0x00 => print_text(b"GENERATE AC decline"),
+        0x40 => print_text(b"GENERATE AC offline"),
+        0x80 => print_text(b"GENERATE AC online"),
+        _ => print_text(b"GENERATE AC"),
     }
 }
 
 // An outcome, its reason and the CVM, each by its number and in words.
 fn ending(end: OutcomeParameters) {
     let outcome = end.outcome;
-    outcome_in_words(outcome, end.reason);
-    text(b", method ");
+    print_outcome_in_words(outcome, end.reason);
+    print_text(b", method ");
     numbered(end.cvm);
     cvm_words(end.cvm);
 }
 
 // An outcome and its reason, each by its number and in words.
-pub fn outcome_in_words(outcome: Outcome, reason: u8) {
-    text(b"outcome ");
+pub fn print_outcome_in_words(outcome: Outcome, reason: u8) {
+    print_text(b"outcome ");
     numbered(session_record::outcome_number(outcome));
     outcome_words(outcome);
-    text(b", reason ");
+    print_text(b", reason ");
     numbered(reason);
-    reason_words(reason);
+    print_reason_words(reason);
 }
 
 // A number and a space.
 fn numbered(n: u8) {
     print_number(basics::widen(n));
-    text(b" ");
+    print_text(b" ");
 }
 
 fn outcome_words(outcome: Outcome) {
-    decimal_words(
+    print_words_of_decimal(
         session_record::outcome_number(outcome),
         b"
      0 approved
@@ -236,8 +236,8 @@ fn outcome_words(outcome: Outcome) {
 }
 
 // A reason in words.
-pub fn reason_words(reason: u8) {
-    decimal_words(
+pub fn print_reason_words(reason: u8) {
+    print_words_of_decimal(
         reason,
         b"
      0 none
@@ -257,7 +257,7 @@ pub fn reason_words(reason: u8) {
 
 // The CVMs by their numbers (Book C-2, A.1.117; 4 is the kernel's own).
 fn cvm_words(number: u8) {
-    decimal_words(
+    print_words_of_decimal(
         number,
         b"
      0 no CVM
@@ -270,7 +270,7 @@ fn cvm_words(number: u8) {
 }
 
 fn refusal_words(number: u8) {
-    decimal_words(
+    print_words_of_decimal(
         number,
         b"
     20 more than 1,024 start bytes, or other than whole primitive objects
@@ -285,15 +285,15 @@ fn refusal_words(number: u8) {
 // ---- objects
 
 // The objects that a store holds: tag, name and value, a line each.
-pub fn objects(store: &[u8]) {
-    held(store, false);
+pub fn print_objects_without_bits(store: &[u8]) {
+    print_stored_objects(store, false);
 }
 
 // The same, with the bits in words where they are requested.
-pub fn held(store: &[u8], in_bits: bool) {
+pub fn print_stored_objects(store: &[u8], in_bits: bool) {
     let mut row: usize = 0;
     while row < dictionary::ROWS {
-        if store::is_there(store, row) {
+        if store::is_present(store, row) {
             held_object(dictionary::row_tag(row), store::value(store, row), in_bits);
         }
         row += 1;
@@ -301,40 +301,40 @@ pub fn held(store: &[u8], in_bits: bool) {
 }
 
 fn held_object(number: u32, value: &[u8], in_bits: bool) {
-    object(number, value);
+    print_object_line(number, value);
     if in_bits {
-        bits::bit_lines(number, value, 0);
+        bits::print_bit_lines(number, value, 0);
     }
 }
 
 // A margin of four spaces and two more for each level, at most five.
-pub fn margin(levels: usize) {
+pub fn print_indentation(levels: usize) {
     match levels {
-        0 => text(b"    "),
-        1 => text(b"      "),
-        2 => text(b"        "),
-        3 => text(b"          "),
-        4 => text(b"            "),
-        _ => text(b"              "),
+        0 => print_text(b"    "),
+        1 => print_text(b"      "),
+        2 => print_text(b"        "),
+        3 => print_text(b"          "),
+        4 => print_text(b"            "),
+        _ => print_text(b"              "),
     }
 }
 
 // A tag and its name.
-pub fn named(number: u32) {
+pub fn print_tag_and_name(number: u32) {
     print_tag(number);
-    text(b" ");
-    names::name(number);
+    print_text(b" ");
+    names::print_tag_name(number);
 }
 
 // One object, and a new line.
-pub fn object(number: u32, value: &[u8]) {
-    named(number);
-    text(b":");
-    bytes(value);
+pub fn print_object_line(number: u32, value: &[u8]) {
+    print_tag_and_name(number);
+    print_text(b":");
+    print_bytes(value);
     if value.len() == 0 {
-        text(b" empty");
+        print_text(b" empty");
     }
-    text(b"\n");
+    print_text(b"\n");
 }
 
 // A tag in hexadecimal digits.

@@ -1,10 +1,10 @@
 // Written by bin/dictionary from dictionary.tsv: change that table, and run it again.
 //
 // The names of data objects and of templates (Book C-2, annex A). A function has the tags up to the number in its name.
-use crate::table::words;
+use crate::table::print_words_of_number;
 
 // The name of a tag.
-pub fn name(tag: u32) {
+pub fn print_tag_name(tag: u32) {
     if tag < 0x6000 {
         to_5fff(tag);
     } else if tag < 0x9F40 {
@@ -17,7 +17,7 @@ pub fn name(tag: u32) {
 }
 
 fn to_5fff(tag: u32) {
-    words(
+    print_words_of_number(
         tag,
         b"
     50 Application Label
@@ -54,7 +54,7 @@ fn to_5fff(tag: u32) {
 }
 
 fn to_9f3f(tag: u32) {
-    words(
+    print_words_of_number(
         tag,
         b"
   9F01 Acquirer Identifier
@@ -93,7 +93,7 @@ fn to_9f3f(tag: u32) {
 }
 
 fn to_ffff(tag: u32) {
-    words(
+    print_words_of_number(
         tag,
         b"
   9F40 Additional Terminal Capabilities
@@ -152,7 +152,7 @@ fn to_ffff(tag: u32) {
 }
 
 fn private(tag: u32) {
-    words(
+    print_words_of_number(
         tag,
         b"
 DF8101 DS Summary 2

@@ -1,30 +1,30 @@
 // Words from a table that is text: a line for each number, with its hexadecimal digits at the right of six places, a
 // space and its words. A new line is before each line, and none after the last.
-use crate::{part, text};
+use crate::{part, print_text};
 
 ghost use Prim.Native.Nat.{_<_};
 
 const NEW_LINE: u8 = 10;
 
 // The words of a number; others where the table has no line for it.
-pub fn words(number: u32, table: &[u8], other: &[u8]) {
+pub fn print_words_of_number(number: u32, table: &[u8], other: &[u8]) {
     let mut i = 0;
     while i < table.len() {
         if table[i] == NEW_LINE {
             let line = &table[i..];
             if number_of(line) == number {
-                text(part(line, 8, end_of(line)));
+                print_text(part(line, 8, end_of(line)));
                 return;
             }
         }
         i += 1;
     }
-    text(other);
+    print_text(other);
 }
 
 // The same by a number's decimal digits, from a table that has those; unknown where it has no line for it.
-pub fn decimal_words(number: u8, table: &[u8]) {
-    words(basics::widen32(number / 10) * 16 + basics::widen32(number % 10), table, b"unknown");
+pub fn print_words_of_decimal(number: u8, table: &[u8]) {
+    print_words_of_number(basics::widen32(number / 10) * 16 + basics::widen32(number % 10), table, b"unknown");
 }
 
 // The number in the six places after a new line.

@@ -1,13 +1,13 @@
 // The objects of a card's answer, without its status bytes, as an indented tree, and the position of the first that
 // cannot be read (document 01, "Reading an answer").
 //
-// `walked` goes through the bytes in order. What is next is `tlv::next`'s matter; the ends of the templates that are
-// open are in an array. Within a template a 00 where a tag would start is skipped (document 02, Item 6).
-use crate::{bits, bytes, margin, named, object, part, text};
-use tlv::{Following, ObjectFront, TlvHeader};
+// `walked` goes through the bytes in order. What is next is `tlv::next_in_template`'s matter; the ends of the templates
+// that are open are in an array. Within a template a 00 where a tag would start is skipped (document 02, Item 6).
+use crate::{bits, print_bytes, print_indentation, print_tag_and_name, print_object_line, part, print_text};
+use tlv::{NextInTemplate, ObjectFront, TlvHeader};
 
 // What is shown: the tree, and the bits of its objects in words.
-pub struct View {
+pub struct TreeView {
     pub tree: bool,
     pub bits: bool,
 }
@@ -28,7 +28,7 @@ const LEVELS: usize = 4;
 
 // A walk: the place that is next, counted from 0, how many templates are open, where each ends, and how the walk
 // ended.
-pub struct Walk {
+pub struct TreeWalk {
     pub at: usize,
     open: usize,
     ends: [usize; LEVELS],
@@ -36,8 +36,8 @@ pub struct Walk {
 }
 
 // The whole walk. A proved loop has to end, so it counts its iterations from a number that no answer uses up.
-pub fn walked(body: &[u8], view: View) -> Walk {
-    let mut w = Walk {
+pub fn print_tree_walk(body: &[u8], view: TreeView) -> TreeWalk {
+    let mut w = TreeWalk {
         at: 0,
         open: 0,
         ends: [0; LEVELS],
@@ -52,7 +52,7 @@ pub fn walked(body: &[u8], view: View) -> Walk {
 }
 
 // The next object, or the end of the template that is open.
-fn step(w: Walk, body: &[u8], view: View) -> Walk {
+fn step(w: TreeWalk, body: &[u8], view: TreeView) -> TreeWalk {
     let at = w.at;
     let rest = part(body, at, end_of(w, body.len()));
     if w.open == 0 {
@@ -61,16 +61,16 @@ fn step(w: Walk, body: &[u8], view: View) -> Walk {
     if is_padded(rest) {
         return moved(w, plus(at, 1));
     }
-    let following = tlv::next(rest);
+    let following = tlv::next_in_template(rest);
     match following {
-        Following::End => closed(w),
-        Following::Malformed => stopped(w, BROKEN, rest, view),
-        Following::Inner(h) => met(w, h, rest, view),
+        NextInTemplate::End => closed(w),
+        NextInTemplate::Malformed => stopped(w, BROKEN, rest, view),
+        NextInTemplate::Inner(h) => met(w, h, rest, view),
     }
 }
 
 // The outer object, or what follows it.
-fn outer(w: Walk, rest: &[u8], view: View) -> Walk {
+fn outer(w: TreeWalk, rest: &[u8], view: TreeView) -> TreeWalk {
     if 0 < w.at {
         return behind(w, rest, view);
     }
@@ -90,7 +90,7 @@ fn is_padded(s: &[u8]) -> bool {
 }
 
 // Where the innermost open template ends; the answer's end where none is open.
-fn end_of(w: Walk, all: usize) -> usize {
+fn end_of(w: TreeWalk, all: usize) -> usize {
     let ends = w.ends;
     let open = w.open;
     if open == 0 {
@@ -103,7 +103,7 @@ fn end_of(w: Walk, all: usize) -> usize {
 }
 
 // No byte may follow the outer object.
-fn behind(w: Walk, rest: &[u8], view: View) -> Walk {
+fn behind(w: TreeWalk, rest: &[u8], view: TreeView) -> TreeWalk {
     if rest.len() == 0 {
         return ending(w, WHOLE);
     }
@@ -111,7 +111,7 @@ fn behind(w: Walk, rest: &[u8], view: View) -> Walk {
 }
 
 // The contents are used up.
-fn closed(w: Walk) -> Walk {
+fn closed(w: TreeWalk) -> TreeWalk {
     let mut out = w;
     if 0 < w.open {
         out.open = w.open - 1;
@@ -120,7 +120,7 @@ fn closed(w: Walk) -> Walk {
 }
 
 // An object: a template is opened, unless it is on the fifth level; past a primitive object the walk goes on.
-fn met(w: Walk, h: TlvHeader, rest: &[u8], view: View) -> Walk {
+fn met(w: TreeWalk, h: TlvHeader, rest: &[u8], view: TreeView) -> TreeWalk {
     let at = w.at;
     let start = plus(at, h.start);
     let end = plus(start, h.len);
@@ -149,19 +149,19 @@ fn plus(a: usize, b: usize) -> usize {
 
 // ---- the walk, with one thing changed
 
-fn moved(w: Walk, at: usize) -> Walk {
+fn moved(w: TreeWalk, at: usize) -> TreeWalk {
     let mut out = w;
     out.at = at;
     out
 }
 
-fn ending(w: Walk, how: u8) -> Walk {
+fn ending(w: TreeWalk, how: u8) -> TreeWalk {
     let mut out = w;
     out.ended = how;
     out
 }
 
-fn opened(w: Walk, start: usize, end: usize) -> Walk {
+fn opened(w: TreeWalk, start: usize, end: usize) -> TreeWalk {
     let mut out = w;
     let open = w.open;
     if open < LEVELS {
@@ -173,28 +173,28 @@ fn opened(w: Walk, start: usize, end: usize) -> Walk {
 }
 
 // The walk stops; the bytes that it does not reach are shown.
-fn stopped(w: Walk, how: u8, rest: &[u8], view: View) -> Walk {
+fn stopped(w: TreeWalk, how: u8, rest: &[u8], view: TreeView) -> TreeWalk {
     if view.tree && rest.len() != 0 {
-        margin(w.open);
-        text(b"not read:");
-        bytes(rest);
-        text(b"\n");
+        print_indentation(w.open);
+        print_text(b"not read:");
+        print_bytes(rest);
+        print_text(b"\n");
     }
     ending(w, how)
 }
 
 // ---- lines
 
-fn primitive(tag: u32, value: &[u8], levels: usize, view: View) {
-    margin(levels);
-    object(tag, value);
+fn primitive(tag: u32, value: &[u8], levels: usize, view: TreeView) {
+    print_indentation(levels);
+    print_object_line(tag, value);
     if view.bits {
-        bits::bit_lines(tag, value, plus(levels, 1));
+        bits::print_bit_lines(tag, value, plus(levels, 1));
     }
 }
 
 fn template(tag: u32, levels: usize) {
-    margin(levels);
-    named(tag);
-    text(b"\n");
+    print_indentation(levels);
+    print_tag_and_name(tag);
+    print_text(b"\n");
 }

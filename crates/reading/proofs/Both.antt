@@ -10,7 +10,7 @@ use Rattle.reading.specs.declared.ResponseVerdict.the-variants.{Accepted
 use Rattle.reading.specs.declared.Reading.{Reading}
 use Rattle.reading.specs.Answer.{verdictNumber, ReadingOutcome, readAnswer}
 use Rattle.reading.specs.Inner.{readingOf}
-use Rattle.reading.specs.Both.{AnswerRead, ReadersAgree}
+use Rattle.reading.specs.Both.{ReadAnswerPromises, ReadersAgree}
 use Rattle.reading.proofs.Stages.{Whole}
 
 verdictOf : ℕ → ResponseVerdict
@@ -27,7 +27,7 @@ verdict-is Malformed = refl
 verdict-is NotAllowed = refl
 
 module _ (a : Awaited) (s b : List ℕ) (r : Reading) (c : List ℕ) (p : Whole a s b r c) where
-  pub answered : AnswerRead a s b r c
+  pub answered : ReadAnswerPromises a s b r c
   answered = record { given = p .0; sized = p .1 .0; half = p .1 .1 .0; tree = p .1 .1 .1 }
 
   pub agree : (d : List ℕ) (q : Reading) (e : List ℕ) → Whole a s d q e → b ≡ d

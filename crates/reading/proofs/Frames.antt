@@ -14,10 +14,10 @@ use lib.Seq.{getD-set-same, getD-set-other}
 use Rattle.basics.proofs.Order.{equal-or-not}
 use Rattle.tlv.specs.declared.TlvHeader.{TlvHeader}
 use Rattle.tlv.specs.Tree.{parseTree}
-use Rattle.reading.specs.declared.Walked.{Walked}
-use Rattle.reading.specs.declared.Walked.the-variants.{Whole, Broken}
+use Rattle.reading.specs.declared.TemplateWalkResult.{TemplateWalkResult}
+use Rattle.reading.specs.declared.TemplateWalkResult.the-variants.{Whole, Broken}
 use Rattle.reading.specs.Taking.{PrimitiveItem}
-use Rattle.reading.specs.Items.{tally, itemsIn, WalkFits, HasListed, ThenLists, Walks}
+use Rattle.reading.specs.Items.{tally, unpackedFirstItems, TemplateWalkHasRoom, WalkListedItems, ListsTreeThen, WalkListsTree}
 use Rattle.reading.proofs.Items.{part}
 use Rattle.reading.proofs.Runs.{Run, Next, has-listed, ended, bounds, small, deep, entered, node-same}
 
@@ -32,9 +32,9 @@ abbrev pub frame : List ℕ → ℕ → Frame
 frame s t = record { bytes = s; tag = t }
 
 -- the innermost first, three levels of templates inside the outer one, which is the last: r is reported and l is left
-unfoldable pub Left : List ℕ → Walked → List ℕ → List Frame → ℕ → List PrimitiveItem → Type 0
-Left s r l [] n is = HasListed s l r n is
-Left s r l (f ∷ fs) n is = ThenLists (f .tag) (parseTree (3 - length fs) (f .bytes)) r (Left s r l fs) n is
+unfoldable pub Left : List ℕ → TemplateWalkResult → List ℕ → List Frame → ℕ → List PrimitiveItem → Type 0
+Left s r l [] n is = WalkListedItems s l r n is
+Left s r l (f ∷ fs) n is = ListsTreeThen (f .tag) (parseTree (3 - length fs) (f .bytes)) r (Left s r l fs) n is
 
 -- ---- the open templates by the arrays of their ends and tags, k of them, of which the innermost is left from a on
 
@@ -78,18 +78,18 @@ module _ (ends tags : List ℕ) (i e t : ℕ) where
 -- ---- the invariant, and each iteration of the walk
 
 -- after n objects, k of them listed in l, at a place of the innermost template; All is what the whole walk promises
-pub record Reached (s : List ℕ) (e : ℕ) (All : Walked → List ℕ → Type 0) (ends around : List ℕ) (depth at n k : ℕ)
+pub record Reached (s : List ℕ) (e : ℕ) (All : TemplateWalkResult → List ℕ → Type 0) (ends around : List ℕ) (depth at n k : ℕ)
     (l : List ℕ) : Type 0 where
   pub ends-four : length ends ≡ 4
   pub around-four : length around ≡ 4
   pub few : depth < 4
   pub nested : Nested ends e depth (getD ends depth 0)
   pub tags : (i : ℕ) → getD around i 0 < 0x1000000
-  pub fits : WalkFits s at e n k l
+  pub fits : TemplateWalkHasRoom s at e n k l
   pub before : at ≤ getD ends depth 0
-  pub same : (r : Walked) (l′ : List ℕ)
+  pub same : (r : TemplateWalkResult) (l′ : List ℕ)
     → Left s r l′ (frame (part s at (getD ends depth 0)) (getD around depth 0) ∷ opened s ends around depth
-        (getD ends depth 0)) n (itemsIn s k l)
+        (getD ends depth 0)) n (unpackedFirstItems s k l)
     → All r l′
 
 -- the measure of the walk: what is left of the bytes, twice, and the open levels
@@ -104,8 +104,8 @@ four-small t (suc (suc (suc zero))) h = h
 four-small t (suc (suc (suc (suc i)))) h = omega arith
 
 -- at the front the outer template is open, and it is the one object
-pub begin : (s : List ℕ) (a e tag : ℕ) (l : List ℕ) → WalkFits s a e 1 0 l → tag < 0x1000000
-    → Reached s e (Walks s tag (parseTree 3 (part s a e)) 1 0 l) (replicate 4 e) (replicate 4 tag) 0 a 1 0 l
+pub begin : (s : List ℕ) (a e tag : ℕ) (l : List ℕ) → TemplateWalkHasRoom s a e 1 0 l → tag < 0x1000000
+    → Reached s e (WalkListsTree s tag (parseTree 3 (part s a e)) 1 0 l) (replicate 4 e) (replicate 4 tag) 0 a 1 0 l
 unfolding opened Nested Left
 begin s a e tag l w t = record {
   ends-four = refl;
@@ -118,7 +118,7 @@ begin s a e tag l w t = record {
   same = λ r l′ h. h;
 }
 
-module _ {s : List ℕ} {e : ℕ} {All : Walked → List ℕ → Type 0} {ends around : List ℕ} {depth at n k : ℕ} {l : List ℕ}
+module _ {s : List ℕ} {e : ℕ} {All : TemplateWalkResult → List ℕ → Type 0} {ends around : List ℕ} {depth at n k : ℕ} {l : List ℕ}
     (w : Reached s e All ends around depth at n k l) where
   -- the innermost open template: its end, its tag, and what is open around it
   abbrev stop : ℕ
@@ -130,7 +130,7 @@ module _ {s : List ℕ} {e : ℕ} {All : Walked → List ℕ → Type 0} {ends a
   abbrev outside : List Frame
   outside = opened s ends around depth stop
 
-  abbrev K : Walked → List ℕ → ℕ → List PrimitiveItem → Type 0
+  abbrev K : TemplateWalkResult → List ℕ → ℕ → List PrimitiveItem → Type 0
   K r l′ = Left s r l′ outside
 
   -- it ends inside the contents
@@ -166,7 +166,7 @@ module _ {s : List ℕ} {e : ℕ} {All : Walked → List ℕ → Type 0} {ends a
     unfolding opened Left
     done q =
         ended run (omega arith) (Whole (tally n k)) l
-        (subst (λ (d : ℕ). Left s (Whole (tally n k)) l (opened s ends around d stop) n (itemsIn s k l)) (sym q)
+        (subst (λ (d : ℕ). Left s (Whole (tally n k)) l (opened s ends around d stop) n (unpackedFirstItems s k l)) (sym q)
             (has-listed (w .fits)))
 
     module _ (q : depth ≡ 0 → ⊥) where
@@ -192,7 +192,7 @@ module _ {s : List ℕ} {e : ℕ} {All : Walked → List ℕ → Type 0} {ends a
         tags = w .tags;
         fits = w .fits;
         before = omega arith;
-        same = λ r l′ h. ended run (omega arith) r l′ (subst (λ (fs : List Frame). Left s r l′ fs n (itemsIn s k l))
+        same = λ r l′ h. ended run (omega arith) r l′ (subst (λ (fs : List Frame). Left s r l′ fs n (unpackedFirstItems s k l))
             (sym opened-out) h);
       }
 
@@ -258,10 +258,10 @@ module _ {s : List ℕ} {e : ℕ} {All : Walked → List ℕ → Type 0} {ends a
             before = rw end-is (omega arith);
             same = λ r l′ g.
                 node-same x p (λ y. omega (arith, w .few)) r l′
-                (subst (λ (j : ℕ). ThenLists (h .tag) (parseTree j (part s from beyond)) r
-                    (ThenLists inmost (parseTree (3 - length outside) (part s beyond stop)) r (K r l′)) (n + 1)
-                    (itemsIn s k l)) d
+                (subst (λ (j : ℕ). ListsTreeThen (h .tag) (parseTree j (part s from beyond)) r
+                    (ListsTreeThen inmost (parseTree (3 - length outside) (part s beyond stop)) r (K r l′)) (n + 1)
+                    (unpackedFirstItems s k l)) d
                 (subst (λ (fs : List Frame). Left s r l′ (frame (part s from beyond) (h .tag) ∷ fs) (n + 1)
-                    (itemsIn s k l)) opened-in
+                    (unpackedFirstItems s k l)) opened-in
                 (rw (tag-is, end-is) at g)));
           }

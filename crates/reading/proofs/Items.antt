@@ -1,5 +1,5 @@
 -- Objects in numbers, on lists and numbers: the laws of packing, a part of the bytes and the object in it, and what one
--- step of a walk does to the list and to what the walk must find (`WalkFits`).
+-- step of a walk does to the list and to what the walk must find (`TemplateWalkHasRoom`).
 -- Assumes nothing.
 use mathlib.Core.Path.{_≡_, refl, sym, ap, ap₂, _∙_}
 use mathlib.Core.List.{List, [], _∷_, _++_}
@@ -8,7 +8,7 @@ use native.Mathlib.Numerals.{add-one}
 use native.Mathlib.Omega.{arith}
 use lib.ListN.{length, getD, set, take, drop, length-take, length-drop, length-set}
 use lib.Seq.{take-nil, take-take, take-suc-set, drop-drop, drop-cons, getD-drop, length-take-le}
-use Rattle.basics.specs.Number.{bigEndian}
+use Rattle.basics.specs.Number.{bigEndianNumber}
 use Rattle.basics.proofs.Laws.{if-ind}
 use Rattle.tlv.specs.declared.Tag.{Tag}
 use Rattle.tlv.specs.declared.TagFront.{TagFront}
@@ -23,8 +23,8 @@ use Rattle.tlv.specs.Length.{lengthAt}
 use Rattle.tlv.specs.Object.{headerOf, headerWithLength, headerWithTag, headerValue, behindObject}
 use Rattle.tlv.proofs.Laws.{Bytes, contents-is, number-one, number-two, number-three, tag-fits, HeaderFits}
 use Rattle.reading.specs.Taking.{PrimitiveItem, primitiveItem}
-use Rattle.reading.specs.Items.{packedItem, itemTag, itemAround, valueStart, valueLength, valueIn, itemOf}
-use Rattle.reading.specs.Items.{mostItems, itemsOf, ValueInside, AllInside, itemsIn, WalkFits}
+use Rattle.reading.specs.Items.{packedItem, packedItemTag, packedItemTemplateTag, packedItemValueStart, packedItemValueLength, packedItemValueIn, unpackedItem}
+use Rattle.reading.specs.Items.{mostListedItems, unpackedItems, ItemValueInside, AllItemValuesInside, unpackedFirstItems, TemplateWalkHasRoom}
 
 -- ---- packing
 
@@ -32,40 +32,40 @@ module _ (t a p n : ℕ) (around : a < 0x1000000) (some : 1 ≤ p) (place : p �
   abbrev packed : ℕ
   packed = packedItem t a p n
 
-  pub unpacked : (itemTag packed ≡ t) × ((itemAround packed ≡ a) × ((valueStart packed ≡ p) × (valueLength packed ≡ n)))
+  pub unpacked : (packedItemTag packed ≡ t) × ((packedItemTemplateTag packed ≡ a) × ((packedItemValueStart packed ≡ p) × (packedItemValueLength packed ≡ n)))
   unpacked = (omega arith, (omega arith, (omega arith, omega arith)))
 
-  pub item-packed : (s : List ℕ) → itemOf s packed ≡ primitiveItem a t (take n (drop p s))
+  pub item-packed : (s : List ℕ) → unpackedItem s packed ≡ primitiveItem a t (take n (drop p s))
   item-packed s = rw (unpacked .0, unpacked .1 .0, unpacked .1 .1 .0, unpacked .1 .1 .1)
 
-  pub inside-packed : (s : List ℕ) → p + n ≤ length s → ValueInside s packed
+  pub inside-packed : (s : List ℕ) → p + n ≤ length s → ItemValueInside s packed
   inside-packed s h = rw (unpacked .1 .1 .0, unpacked .1 .1 .1) h
 
 -- the bytes that the code takes for a value
-pub code-value : (s : List ℕ) (x a n : ℕ) → a ≡ valueStart x → n ≡ valueLength x
-    → take (a + n - a) (drop a s) ≡ valueIn s x
+pub code-value : (s : List ℕ) (x a n : ℕ) → a ≡ packedItemValueStart x → n ≡ packedItemValueLength x
+    → take (a + n - a) (drop a s) ≡ packedItemValueIn s x
 code-value s x a n p q = contents-is s a n ∙ ap₂ (λ (i j : ℕ). take i (drop j s)) q p
 
 -- ---- lists
 
-pub items-join : (s xs ys : List ℕ) → itemsOf s (xs ++ ys) ≡ itemsOf s xs ++ itemsOf s ys
-unfolding itemsOf
+pub items-join : (s xs ys : List ℕ) → unpackedItems s (xs ++ ys) ≡ unpackedItems s xs ++ unpackedItems s ys
+unfolding unpackedItems
 items-join s [] ys = refl
-items-join s (x ∷ xs) ys = ap (λ (is : List PrimitiveItem). itemOf s x ∷ is) (items-join s xs ys)
+items-join s (x ∷ xs) ys = ap (λ (is : List PrimitiveItem). unpackedItem s x ∷ is) (items-join s xs ys)
 
-items-length : (s xs : List ℕ) → length (itemsOf s xs) ≡ length xs
-unfolding itemsOf
+items-length : (s xs : List ℕ) → length (unpackedItems s xs) ≡ length xs
+unfolding unpackedItems
 items-length s [] = refl
 items-length s (x ∷ xs) = ap suc (items-length s xs)
 
-pub items-count : (s : List ℕ) (k : ℕ) (l : List ℕ) → k ≤ length l → length (itemsIn s k l) ≡ k
+pub items-count : (s : List ℕ) (k : ℕ) (l : List ℕ) → k ≤ length l → length (unpackedFirstItems s k l) ≡ k
 items-count s k l h = items-length s (take k l) ∙ length-take-le k l h
 
-pub inside-join : (s xs ys : List ℕ) → AllInside s xs → AllInside s ys → AllInside s (xs ++ ys)
+pub inside-join : (s xs ys : List ℕ) → AllItemValuesInside s xs → AllItemValuesInside s ys → AllItemValuesInside s (xs ++ ys)
 inside-join s [] ys h i = i
 inside-join s (x ∷ xs) ys h i = (h .0, inside-join s xs ys (h .1) i)
 
-pub inside-at : (s xs : List ℕ) (i : ℕ) → AllInside s xs → i < length xs → ValueInside s (getD xs i 0)
+pub inside-at : (s xs : List ℕ) (i : ℕ) → AllItemValuesInside s xs → i < length xs → ItemValueInside s (getD xs i 0)
 inside-at s [] i h l = absurd (omega arith)
 inside-at s (x ∷ xs) zero h l = h .0
 inside-at s (x ∷ xs) (suc i) h l = inside-at s xs i (h .1) (omega arith)
@@ -75,11 +75,11 @@ module _ (s l : List ℕ) (k x : ℕ) (h : k < length l) where
   one-more : take (k + 1) (set l k x) ≡ take k l ++ (x ∷ [])
   one-more = rw (add-one k) (take-suc-set l k x h)
 
-  pub items-more : itemsIn s (k + 1) (set l k x) ≡ itemsIn s k l ++ (itemOf s x ∷ [])
-  unfolding itemsOf
-  items-more = ap (itemsOf s) one-more ∙ items-join s (take k l) (x ∷ [])
+  pub items-more : unpackedFirstItems s (k + 1) (set l k x) ≡ unpackedFirstItems s k l ++ (unpackedItem s x ∷ [])
+  unfolding unpackedItems
+  items-more = ap (unpackedItems s) one-more ∙ items-join s (take k l) (x ∷ [])
 
-  pub inside-more : AllInside s (take k l) → ValueInside s x → AllInside s (take (k + 1) (set l k x))
+  pub inside-more : AllItemValuesInside s (take k l) → ItemValueInside s x → AllItemValuesInside s (take (k + 1) (set l k x))
   inside-more i v = rw one-more (inside-join s (take k l) (x ∷ []) i (v, tt))
 
 -- ---- a part of the bytes, as the code makes it
@@ -144,7 +144,7 @@ module _ (s : List ℕ) (a e : ℕ) (ends : e ≤ length s) where
 
 -- ---- a tag of bytes is below 2^24
 
-small-number : (s : List ℕ) (k : ℕ) → Bytes s → k ≤ 3 → k ≤ length s → (k ≡ 0 → ⊥) → bigEndian (take k s) < 0x1000000
+small-number : (s : List ℕ) (k : ℕ) → Bytes s → k ≤ 3 → k ≤ length s → (k ≡ 0 → ⊥) → bigEndianNumber (take k s) < 0x1000000
 small-number s zero b h l n = absurd (n refl)
 small-number s (suc zero) b h l n = rw (number-one s) (omega (arith, b 0))
 small-number s (suc (suc zero)) b h l n = rw (number-two s l) (omega (arith, b 0, b 1))
@@ -172,10 +172,10 @@ tag-small s h b e = rw e at (small-tag s (tagAt s) b refl)
 
 -- ---- what a walk must find, one step on
 
-module _ {s : List ℕ} {a e n k : ℕ} {l : List ℕ} (w : WalkFits s a e n k l) where
+module _ {s : List ℕ} {a e n k : ℕ} {l : List ℕ} (w : TemplateWalkHasRoom s a e n k l) where
   module _ (b : ℕ) (ends : b ≤ e) where
     -- padding is passed
-    pub pass : a ≤ b → WalkFits s b e n k l
+    pub pass : a ≤ b → TemplateWalkHasRoom s b e n k l
     pass h = record {
       begins = ends;
       ends = w .ends;
@@ -188,7 +188,7 @@ module _ {s : List ℕ} {a e n k : ℕ} {l : List ℕ} (w : WalkFits s a e n k l
 
     module _ (two : a + 2 ≤ b) where
       -- a template is entered
-      pub enter : WalkFits s b e (n + 1) k l
+      pub enter : TemplateWalkHasRoom s b e (n + 1) k l
       enter = record {
         begins = ends;
         ends = w .ends;
@@ -199,11 +199,11 @@ module _ {s : List ℕ} {a e n k : ℕ} {l : List ℕ} (w : WalkFits s a e n k l
         inside = w .inside;
       }
 
-      pub has-room : k < mostItems
+      pub has-room : k < mostListedItems
       has-room = omega (arith, w .half, w .fewer)
 
       -- an object is listed
-      pub list : (x : ℕ) → ValueInside s x → WalkFits s b e (n + 1) (k + 1) (set l k x)
+      pub list : (x : ℕ) → ItemValueInside s x → TemplateWalkHasRoom s b e (n + 1) (k + 1) (set l k x)
       list x v = let m = has-room in record {
         begins = ends;
         ends = w .ends;
@@ -215,7 +215,7 @@ module _ {s : List ℕ} {a e n k : ℕ} {l : List ℕ} (w : WalkFits s a e n k l
       }
 
   -- a part of the contents alone
-  pub within : (c : ℕ) → a ≤ c → c ≤ e → WalkFits s a c n k l
+  pub within : (c : ℕ) → a ≤ c → c ≤ e → TemplateWalkHasRoom s a c n k l
   within c h i = record {
     begins = h;
     ends = omega (arith, w .ends);
@@ -226,5 +226,5 @@ module _ {s : List ℕ} {a e n k : ℕ} {l : List ℕ} (w : WalkFits s a e n k l
     inside = w .inside;
   }
 
-  pub items-listed : length (itemsIn s k l) ≡ k
+  pub items-listed : length (unpackedFirstItems s k l) ≡ k
   items-listed = items-count s k l (omega (arith, w .fewer, w .half, w .room))

@@ -10,36 +10,36 @@ use Prim.Native.Nat.{ℕ, _-_, _<_}
 use native.Mathlib.Omega.{arith}
 use lib.ListN.{length, take}
 use borrow.Author.Tests.{eqb-true}
-use Rattle.basics.specs.Number.{hasBit}
+use Rattle.basics.specs.Number.{hasBitOfWeight}
 use Rattle.basics.proofs.Laws.{if-ind, both-left, both-right}
 use Rattle.basics.proofs.Order.{equal-or-not}
 use Rattle.dictionary.specs.declared.RowFound.{RowFound}
 use Rattle.dictionary.specs.declared.RowFound.the-variants.{At, Unknown}
 use Rattle.dictionary.specs.Rows.{dictionaryRows, rowAt, findRow, rowCount, storeSize}
-use Rattle.dictionary.specs.Form.{fitsRow}
+use Rattle.dictionary.specs.Form.{lengthAndDigitsFitRow}
 use Rattle.dictionary.proofs.Find.{found}
 use Rattle.dictionary.proofs.Fit.{fits-length}
-use Rattle.store.specs.Place.{StoredValue, bytesOfValue, rowValue, isFree, putRow}
+use Rattle.store.specs.Place.{StoredValue, bytesOrEmptyIfAbsent, rowValue, isRowAbsentOrEmpty, putRow}
 use Rattle.store.proofs.Laws.{Fits, put-length, put-other}
 use Rattle.store.proofs.Rows.{rows-length, fits-row}
 use Rattle.reading.specs.declared.Awaited.{Awaited}
-use Rattle.reading.specs.Taking.{PrimitiveItem, cardMaySet, allowedInResponse, allowedNow, TakeState, takeState}
-use Rattle.reading.specs.Taking.{takeKnown, takeFound, takeItem, takeNext, takeAll}
-use Rattle.reading.specs.Answer.{ReadingOutcome, ResponseBody, responseBit, responseBody, bodyCount, bodyParts}
-use Rattle.reading.specs.Answer.{readParts, readTree, readBody, readAnswer}
+use Rattle.reading.specs.Taking.{PrimitiveItem, cardMaySet, rowAllowsValueFromCard, rowAllowsValueAndAbsentOrEmpty, StoringState, storingState}
+use Rattle.reading.specs.Taking.{storeKnownItem, storeItemOfRowFound, storeItem, storeNextItem, storeAllItems}
+use Rattle.reading.specs.Answer.{ReadingOutcome, ResponseBody, responseBit, parseResponseBody, bodyObjectCount, responseBodyItems}
+use Rattle.reading.specs.Answer.{readBodyItems, readParsedBody, readBody, readAnswer}
 
 -- an object that is put into row k of the store b, in an answer
 pub record Put (answer : ℕ) (b : List ℕ) (k : ℕ) (i : PrimitiveItem) : Type 0 where
   pub row : k < rowCount
   pub tag : rowAt k .tag ≡ i .tag
-  pub fits : fitsRow (rowAt k) (i .value) ≡ true
+  pub fits : lengthAndDigitsFitRow (rowAt k) (i .value) ≡ true
   pub card : cardMaySet (rowAt k) ≡ true
-  pub brought : hasBit (rowAt k .answers) answer ≡ true
-  pub free : isFree dictionaryRows b k ≡ true
+  pub brought : hasBitOfWeight (rowAt k .answers) answer ≡ true
+  pub free : isRowAbsentOrEmpty dictionaryRows b k ≡ true
 
 put-of : (answer : ℕ) (b : List ℕ) (i : PrimitiveItem) (k : ℕ) → findRow dictionaryRows (i .tag) ≡ At k
-    → allowedNow answer b k (i .around) (i .value) ≡ true → Put answer b k i
-unfolding allowedNow allowedInResponse
+    → rowAllowsValueAndAbsentOrEmpty answer b k (i .around) (i .value) ≡ true → Put answer b k i
+unfolding rowAllowsValueAndAbsentOrEmpty rowAllowsValueFromCard
 put-of answer b i k e a =
     let f = found dictionaryRows (i .tag) k e in
     let m = both-left _ _ a in
@@ -68,29 +68,29 @@ module _ (P : List ℕ → Type 0) (Q : PrimitiveItem → Type 0) (answer : ℕ)
   Holds b = (length b ≡ storeSize) × P b
 
   known-holds : (b : List ℕ) (i : PrimitiveItem) (k : ℕ) → findRow dictionaryRows (i .tag) ≡ At k → Q i → Holds b
-      → Holds (takeKnown answer b i k .store)
+      → Holds (storeKnownItem answer b i k .store)
   known-holds b i k e q h =
-      if-ind (λ (w : TakeState). Holds (w .store)) _ _ _ (λ s. h)
-      (λ s. if-ind (λ (w : TakeState). Holds (w .store)) _ _ _
+      if-ind (λ (w : StoringState). Holds (w .store)) _ _ _ (λ s. h)
+      (λ s. if-ind (λ (w : StoringState). Holds (w .store)) _ _ _
       (λ a. let p = put-of answer b i k e a in (sized answer b k i (h .0) p, step b k i (h .0) q p (h .1))) (λ a. h))
 
-  item-holds : (b : List ℕ) (i : PrimitiveItem) → Q i → Holds b → Holds (takeItem answer b i .store)
-  unfolding takeItem
+  item-holds : (b : List ℕ) (i : PrimitiveItem) → Q i → Holds b → Holds (storeItem answer b i .store)
+  unfolding storeItem
   item-holds b i q h = go (findRow dictionaryRows (i .tag)) refl
     where
-      go : (x : RowFound) → findRow dictionaryRows (i .tag) ≡ x → Holds (takeFound answer b i x .store)
+      go : (x : RowFound) → findRow dictionaryRows (i .tag) ≡ x → Holds (storeItemOfRowFound answer b i x .store)
       go Unknown e = h
       go (At k) e = known-holds b i k e q h
 
-  next-holds : (w : TakeState) (i : PrimitiveItem) → Q i → Holds (w .store) → Holds (takeNext answer w i .store)
-  unfolding takeNext
-  next-holds w i q h = if-ind (λ (v : TakeState). Holds (v .store)) _ _ _ (λ g. item-holds (w .store) i q h) (λ g. h)
+  next-holds : (w : StoringState) (i : PrimitiveItem) → Q i → Holds (w .store) → Holds (storeNextItem answer w i .store)
+  unfolding storeNextItem
+  next-holds w i q h = if-ind (λ (v : StoringState). Holds (v .store)) _ _ _ (λ g. item-holds (w .store) i q h) (λ g. h)
 
-  pub all-holds : (w : TakeState) (is : List PrimitiveItem) → All Q is → Holds (w .store)
-      → Holds (takeAll answer w is .store)
-  unfolding takeAll
+  pub all-holds : (w : StoringState) (is : List PrimitiveItem) → All Q is → Holds (w .store)
+      → Holds (storeAllItems answer w is .store)
+  unfolding storeAllItems
   all-holds w [] q h = h
-  all-holds w (i ∷ is) q h = all-holds (takeNext answer w i) is (q .1) (next-holds w i (q .0) h)
+  all-holds w (i ∷ is) q h = all-holds (storeNextItem answer w i) is (q .1) (next-holds w i (q .0) h)
 
 -- ---- a whole reading
 
@@ -108,22 +108,22 @@ module _ (P : List ℕ → Type 0) (a : Awaited)
   abbrev Good : List ℕ → Type 0
   Good b = (length b ≡ storeSize) × P b
 
-  parts-hold : (b : List ℕ) (n : ℕ) (x : Option (List PrimitiveItem)) → Good b → Good (readParts a b n x .store)
+  parts-hold : (b : List ℕ) (n : ℕ) (x : Option (List PrimitiveItem)) → Good b → Good (readBodyItems a b n x .store)
   parts-hold b n none h = h
   parts-hold b n (some is) h =
       if-ind (λ (o : ReadingOutcome). Good (o .store)) _ _ _
-          (λ g. all-holds P any (responseBit a) step (takeState true b) is (all-any is) h) (λ g. h)
+          (λ g. all-holds P any (responseBit a) step (storingState true b) is (all-any is) h) (λ g. h)
 
-  tree-holds : (b : List ℕ) (x : Option ResponseBody) → Good b → Good (readTree a b x .store)
+  tree-holds : (b : List ℕ) (x : Option ResponseBody) → Good b → Good (readParsedBody a b x .store)
   tree-holds b none h = h
-  tree-holds b (some body) h = parts-hold b (bodyCount body) (bodyParts a body) h
+  tree-holds b (some body) h = parts-hold b (bodyObjectCount body) (responseBodyItems a body) h
 
   pub read-holds : (b s : List ℕ) → Good b → Good (readAnswer a b s .store)
   unfolding readAnswer readBody
   read-holds b s h =
       let Q : ReadingOutcome → Type 0 = λ o. Good (o .store) in
       if-ind Q _ _ _
-          (λ l. if-ind Q _ _ _ (λ t. if-ind Q _ _ _ (λ r. tree-holds b (responseBody (take (length s - 2) s)) h)
+          (λ l. if-ind Q _ _ _ (λ t. if-ind Q _ _ _ (λ r. tree-holds b (parseResponseBody (take (length s - 2) s)) h)
           (λ r. h)) (λ t. h)) (λ l. h)
 
 -- ---- rows only ever gain a value
@@ -131,7 +131,7 @@ module _ (P : List ℕ → Type 0) (a : Awaited)
 -- a row of b that holds bytes holds the same in c
 pub record Grows (b c : List ℕ) : Type 0 where
   pub size : length c ≡ length b
-  pub kept : (k : ℕ) → (length (bytesOfValue (rowValue dictionaryRows b k)) ≡ 0 → ⊥)
+  pub kept : (k : ℕ) → (length (bytesOrEmptyIfAbsent (rowValue dictionaryRows b k)) ≡ 0 → ⊥)
       → rowValue dictionaryRows c k ≡ rowValue dictionaryRows b k
 
 -- from the store b₀ on
@@ -144,10 +144,10 @@ grows-on answer b₀ b k i l p g =
     fit : Fits dictionaryRows b k (i .value)
     fit = fits-row b k (i .value) l (p .row) (fits-length (rowAt k) (i .value) (p .fits) .1)
 
-    untouched : (j : ℕ) → (length (bytesOfValue (rowValue dictionaryRows b₀ j)) ≡ 0 → ⊥) → (j ≡ k) ⊎ (j ≡ k → ⊥)
+    untouched : (j : ℕ) → (length (bytesOrEmptyIfAbsent (rowValue dictionaryRows b₀ j)) ≡ 0 → ⊥) → (j ≡ k) ⊎ (j ≡ k → ⊥)
         → rowValue dictionaryRows (putRow dictionaryRows b k (i .value)) j ≡ rowValue dictionaryRows b₀ j
     untouched j n (inl e) =
-        absurd (n (ap (λ (v : StoredValue). length (bytesOfValue v))
+        absurd (n (ap (λ (v : StoredValue). length (bytesOrEmptyIfAbsent v))
             (sym (g .kept j n) ∙ ap (rowValue dictionaryRows b) e) ∙ eqb-true _ 0 (p .free)))
     untouched j n (inr e) = put-other dictionaryRows b k (i .value) fit j e ∙ g .kept j n
 
@@ -164,9 +164,9 @@ abbrev Other : ℕ → PrimitiveItem → Type 0
 Other k i = rowAt k .tag ≡ i .tag → ⊥
 
 -- objects of other tags leave row k as it was
-pub untouched : (answer k : ℕ) (w : TakeState) (is : List PrimitiveItem) → length (w .store) ≡ storeSize
+pub untouched : (answer k : ℕ) (w : StoringState) (is : List PrimitiveItem) → length (w .store) ≡ storeSize
     → All (Other k) is
-    → rowValue dictionaryRows (takeAll answer w is .store) k ≡ rowValue dictionaryRows (w .store) k
+    → rowValue dictionaryRows (storeAllItems answer w is .store) k ≡ rowValue dictionaryRows (w .store) k
 untouched answer k w is l q =
     all-holds (λ b. rowValue dictionaryRows b k ≡ rowValue dictionaryRows (w .store) k) (Other k) answer
     (λ b j i m o p e. put-other dictionaryRows b j (i .value)

@@ -16,134 +16,134 @@ use Rattle.tlv.specs.Tree.{Forest, parseTree}
 use Rattle.reading.specs.declared.Awaited.{Awaited}
 use Rattle.reading.specs.declared.Awaited.the-variants.{Gpo, Record, Cryptogram, Checksum}
 use Rattle.reading.specs.declared.Reading.{Reading}
-use Rattle.reading.specs.Taking.{primitiveItem, primitiveItems, TakeState, takeState}
-use Rattle.reading.specs.Answer.{ReadingOutcome, readingOutcome, GivesReading, ResponseBody, primitive}
-use Rattle.reading.specs.Answer.{templateBody, frontBody, responseBody, templateTag}
-use Rattle.reading.specs.Answer.{gpoParts, iadPart, cryptogramParts, primitiveParts, templateParts}
-use Rattle.reading.specs.Answer.{storedIfAllowed, readTree, readBody}
+use Rattle.reading.specs.Taking.{primitiveItem, primitiveItems, StoringState, storingState}
+use Rattle.reading.specs.Answer.{ReadingOutcome, readingOutcome, ReadingAndStoreMatchOutcome, ResponseBody, primitive}
+use Rattle.reading.specs.Answer.{templateBody, bodyOfOneObject, parseResponseBody, responseTemplateTag}
+use Rattle.reading.specs.Answer.{gpoItemsUnder80, iadItemIfAny, cryptogramItemsUnder80, primitiveBodyItems, templateBodyItems}
+use Rattle.reading.specs.Answer.{readingIfAllAllowed, readParsedBody, readBody}
 
 -- ---- a reading and its outcome
 
-pub regive : {r : Reading} {b : List ℕ} {o p : ReadingOutcome} → o ≡ p → GivesReading r b o → GivesReading r b p
+pub regive : {r : Reading} {b : List ℕ} {o p : ReadingOutcome} → o ≡ p → ReadingAndStoreMatchOutcome r b o → ReadingAndStoreMatchOutcome r b p
 regive e g = record { reason = g .reason ∙ ap (λ (x : ReadingOutcome). x .reason) e;
     objects = g .objects ∙ ap (λ (x : ReadingOutcome). x .objects) e;
     store = g .store ∙ ap (λ (x : ReadingOutcome). x .store) e }
 
-pub restore : {r : Reading} {b c : List ℕ} {o : ReadingOutcome} → b ≡ c → GivesReading r c o → GivesReading r b o
+pub restore : {r : Reading} {b c : List ℕ} {o : ReadingOutcome} → b ≡ c → ReadingAndStoreMatchOutcome r c o → ReadingAndStoreMatchOutcome r b o
 restore e g = record { reason = g .reason; objects = g .objects; store = e ∙ g .store }
 
 -- ---- objects that were taken
 
-pub judged-yes : (b : List ℕ) (n : ℕ) {w : TakeState} {g : Bool} {c : List ℕ} → w ≡ takeState g c → g ≡ true
-    → storedIfAllowed b n w ≡ readingOutcome 0 n c
-judged-yes b n e f = ap (storedIfAllowed b n) e ∙ if-yes _ _ f
+pub judged-yes : (b : List ℕ) (n : ℕ) {w : StoringState} {g : Bool} {c : List ℕ} → w ≡ storingState g c → g ≡ true
+    → readingIfAllAllowed b n w ≡ readingOutcome 0 n c
+judged-yes b n e f = ap (readingIfAllAllowed b n) e ∙ if-yes _ _ f
 
-pub judged-no : (b : List ℕ) (n : ℕ) {w : TakeState} {g : Bool} {c : List ℕ} → w ≡ takeState g c → g ≡ false
-    → storedIfAllowed b n w ≡ readingOutcome 3 n b
-judged-no b n e f = ap (storedIfAllowed b n) e ∙ if-no _ _ f
+pub judged-no : (b : List ℕ) (n : ℕ) {w : StoringState} {g : Bool} {c : List ℕ} → w ≡ storingState g c → g ≡ false
+    → readingIfAllAllowed b n w ≡ readingOutcome 3 n b
+judged-no b n e f = ap (readingIfAllAllowed b n) e ∙ if-no _ _ f
 
 -- ---- the parts of a primitive body
 
 module _ (v : List ℕ) where
-  pub gpo-short : length v < 6 → gpoParts v ≡ none
-  unfolding gpoParts
+  pub gpo-short : length v < 6 → gpoItemsUnder80 v ≡ none
+  unfolding gpoItemsUnder80
   gpo-short h = if-no _ _ (both-no-left _ _ (both-no-left _ _ (lt-leb _ _ h)))
 
-  pub gpo-long : 250 < length v → gpoParts v ≡ none
-  unfolding gpoParts
+  pub gpo-long : 250 < length v → gpoItemsUnder80 v ≡ none
+  unfolding gpoItemsUnder80
   gpo-long h = if-no _ _ (both-no-left _ _ (both-no-right _ _ (lt-leb _ _ h)))
 
-  pub gpo-uneven : ((length v - 2) % 4 ≡ 0 → ⊥) → gpoParts v ≡ none
-  unfolding gpoParts
+  pub gpo-uneven : ((length v - 2) % 4 ≡ 0 → ⊥) → gpoItemsUnder80 v ≡ none
+  unfolding gpoItemsUnder80
   gpo-uneven h = if-no _ _ (both-no-right _ _ (ne-eqb _ _ h))
 
   pub gpo-whole : 6 ≤ length v → length v ≤ 250 → (length v - 2) % 4 ≡ 0
-      → gpoParts v ≡ some (primitiveItem 0x77 0x82 (take 2 v) ∷ primitiveItem 0x77 0x94 (drop 2 v) ∷ [])
-  unfolding gpoParts
+      → gpoItemsUnder80 v ≡ some (primitiveItem 0x77 0x82 (take 2 v) ∷ primitiveItem 0x77 0x94 (drop 2 v) ∷ [])
+  unfolding gpoItemsUnder80
   gpo-whole a b c = if-yes _ _ (both-yes _ _ (both-yes _ _ (le-leb _ _ a) (le-leb _ _ b)) (eq-eqb _ _ c))
 
-  pub cryptogram-short : length v < 11 → cryptogramParts v ≡ none
-  unfolding cryptogramParts
+  pub cryptogram-short : length v < 11 → cryptogramItemsUnder80 v ≡ none
+  unfolding cryptogramItemsUnder80
   cryptogram-short h = if-no _ _ (both-no-left _ _ (lt-leb _ _ h))
 
-  pub cryptogram-long : 43 < length v → cryptogramParts v ≡ none
-  unfolding cryptogramParts
+  pub cryptogram-long : 43 < length v → cryptogramItemsUnder80 v ≡ none
+  unfolding cryptogramItemsUnder80
   cryptogram-long h = if-no _ _ (both-no-right _ _ (lt-leb _ _ h))
 
   pub cryptogram-whole : 11 ≤ length v → length v ≤ 43
-      → cryptogramParts v ≡ some (primitiveItem 0x77 0x9F27 (take 1 v) ∷ primitiveItem 0x77 0x9F36
-          (take 2 (drop 1 v)) ∷ primitiveItem 0x77 0x9F26 (take 8 (drop 3 v)) ∷ iadPart (drop 11 v))
-  unfolding cryptogramParts
+      → cryptogramItemsUnder80 v ≡ some (primitiveItem 0x77 0x9F27 (take 1 v) ∷ primitiveItem 0x77 0x9F36
+          (take 2 (drop 1 v)) ∷ primitiveItem 0x77 0x9F26 (take 8 (drop 3 v)) ∷ iadItemIfAny (drop 11 v))
+  unfolding cryptogramItemsUnder80
   cryptogram-whole a b = if-yes _ _ (both-yes _ _ (le-leb _ _ a) (le-leb _ _ b))
 
-pub iad-none : (v : List ℕ) → length v ≡ 0 → iadPart v ≡ []
-unfolding iadPart
+pub iad-none : (v : List ℕ) → length v ≡ 0 → iadItemIfAny v ≡ []
+unfolding iadItemIfAny
 iad-none [] h = refl
 iad-none (x ∷ v) h = absurd (omega arith)
 
-pub iad-some : (v : List ℕ) → (length v ≡ 0 → ⊥) → iadPart v ≡ primitiveItem 0x77 0x9F10 v ∷ []
-unfolding iadPart
+pub iad-some : (v : List ℕ) → (length v ≡ 0 → ⊥) → iadItemIfAny v ≡ primitiveItem 0x77 0x9F10 v ∷ []
+unfolding iadItemIfAny
 iad-some [] h = absurd (h refl)
 iad-some (x ∷ v) h = refl
 
 module _ (t : ℕ) (v : List ℕ) where
-  pub wrong-tag : (a : Awaited) → (t ≡ 0x80 → ⊥) → primitiveParts a t v ≡ none
-  unfolding primitiveParts
+  pub wrong-tag : (a : Awaited) → (t ≡ 0x80 → ⊥) → primitiveBodyItems a t v ≡ none
+  unfolding primitiveBodyItems
   wrong-tag Gpo h = if-no _ _ (ne-eqb _ _ h)
   wrong-tag (Record f) h = refl
   wrong-tag Cryptogram h = if-no _ _ (ne-eqb _ _ h)
   wrong-tag Checksum h = refl
 
-  pub as-gpo : t ≡ 0x80 → primitiveParts Gpo t v ≡ gpoParts v
-  unfolding primitiveParts
+  pub as-gpo : t ≡ 0x80 → primitiveBodyItems Gpo t v ≡ gpoItemsUnder80 v
+  unfolding primitiveBodyItems
   as-gpo h = if-yes _ _ (eq-eqb _ _ h)
 
-  pub as-cryptogram : t ≡ 0x80 → primitiveParts Cryptogram t v ≡ cryptogramParts v
-  unfolding primitiveParts
+  pub as-cryptogram : t ≡ 0x80 → primitiveBodyItems Cryptogram t v ≡ cryptogramItemsUnder80 v
+  unfolding primitiveBodyItems
   as-cryptogram h = if-yes _ _ (eq-eqb _ _ h)
 
-  pub as-record : (f : _) → primitiveParts (Record f) t v ≡ none
-  unfolding primitiveParts
+  pub as-record : (f : _) → primitiveBodyItems (Record f) t v ≡ none
+  unfolding primitiveBodyItems
   as-record f = refl
 
-  pub as-checksum : primitiveParts Checksum t v ≡ none
-  unfolding primitiveParts
+  pub as-checksum : primitiveBodyItems Checksum t v ≡ none
+  unfolding primitiveBodyItems
   as-checksum = refl
 
 -- ---- a template
 
-pub template-wrong : (a : Awaited) (t : ℕ) (f : Forest) → (t ≡ templateTag a → ⊥) → templateParts a t f ≡ none
-unfolding templateParts
+pub template-wrong : (a : Awaited) (t : ℕ) (f : Forest) → (t ≡ responseTemplateTag a → ⊥) → templateBodyItems a t f ≡ none
+unfolding templateBodyItems
 template-wrong a t f h = if-no _ _ (ne-eqb _ _ h)
 
-pub template-right : (a : Awaited) (t : ℕ) (f : Forest) → t ≡ templateTag a
-    → templateParts a t f ≡ some (primitiveItems t f)
-unfolding templateParts
+pub template-right : (a : Awaited) (t : ℕ) (f : Forest) → t ≡ responseTemplateTag a
+    → templateBodyItems a t f ≡ some (primitiveItems t f)
+unfolding templateBodyItems
 template-right a t f h = if-yes _ _ (eq-eqb _ _ h)
 
 -- ---- the body
 
 module _ (s : List ℕ) where
-  pub body-broken : headerOf s ≡ Broken → responseBody s ≡ none
-  unfolding responseBody
-  body-broken e = ap (frontBody s) e
+  pub body-broken : headerOf s ≡ Broken → parseResponseBody s ≡ none
+  unfolding parseResponseBody
+  body-broken e = ap (bodyOfOneObject s) e
 
   module _ (h : TlvHeader) (e : headerOf s ≡ Object h) where
-    pub body-behind : (h .start + h .len ≡ length s → ⊥) → responseBody s ≡ none
-    unfolding responseBody
-    body-behind z = ap (frontBody s) e ∙ if-no _ _ (ne-eqb _ _ z)
+    pub body-behind : (h .start + h .len ≡ length s → ⊥) → parseResponseBody s ≡ none
+    unfolding parseResponseBody
+    body-behind z = ap (bodyOfOneObject s) e ∙ if-no _ _ (ne-eqb _ _ z)
 
     pub body-template : h .start + h .len ≡ length s → h .template ≡ true
-        → responseBody s ≡ templateBody (h .tag) (parseTree 3 (headerValue s h))
-    unfolding responseBody
-    body-template z p = ap (frontBody s) e ∙ if-yes _ _ (eq-eqb _ _ z) ∙ if-yes _ _ p
+        → parseResponseBody s ≡ templateBody (h .tag) (parseTree 3 (headerValue s h))
+    unfolding parseResponseBody
+    body-template z p = ap (bodyOfOneObject s) e ∙ if-yes _ _ (eq-eqb _ _ z) ∙ if-yes _ _ p
 
     pub body-primitive : h .start + h .len ≡ length s → h .template ≡ false
-        → responseBody s ≡ some (primitive (h .tag) (headerValue s h))
-    unfolding responseBody
-    body-primitive z p = ap (frontBody s) e ∙ if-yes _ _ (eq-eqb _ _ z) ∙ if-no _ _ p
+        → parseResponseBody s ≡ some (primitive (h .tag) (headerValue s h))
+    unfolding parseResponseBody
+    body-primitive z p = ap (bodyOfOneObject s) e ∙ if-yes _ _ (eq-eqb _ _ z) ∙ if-no _ _ p
 
-pub body-read : (a : Awaited) (b s : List ℕ) {x : Option ResponseBody} → responseBody s ≡ x
-    → readBody a b s ≡ readTree a b x
+pub body-read : (a : Awaited) (b s : List ℕ) {x : Option ResponseBody} → parseResponseBody s ≡ x
+    → readBody a b s ≡ readParsedBody a b x
 unfolding readBody
-body-read a b s e = ap (readTree a b) e
+body-read a b s e = ap (readParsedBody a b) e

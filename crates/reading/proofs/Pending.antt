@@ -17,50 +17,50 @@ use Rattle.basics.proofs.Laws.{if-yes, if-no, if-ind, both-left, both-right, bo
 use Rattle.basics.proofs.Laws.{both-no-right}
 use Rattle.basics.proofs.Order.{equal-or-not, le-or-gt}
 use Rattle.tlv.specs.Tag.{isPrivate}
-use Rattle.dictionary.specs.declared.Attributes.{Attributes}
+use Rattle.dictionary.specs.declared.RowAttributes.{RowAttributes}
 use Rattle.dictionary.specs.declared.RowFound.{RowFound}
 use Rattle.dictionary.specs.declared.RowFound.the-variants.{At, Unknown}
 use Rattle.dictionary.specs.Rows.{dictionaryRows, rowAt, rowCount, findRow, storeSize}
-use Rattle.dictionary.specs.Packing.{attributesOf, rowWithAttributes}
+use Rattle.dictionary.specs.Packing.{attributesOf, rowWithAttributesAndTagZero}
 use Rattle.dictionary.proofs.Fit.{fits-length}
 use Rattle.dictionary.proofs.Lent.{row-found}
-use Rattle.store.specs.Place.{StoredValue, bytesOfValue, rowOffset, lengthByte, isFree, putRow}
+use Rattle.store.specs.Place.{StoredValue, bytesOrEmptyIfAbsent, rowOffset, rowLengthPlusOneOrZero, isRowAbsentOrEmpty, putRow}
 use Rattle.store.proofs.Laws.{Fits, put-length, put-get, put-other, length-byte-at}
 use Rattle.store.proofs.Rows.{fits-row, free-yes, free-no}
 use Rattle.reading.specs.declared.ItemVerdict.{ItemVerdict}
 use Rattle.reading.specs.declared.ItemVerdict.the-variants.{Skipped, NotAllowed, ForRow}
-use Rattle.reading.specs.Taking.{PrimitiveItem, cardMaySet, allowedInResponse, allowedNow, TakeState, takeState}
-use Rattle.reading.specs.Taking.{takeKnown, takeFound, takeItem, takeNext, takeAll}
-use Rattle.reading.specs.Items.{itemTag, itemAround, itemOf, valueIn, valueStart, valueLength, ValueInside}
-use Rattle.reading.specs.Items.{mostItems, itemsOf, ItemList, itemsIn}
-use Rattle.reading.specs.Pending.{judgeKnown, judgeFound, judgeItem, takeJudged, packedPending, pendingRow}
-use Rattle.reading.specs.Pending.{withPending, markRow, PendingFits, AllPendingFit, PendingList, PendingValues}
+use Rattle.reading.specs.Taking.{PrimitiveItem, cardMaySet, rowAllowsValueFromCard, rowAllowsValueAndAbsentOrEmpty, StoringState, storingState}
+use Rattle.reading.specs.Taking.{storeKnownItem, storeItemOfRowFound, storeItem, storeNextItem, storeAllItems}
+use Rattle.reading.specs.Items.{packedItemTag, packedItemTemplateTag, unpackedItem, packedItemValueIn, packedItemValueStart, packedItemValueLength, ItemValueInside}
+use Rattle.reading.specs.Items.{mostListedItems, unpackedItems, IsItemList, unpackedFirstItems}
+use Rattle.reading.specs.Pending.{judgeKnownItem, judgeItemOfRowFound, judgeItem, storeJudgedItem, packedPendingEntry, pendingEntryRow}
+use Rattle.reading.specs.Pending.{storeWithPending, markRowFilledIfNonEmpty, PendingEntryFitsRowAndBytes, AllPendingEntriesFitRowAndBytes, IsPendingList, PendingEntriesAndMarksForStore}
 use Rattle.reading.proofs.Laws.{row-skipped, row-comes, may-come-fits, next-good, next-bad, took, took-all}
 use Rattle.reading.proofs.Items.{inside-at}
 
 -- ---- one object
 
 judged-known : (answer : ℕ) (b : List ℕ) (i : PrimitiveItem) (k : ℕ)
-    → takeKnown answer b i k ≡ takeJudged b i (judgeKnown answer i k)
-unfolding judgeKnown allowedNow if both
+    → storeKnownItem answer b i k ≡ storeJudgedItem b i (judgeKnownItem answer i k)
+unfolding judgeKnownItem rowAllowsValueAndAbsentOrEmpty if both
 judged-known answer b i k = by-tests (both (isPrivate (i .tag)) (not (cardMaySet (rowAt k))))
-    (allowedInResponse answer (rowAt k) (i .around) (i .value))
+    (rowAllowsValueFromCard answer (rowAt k) (i .around) (i .value))
   where
     by-tests : (p a : Bool)
-        → if p (takeState true b)
-            (if (both a (isFree dictionaryRows b k)) (takeState true (putRow dictionaryRows b k (i .value)))
-            (takeState false b))
-        ≡ takeJudged b i (if p Skipped (if a (ForRow k) NotAllowed))
+        → if p (storingState true b)
+            (if (both a (isRowAbsentOrEmpty dictionaryRows b k)) (storingState true (putRow dictionaryRows b k (i .value)))
+            (storingState false b))
+        ≡ storeJudgedItem b i (if p Skipped (if a (ForRow k) NotAllowed))
     by-tests true a = refl
     by-tests false true = refl
     by-tests false false = refl
 
 pub item-judged : (answer : ℕ) (b : List ℕ) (i : PrimitiveItem)
-    → takeItem answer b i ≡ takeJudged b i (judgeItem answer i)
-unfolding takeItem
+    → storeItem answer b i ≡ storeJudgedItem b i (judgeItem answer i)
+unfolding storeItem
 item-judged answer b i = go (findRow dictionaryRows (i .tag))
   where
-    go : (x : RowFound) → takeFound answer b i x ≡ takeJudged b i (judgeFound answer i x)
+    go : (x : RowFound) → storeItemOfRowFound answer b i x ≡ storeJudgedItem b i (judgeItemOfRowFound answer i x)
     go Unknown = refl
     go (At k) = judged-known answer b i k
 
@@ -72,10 +72,10 @@ ForFits i (ForRow k) = (k < rowCount) × (length (i .value) ≤ rowAt k .greates
 
 pub row-fits : (answer : ℕ) (i : PrimitiveItem) {k : ℕ} → judgeItem answer i ≡ ForRow k → (k < rowCount)
     × (length (i .value) ≤ rowAt k .greatest)
-unfolding judgeKnown
+unfolding judgeKnownItem
 row-fits answer i e = subst (ForFits i) e (go (findRow dictionaryRows (i .tag)) refl)
   where
-    go : (x : RowFound) → findRow dictionaryRows (i .tag) ≡ x → ForFits i (judgeFound answer i x)
+    go : (x : RowFound) → findRow dictionaryRows (i .tag) ≡ x → ForFits i (judgeItemOfRowFound answer i x)
     go Unknown q = tt
     go (At k) q =
         if-ind (ForFits i) _ _ _ (λ _. tt)
@@ -87,39 +87,39 @@ row-fits answer i e = subst (ForFits i) e (go (findRow dictionaryRows (i .tag)) 
 
 -- what is said where c is whether it may come into row k
 pub record Said (answer : ℕ) (s : List ℕ) (n k : ℕ) (c : Bool) : Type 0 where
-  pub barred : c ≡ false → NotAllowed ≡ judgeItem answer (itemOf s n)
-  pub row : c ≡ true → ForRow k ≡ judgeItem answer (itemOf s n)
+  pub barred : c ≡ false → NotAllowed ≡ judgeItem answer (unpackedItem s n)
+  pub row : c ≡ true → ForRow k ≡ judgeItem answer (unpackedItem s n)
 
-module _ (answer : ℕ) (s : List ℕ) (n : ℕ) {tag : ℕ} (t : tag ≡ itemTag n) {x : RowFound}
+module _ (answer : ℕ) (s : List ℕ) (n : ℕ) {tag : ℕ} (t : tag ≡ packedItemTag n) {x : RowFound}
     (p : x ≡ findRow dictionaryRows tag) where
   abbrev object : PrimitiveItem
-  object = itemOf s n
+  object = unpackedItem s n
 
-  by-row : judgeItem answer object ≡ judgeFound answer object x
-  by-row = ap (judgeFound answer object) (sym (p ∙ ap (findRow dictionaryRows) t))
+  by-row : judgeItem answer object ≡ judgeItemOfRowFound answer object x
+  by-row = ap (judgeItemOfRowFound answer object) (sym (p ∙ ap (findRow dictionaryRows) t))
 
   pub said-unknown : x ≡ Unknown → Skipped ≡ judgeItem answer object
-  said-unknown q = sym (by-row ∙ ap (judgeFound answer object) q)
+  said-unknown q = sym (by-row ∙ ap (judgeItemOfRowFound answer object) q)
 
-  module _ (k : ℕ) (q : x ≡ At k) {a : Attributes} (u : a ≡ attributesOf (rowAt k)) {z : Bool}
-      (e : z ≡ both (isPrivate tag) (not (cardMaySet (rowWithAttributes a)))) where
-    known : judgeItem answer object ≡ judgeKnown answer object k
-    known = by-row ∙ ap (judgeFound answer object) q
+  module _ (k : ℕ) (q : x ≡ At k) {a : RowAttributes} (u : a ≡ attributesOf (rowAt k)) {z : Bool}
+      (e : z ≡ both (isPrivate tag) (not (cardMaySet (rowWithAttributesAndTagZero a)))) where
+    known : judgeItem answer object ≡ judgeKnownItem answer object k
+    known = by-row ∙ ap (judgeItemOfRowFound answer object) q
 
-    skips : z ≡ both (isPrivate (itemTag n)) (not (cardMaySet (rowAt k)))
+    skips : z ≡ both (isPrivate (packedItemTag n)) (not (cardMaySet (rowAt k)))
     skips = row-skipped tag (rowAt k) e u ∙ ap (λ (m : ℕ). both (isPrivate m) (not (cardMaySet (rowAt k)))) t
 
     pub said-skipped : z ≡ true → Skipped ≡ judgeItem answer object
-    unfolding judgeKnown
+    unfolding judgeKnownItem
     said-skipped y = sym (known ∙ if-yes _ _ (sym skips ∙ y))
 
-    module _ (left : z ≡ false) {around : ℕ} (d : around ≡ itemAround n) {v : List ℕ} (w : v ≡ valueIn s n) {c : Bool}
-        (m : c ≡ allowedInResponse answer (rowWithAttributes a) around v) where
-      allows : c ≡ allowedInResponse answer (rowAt k) (itemAround n) (valueIn s n)
-      allows = row-comes answer (rowAt k) around v m u ∙ ap₂ (allowedInResponse answer (rowAt k)) d w
+    module _ (left : z ≡ false) {around : ℕ} (d : around ≡ packedItemTemplateTag n) {v : List ℕ} (w : v ≡ packedItemValueIn s n) {c : Bool}
+        (m : c ≡ rowAllowsValueFromCard answer (rowWithAttributesAndTagZero a) around v) where
+      allows : c ≡ rowAllowsValueFromCard answer (rowAt k) (packedItemTemplateTag n) (packedItemValueIn s n)
+      allows = row-comes answer (rowAt k) around v m u ∙ ap₂ (rowAllowsValueFromCard answer (rowAt k)) d w
 
       pub said : Said answer s n k c
-      unfolding judgeKnown
+      unfolding judgeKnownItem
       said = record {
         barred = λ y. sym (known ∙ if-no _ _ (sym skips ∙ left) ∙ if-no _ _ (sym allows ∙ y));
         row = λ y. sym (known ∙ if-no _ _ (sym skips ∙ left) ∙ if-yes _ _ (sym allows ∙ y));
@@ -128,101 +128,101 @@ module _ (answer : ℕ) (s : List ℕ) (n : ℕ) {tag : ℕ} (t : tag ≡ itemTa
 -- ---- a pending value
 
 -- its number taken apart: its own row, and the object's place and length
-pub unpacked-pending : (k x : ℕ) → let y = packedPending k x in
-    (pendingRow y ≡ k) × ((valueStart y ≡ valueStart x) × (valueLength y ≡ valueLength x))
+pub unpacked-pending : (k x : ℕ) → let y = packedPendingEntry k x in
+    (pendingEntryRow y ≡ k) × ((packedItemValueStart y ≡ packedItemValueStart x) × (packedItemValueLength y ≡ packedItemValueLength x))
 unpacked-pending k x = (omega arith, (omega arith, omega arith))
 
 pub laid-more : (s b xs : List ℕ) (x : ℕ)
-    → withPending s b (xs ++ (x ∷ [])) ≡ putRow dictionaryRows (withPending s b xs) (pendingRow x) (valueIn s x)
-unfolding withPending
+    → storeWithPending s b (xs ++ (x ∷ [])) ≡ putRow dictionaryRows (storeWithPending s b xs) (pendingEntryRow x) (packedItemValueIn s x)
+unfolding storeWithPending
 laid-more s b [] x = refl
-laid-more s b (y ∷ xs) x = laid-more s (putRow dictionaryRows b (pendingRow y) (valueIn s y)) xs x
+laid-more s b (y ∷ xs) x = laid-more s (putRow dictionaryRows b (pendingEntryRow y) (packedItemValueIn s y)) xs x
 
-fitting-more : (s xs : List ℕ) (x : ℕ) → AllPendingFit s xs → PendingFits s x → AllPendingFit s (xs ++ (x ∷ []))
+fitting-more : (s xs : List ℕ) (x : ℕ) → AllPendingEntriesFitRowAndBytes s xs → PendingEntryFitsRowAndBytes s x → AllPendingEntriesFitRowAndBytes s (xs ++ (x ∷ []))
 fitting-more s [] x h f = (f, tt)
 fitting-more s (y ∷ xs) x h f = (h .0, fitting-more s xs x (h .1) f)
 
 -- a value's bytes are as many as its length
-value-long : (s : List ℕ) (x : ℕ) → ValueInside s x → length (valueIn s x) ≡ valueLength x
-value-long s x h = length-take-le (valueLength x) (drop (valueStart x) s) (simp length-drop (omega arith))
+value-long : (s : List ℕ) (x : ℕ) → ItemValueInside s x → length (packedItemValueIn s x) ≡ packedItemValueLength x
+value-long s x h = length-take-le (packedItemValueLength x) (drop (packedItemValueStart x) s) (simp length-drop (omega arith))
 
-pub value-most : (s : List ℕ) (x : ℕ) → PendingFits s x → length (valueIn s x) ≤ rowAt (pendingRow x) .greatest
+pub value-most : (s : List ℕ) (x : ℕ) → PendingEntryFitsRowAndBytes s x → length (packedItemValueIn s x) ≤ rowAt (pendingEntryRow x) .greatest
 value-most s x f = rw (value-long s x (f .inside)) (f .most)
 
-put-fits : (s b : List ℕ) (x : ℕ) → length b ≡ storeSize → PendingFits s x
-    → Fits dictionaryRows b (pendingRow x) (valueIn s x)
-put-fits s b x l f = fits-row b (pendingRow x) (valueIn s x) l (f .row) (value-most s x f)
+put-fits : (s b : List ℕ) (x : ℕ) → length b ≡ storeSize → PendingEntryFitsRowAndBytes s x
+    → Fits dictionaryRows b (pendingEntryRow x) (packedItemValueIn s x)
+put-fits s b x l f = fits-row b (pendingEntryRow x) (packedItemValueIn s x) l (f .row) (value-most s x f)
 
 -- the store keeps its size
-pub pending-sized : (s b xs : List ℕ) → length b ≡ storeSize → AllPendingFit s xs
-    → length (withPending s b xs) ≡ storeSize
-unfolding withPending
+pub pending-sized : (s b xs : List ℕ) → length b ≡ storeSize → AllPendingEntriesFitRowAndBytes s xs
+    → length (storeWithPending s b xs) ≡ storeSize
+unfolding storeWithPending
 pending-sized s b [] l h = l
 pending-sized s b (x ∷ xs) l h =
-    pending-sized s (putRow dictionaryRows b (pendingRow x) (valueIn s x)) xs
-        (put-length dictionaryRows b (pendingRow x) (valueIn s x) (put-fits s b x l (h .0)) ∙ l) (h .1)
+    pending-sized s (putRow dictionaryRows b (pendingEntryRow x) (packedItemValueIn s x)) xs
+        (put-length dictionaryRows b (pendingEntryRow x) (packedItemValueIn s x) (put-fits s b x l (h .0)) ∙ l) (h .1)
 
 -- ---- a value more, for a row k that is free: the object x
 
-module _ (s b xs f : List ℕ) (h : PendingValues s b xs f) (k x : ℕ) (row : k < rowCount) (inside : ValueInside s x)
-    (most : valueLength x ≤ rowAt k .greatest) (free : isFree dictionaryRows (withPending s b xs) k ≡ true) where
+module _ (s b xs f : List ℕ) (h : PendingEntriesAndMarksForStore s b xs f) (k x : ℕ) (row : k < rowCount) (inside : ItemValueInside s x)
+    (most : packedItemValueLength x ≤ rowAt k .greatest) (free : isRowAbsentOrEmpty dictionaryRows (storeWithPending s b xs) k ≡ true) where
   abbrev number : ℕ
-  number = packedPending k x
+  number = packedPendingEntry k x
 
-  parts : (pendingRow number ≡ k) × ((valueStart number ≡ valueStart x) × (valueLength number ≡ valueLength x))
+  parts : (pendingEntryRow number ≡ k) × ((packedItemValueStart number ≡ packedItemValueStart x) × (packedItemValueLength number ≡ packedItemValueLength x))
   parts = unpacked-pending k x
 
-  number-fits : PendingFits s number
+  number-fits : PendingEntryFitsRowAndBytes s number
   number-fits = record {
     row = rw (parts .0) row;
     most = rw (parts .0, parts .1 .1) most;
     inside = rw (parts .1 .0, parts .1 .1) inside;
   }
 
-  pub more-put : withPending s b (xs ++ (number ∷ [])) ≡ putRow dictionaryRows (withPending s b xs) k (valueIn s x)
+  pub more-put : storeWithPending s b (xs ++ (number ∷ [])) ≡ putRow dictionaryRows (storeWithPending s b xs) k (packedItemValueIn s x)
   more-put = laid-more s b xs number
-      ∙ ap₂ (putRow dictionaryRows (withPending s b xs)) (parts .0) (rw (parts .1 .0, parts .1 .1))
+      ∙ ap₂ (putRow dictionaryRows (storeWithPending s b xs)) (parts .0) (rw (parts .1 .0, parts .1 .1))
 
-  fits-here : Fits dictionaryRows (withPending s b xs) k (valueIn s x)
-  fits-here = fits-row (withPending s b xs) k (valueIn s x) (pending-sized s b xs (h .sized) (h .fitting)) row
+  fits-here : Fits dictionaryRows (storeWithPending s b xs) k (packedItemValueIn s x)
+  fits-here = fits-row (storeWithPending s b xs) k (packedItemValueIn s x) (pending-sized s b xs (h .sized) (h .fitting)) row
       (rw (value-long s x inside) most)
 
   -- what is free before: the store's place, and no mark
-  was-free : (isFree dictionaryRows b k ≡ true) × (getD f k 0 ≡ 0)
+  was-free : (isRowAbsentOrEmpty dictionaryRows b k ≡ true) × (getD f k 0 ≡ 0)
   was-free = let e = sym (h .free k row) ∙ free in (both-left _ _ e, eqb-true _ 0 (both-right _ _ e))
 
   -- with these marks
-  module _ (f′ : List ℕ) (marks : length f′ ≡ rowCount) (mark : eqb (getD f′ k 0) 0 ≡ eqb (valueLength x) 0)
+  module _ (f′ : List ℕ) (marks : length f′ ≡ rowCount) (mark : eqb (getD f′ k 0) 0 ≡ eqb (packedItemValueLength x) 0)
       (others : (j : ℕ) → (j ≡ k → ⊥) → getD f′ j 0 ≡ getD f j 0) where
     free-put : (j : ℕ) → j < rowCount → (j ≡ k) ⊎ (j ≡ k → ⊥)
-        → isFree dictionaryRows (putRow dictionaryRows (withPending s b xs) k (valueIn s x)) j ≡ both
-            (isFree dictionaryRows b j) (eqb (getD f′ j 0) 0)
+        → isRowAbsentOrEmpty dictionaryRows (putRow dictionaryRows (storeWithPending s b xs) k (packedItemValueIn s x)) j ≡ both
+            (isRowAbsentOrEmpty dictionaryRows b j) (eqb (getD f′ j 0) 0)
     free-put j i (inl e) =
-        subst (λ (y : ℕ). isFree dictionaryRows (putRow dictionaryRows (withPending s b xs) k (valueIn s x)) y ≡ both
-            (isFree dictionaryRows b y) (eqb (getD f′ y 0) 0)) (sym e)
-        (ap (λ (y : StoredValue). eqb (length (bytesOfValue y)) 0)
-            (put-get dictionaryRows (withPending s b xs) k (valueIn s x) fits-here)
+        subst (λ (y : ℕ). isRowAbsentOrEmpty dictionaryRows (putRow dictionaryRows (storeWithPending s b xs) k (packedItemValueIn s x)) y ≡ both
+            (isRowAbsentOrEmpty dictionaryRows b y) (eqb (getD f′ y 0) 0)) (sym e)
+        (ap (λ (y : StoredValue). eqb (length (bytesOrEmptyIfAbsent y)) 0)
+            (put-get dictionaryRows (storeWithPending s b xs) k (packedItemValueIn s x) fits-here)
         ∙ ap (λ (n : ℕ). eqb n 0) (value-long s x inside) ∙ sym mark ∙ sym (both-true _ (was-free .0)))
     free-put j i (inr n) =
-        ap (λ (y : StoredValue). eqb (length (bytesOfValue y)) 0)
-            (put-other dictionaryRows (withPending s b xs) k (valueIn s x) fits-here j n) ∙ h .free j i
-        ∙ ap (λ (y : ℕ). both (isFree dictionaryRows b j) (eqb y 0)) (sym (others j n))
+        ap (λ (y : StoredValue). eqb (length (bytesOrEmptyIfAbsent y)) 0)
+            (put-other dictionaryRows (storeWithPending s b xs) k (packedItemValueIn s x) fits-here j n) ∙ h .free j i
+        ∙ ap (λ (y : ℕ). both (isRowAbsentOrEmpty dictionaryRows b j) (eqb y 0)) (sym (others j n))
 
-    values-put : PendingValues s b (xs ++ (number ∷ [])) f′
+    values-put : PendingEntriesAndMarksForStore s b (xs ++ (number ∷ [])) f′
     values-put = record {
       fitting = fitting-more s xs number (h .fitting) number-fits;
       sized = h .sized;
       marks = marks;
-      free = λ j i. ap (λ (y : List ℕ). isFree dictionaryRows y j) more-put ∙ free-put j i (equal-or-not j k);
+      free = λ j i. ap (λ (y : List ℕ). isRowAbsentOrEmpty dictionaryRows y j) more-put ∙ free-put j i (equal-or-not j k);
     }
 
-  pub values-more : PendingValues s b (xs ++ (number ∷ [])) (markRow f k (valueLength x))
-  values-more = elim (equal-or-not (valueLength x) 0) [
+  pub values-more : PendingEntriesAndMarksForStore s b (xs ++ (number ∷ [])) (markRowFilledIfNonEmpty f k (packedItemValueLength x))
+  values-more = elim (equal-or-not (packedItemValueLength x) 0) [
     | inl z ↦
-        subst (PendingValues s b (xs ++ (number ∷ []))) (sym (if-yes _ _ (eq-eqb _ _ z)))
+        subst (PendingEntriesAndMarksForStore s b (xs ++ (number ∷ []))) (sym (if-yes _ _ (eq-eqb _ _ z)))
         (values-put f (h .marks) (ap (λ (y : ℕ). eqb y 0) (was-free .1) ∙ sym (eq-eqb _ _ z)) (λ j i. refl))
     | inr z ↦
-        subst (PendingValues s b (xs ++ (number ∷ []))) (sym (if-no _ _ (ne-eqb _ _ z)))
+        subst (PendingEntriesAndMarksForStore s b (xs ++ (number ∷ []))) (sym (if-no _ _ (ne-eqb _ _ z)))
         (values-put (set f k 1) (length-set f k 1 ∙ h .marks)
         (ap (λ (y : ℕ). eqb y 0) (getD-set-same f k 1 0 (omega (arith, h .marks))) ∙ sym (ne-eqb _ _ z))
         (λ j i. getD-set-other f k j 1 0 i))
@@ -231,11 +231,11 @@ module _ (s b xs f : List ℕ) (h : PendingValues s b xs f) (k x : ℕ) (row : k
 -- ---- whether a row is free
 
 module _ (b f : List ℕ) (k : ℕ) (row : k < rowCount) (sized : length b ≡ storeSize) where
-  pub marked : (getD f k 0 ≡ 0 → ⊥) → false ≡ both (isFree dictionaryRows b k) (eqb (getD f k 0) 0)
+  pub marked : (getD f k 0 ≡ 0 → ⊥) → false ≡ both (isRowAbsentOrEmpty dictionaryRows b k) (eqb (getD f k 0) 0)
   marked n = sym (both-no-right _ _ (ne-eqb _ _ n))
 
   pub unmarked : getD f k 0 ≡ 0
-      → leb (lengthByte dictionaryRows b k) 1 ≡ both (isFree dictionaryRows b k) (eqb (getD f k 0) 0)
+      → leb (rowLengthPlusOneOrZero dictionaryRows b k) 1 ≡ both (isRowAbsentOrEmpty dictionaryRows b k) (eqb (getD f k 0) 0)
   unmarked z =
       let e = length-byte-at dictionaryRows b k in
       ap (λ (x : ℕ). leb x 1) e
@@ -247,12 +247,12 @@ module _ (b f : List ℕ) (k : ℕ) (row : k < rowCount) (sized : length b ≡ s
 -- ---- the objects one after the other
 
 -- one that is not allowed decides for all
-pub all-bad : (answer : ℕ) {w : TakeState} (b : List ℕ) (is : List PrimitiveItem) → w ≡ takeState false b
-    → takeAll answer w is .good ≡ false
-unfolding takeAll
-all-bad answer b [] e = ap (λ (w : TakeState). w .good) e
+pub all-bad : (answer : ℕ) {w : StoringState} (b : List ℕ) (is : List PrimitiveItem) → w ≡ storingState false b
+    → storeAllItems answer w is .good ≡ false
+unfolding storeAllItems
+all-bad answer b [] e = ap (λ (w : StoringState). w .good) e
 all-bad answer b (i ∷ is) e =
-    all-bad answer b is (ap (λ (w : TakeState). takeNext answer w i) e ∙ next-bad answer b i refl)
+    all-bad answer b is (ap (λ (w : StoringState). storeNextItem answer w i) e ∙ next-bad answer b i refl)
 
 and-true : (x : Bool) → both x true ≡ x
 unfolding both
@@ -262,17 +262,17 @@ and-true false = refl
 -- i of n objects of l₀ are judged: the first p numbers of l are pending for the store b, and those from i on are as
 -- they were
 pub record Judging (answer : ℕ) (s b l₀ : List ℕ) (n : ℕ) (l filled : List ℕ) (p i : ℕ) : Type 0 where
-  pub room : length l ≡ mostItems
+  pub room : length l ≡ mostListedItems
   pub few : p ≤ i
   pub more : i ≤ n
   pub rest : (j : ℕ) → i ≤ j → getD l j 0 ≡ getD l₀ j 0
-  pub values : PendingValues s b (take p l) filled
-  pub same : takeAll answer (takeState true b) (itemsIn s n l₀) ≡ takeAll answer
-      (takeState true (withPending s b (take p l))) (itemsOf s (drop i (take n l₀)))
+  pub values : PendingEntriesAndMarksForStore s b (take p l) filled
+  pub same : storeAllItems answer (storingState true b) (unpackedFirstItems s n l₀) ≡ storeAllItems answer
+      (storingState true (storeWithPending s b (take p l))) (unpackedItems s (drop i (take n l₀)))
 
-pub judging-none : (answer : ℕ) (s b l : List ℕ) (n : ℕ) → length b ≡ storeSize → length l ≡ mostItems
+pub judging-none : (answer : ℕ) (s b l : List ℕ) (n : ℕ) → length b ≡ storeSize → length l ≡ mostListedItems
     → Judging answer s b l n l (replicate rowCount 0) 0 0
-unfolding withPending
+unfolding storeWithPending
 judging-none answer s b l n e m = record {
   room = m;
   few = omega arith;
@@ -282,25 +282,25 @@ judging-none answer s b l n e m = record {
     fitting = tt;
     sized = e;
     marks = refl;
-    free = λ k r. sym (ap (λ (x : ℕ). both (isFree dictionaryRows b k) (eqb x 0)) (getD-replicate rowCount k 0 0 r)
-        ∙ and-true (isFree dictionaryRows b k));
+    free = λ k r. sym (ap (λ (x : ℕ). both (isRowAbsentOrEmpty dictionaryRows b k) (eqb x 0)) (getD-replicate rowCount k 0 0 r)
+        ∙ and-true (isRowAbsentOrEmpty dictionaryRows b k));
   };
   same = refl;
 }
 
-module _ {answer : ℕ} {s b l₀ : List ℕ} {n : ℕ} {l filled : List ℕ} {p i : ℕ} (g : ItemList s n l₀)
+module _ {answer : ℕ} {s b l₀ : List ℕ} {n : ℕ} {l filled : List ℕ} {p i : ℕ} (g : IsItemList s n l₀)
     (w : Judging answer s b l₀ n l filled p i) where
   taken-length : length (take n l₀) ≡ n
   taken-length = length-take-le n l₀ (omega (arith, g .room, g .few))
 
   -- at the end all are judged
   pub judged-all : n ≤ i
-      → (takeAll answer (takeState true b) (itemsIn s n l₀) ≡ takeState true (withPending s b (take p l)))
-      × PendingList s p l
-  unfolding itemsOf
+      → (storeAllItems answer (storingState true b) (unpackedFirstItems s n l₀) ≡ storingState true (storeWithPending s b (take p l)))
+      × IsPendingList s p l
+  unfolding unpackedItems
   judged-all h =
       let z : drop i (take n l₀) ≡ [] = drop-past (take n l₀) i (omega (arith, taken-length)) in
-      (w .same ∙ ap (λ (xs : List ℕ). takeAll answer (takeState true (withPending s b (take p l))) (itemsOf s xs)) z
+      (w .same ∙ ap (λ (xs : List ℕ). storeAllItems answer (storingState true (storeWithPending s b (take p l))) (unpackedItems s xs)) z
           ∙ took-all answer _,
       record { room = w .room; few = omega (arith, w .few, w .more, g .few); fitting = w .values .fitting })
     where
@@ -318,37 +318,37 @@ module _ {answer : ℕ} {s b l₀ : List ℕ} {n : ℕ} {l filled : List ℕ} {p
     x-is : x ≡ getD (take n l₀) i 0
     x-is = w .rest i (omega arith) ∙ sym (getD-take n l₀ i 0 h)
 
-    pub next-inside : ValueInside s x
-    next-inside = subst (ValueInside s) (sym x-is) (inside-at s (take n l₀) i (g .inside) (omega (arith, taken-length)))
+    pub next-inside : ItemValueInside s x
+    next-inside = subst (ItemValueInside s) (sym x-is) (inside-at s (take n l₀) i (g .inside) (omega (arith, taken-length)))
 
     abbrev left : List PrimitiveItem
-    left = itemsOf s (drop (i + 1) (take n l₀))
+    left = unpackedItems s (drop (i + 1) (take n l₀))
 
-    next-items : itemsOf s (drop i (take n l₀)) ≡ itemOf s x ∷ left
-    unfolding itemsOf
+    next-items : unpackedItems s (drop i (take n l₀)) ≡ unpackedItem s x ∷ left
+    unfolding unpackedItems
     next-items =
         let d : drop i (take n l₀) ≡ getD (take n l₀) i 0 ∷ drop (i + 1) (take n l₀) = rw (add-one i)
             (drop-cons (take n l₀) i 0 (omega (arith, taken-length))) in
-        ap (itemsOf s) d
-        ∙ ap (λ (y : ℕ). itemOf s y ∷ left) (sym x-is)
+        ap (unpackedItems s) d
+        ∙ ap (λ (y : ℕ). unpackedItem s y ∷ left) (sym x-is)
 
     -- by what is said of it
-    next-taken : (v : ItemVerdict) → v ≡ judgeItem answer (itemOf s x)
-        → takeAll answer (takeState true b) (itemsIn s n l₀) ≡ takeAll answer
-            (takeJudged (withPending s b (take p l)) (itemOf s x) v) left
+    next-taken : (v : ItemVerdict) → v ≡ judgeItem answer (unpackedItem s x)
+        → storeAllItems answer (storingState true b) (unpackedFirstItems s n l₀) ≡ storeAllItems answer
+            (storeJudgedItem (storeWithPending s b (take p l)) (unpackedItem s x) v) left
     next-taken v e =
-        w .same ∙ ap (takeAll answer (takeState true (withPending s b (take p l)))) next-items
-        ∙ took answer (takeState true (withPending s b (take p l))) (itemOf s x) left
-        (sym (next-good answer (withPending s b (take p l)) (itemOf s x) refl
-            ∙ item-judged answer (withPending s b (take p l)) (itemOf s x)
-            ∙ ap (takeJudged (withPending s b (take p l)) (itemOf s x)) (sym e)))
+        w .same ∙ ap (storeAllItems answer (storingState true (storeWithPending s b (take p l)))) next-items
+        ∙ took answer (storingState true (storeWithPending s b (take p l))) (unpackedItem s x) left
+        (sym (next-good answer (storeWithPending s b (take p l)) (unpackedItem s x) refl
+            ∙ item-judged answer (storeWithPending s b (take p l)) (unpackedItem s x)
+            ∙ ap (storeJudgedItem (storeWithPending s b (take p l)) (unpackedItem s x)) (sym e)))
 
 -- an object that is next, and what is said of it
 pub record NextItem (answer : ℕ) (s b l₀ : List ℕ) (n : ℕ) (l filled : List ℕ) (p i : ℕ)
     (w : Judging answer s b l₀ n l filled p i) (v : ItemVerdict) : Type 0 where
-  pub list : ItemList s n l₀
+  pub list : IsItemList s n l₀
   pub more : i < n
-  pub says : v ≡ judgeItem answer (itemOf s (getD l i 0))
+  pub says : v ≡ judgeItem answer (unpackedItem s (getD l i 0))
 
 module _ {answer : ℕ} {s b l₀ : List ℕ} {n : ℕ} {l filled : List ℕ} {p i : ℕ}
     {w : Judging answer s b l₀ n l filled p i} {v : ItemVerdict}
@@ -358,15 +358,15 @@ module _ {answer : ℕ} {s b l₀ : List ℕ} {n : ℕ} {l filled : List ℕ} {p
 
   -- the store with what is pending in it
   abbrev laid : List ℕ
-  laid = withPending s b (take p l)
+  laid = storeWithPending s b (take p l)
 
   abbrev behind : List PrimitiveItem
   behind = left (z .list) w (z .more)
 
-  abbrev All : TakeState
-  All = takeAll answer (takeState true b) (itemsIn s n l₀)
+  abbrev All : StoringState
+  All = storeAllItems answer (storingState true b) (unpackedFirstItems s n l₀)
 
-  taken : {u : ItemVerdict} → v ≡ u → All ≡ takeAll answer (takeJudged laid (itemOf s item) u) behind
+  taken : {u : ItemVerdict} → v ≡ u → All ≡ storeAllItems answer (storeJudgedItem laid (unpackedItem s item) u) behind
   taken {u} q = next-taken (z .list) w (z .more) u (sym q ∙ z .says)
 
   pub judged-skipped : v ≡ Skipped → Judging answer s b l₀ n l filled p (i + 1)
@@ -380,33 +380,33 @@ module _ {answer : ℕ} {s b l₀ : List ℕ} {n : ℕ} {l filled : List ℕ} {p
   }
 
   pub judged-barred : v ≡ NotAllowed → All .good ≡ false
-  judged-barred q = ap (λ (t : TakeState). t .good) (taken q) ∙ all-bad answer laid behind refl
+  judged-barred q = ap (λ (t : StoringState). t .good) (taken q) ∙ all-bad answer laid behind refl
 
-  pub list-length : length l ≡ mostItems
+  pub list-length : length l ≡ mostListedItems
   list-length = w .room
 
-  pub pending-room : p < mostItems
+  pub pending-room : p < mostListedItems
   pending-room = omega (arith, w .few, z .more, z .list .few)
 
   module _ {k : ℕ} (q : v ≡ ForRow k) where
-    pub row-is : (k < rowCount) × (valueLength item ≤ rowAt k .greatest)
+    pub row-is : (k < rowCount) × (packedItemValueLength item ≤ rowAt k .greatest)
     row-is =
-        let f = row-fits answer (itemOf s item) (sym (z .says) ∙ q) in
+        let f = row-fits answer (unpackedItem s item) (sym (z .says) ∙ q) in
         (f .0, rw (value-long s item (next-inside (z .list) w (z .more))) at (f .1))
 
-    module _ {r : Bool} (o : r ≡ both (isFree dictionaryRows b k) (eqb (getD filled k 0) 0)) where
-      free-is : r ≡ isFree dictionaryRows laid k
+    module _ {r : Bool} (o : r ≡ both (isRowAbsentOrEmpty dictionaryRows b k) (eqb (getD filled k 0) 0)) where
+      free-is : r ≡ isRowAbsentOrEmpty dictionaryRows laid k
       free-is = o ∙ sym (w .values .free k (row-is .0))
 
       pub judged-again : r ≡ false → All .good ≡ false
-      judged-again d = ap (λ (t : TakeState). t .good) (taken q)
+      judged-again d = ap (λ (t : StoringState). t .good) (taken q)
           ∙ all-bad answer laid behind (if-no _ _ (sym free-is ∙ d))
 
       pub judged-put : r ≡ true
-          → Judging answer s b l₀ n (set l p (packedPending k item)) (markRow filled k (valueLength item)) (p + 1)
+          → Judging answer s b l₀ n (set l p (packedPendingEntry k item)) (markRowFilledIfNonEmpty filled k (packedItemValueLength item)) (p + 1)
           (i + 1)
       judged-put d =
-          let y = packedPending k item in
+          let y = packedPendingEntry k item in
           let f = sym free-is ∙ d in
           let m = row-is in
           let v = next-inside (z .list) w (z .more) in
@@ -420,32 +420,32 @@ module _ {answer : ℕ} {s b l₀ : List ℕ} {n : ℕ} {l filled : List ℕ} {p
             values = rw t (values-more s b (take p l) filled (w .values) k item (m .0) v (m .1) f);
             same =
               taken q
-              ∙ ap (λ (u : TakeState). takeAll answer u behind)
+              ∙ ap (λ (u : StoringState). storeAllItems answer u behind)
               (if-yes _ _ f
-                  ∙ ap (takeState true)
-                  (sym (ap (withPending s b) t ∙ more-put s b (take p l) filled (w .values) k item (m .0) v (m .1) f)));
+                  ∙ ap (storingState true)
+                  (sym (ap (storeWithPending s b) t ∙ more-put s b (take p l) filled (w .values) k item (m .0) v (m .1) f)));
           }
 
 -- ---- putting the pending values one after the other
 
-fitting-at : (s xs : List ℕ) (i : ℕ) → AllPendingFit s xs → i < length xs → PendingFits s (getD xs i 0)
+fitting-at : (s xs : List ℕ) (i : ℕ) → AllPendingEntriesFitRowAndBytes s xs → i < length xs → PendingEntryFitsRowAndBytes s (getD xs i 0)
 fitting-at s [] i h l = absurd (omega arith)
 fitting-at s (x ∷ xs) zero h l = h .0
 fitting-at s (x ∷ xs) (suc i) h l = fitting-at s xs i (h .1) (omega arith)
 
-pub after-none : (s b l : List ℕ) → b ≡ withPending s b (take 0 l)
-unfolding withPending
+pub after-none : (s b l : List ℕ) → b ≡ storeWithPending s b (take 0 l)
+unfolding storeWithPending
 after-none s b l = refl
 
-pub value-fits : (s l : List ℕ) (n : ℕ) → PendingList s n l → (i : ℕ) → i < n → PendingFits s (getD l i 0)
+pub value-fits : (s l : List ℕ) (n : ℕ) → IsPendingList s n l → (i : ℕ) → i < n → PendingEntryFitsRowAndBytes s (getD l i 0)
 value-fits s l n h i lt =
-    subst (PendingFits s) (getD-take n l i 0 lt)
+    subst (PendingEntryFitsRowAndBytes s) (getD-take n l i 0 lt)
     (fitting-at s (take n l) i (h .fitting) (omega (arith, length-take-le n l (omega (arith, h .room, h .few)))))
 
-pub after-one : (s b l : List ℕ) (n : ℕ) → PendingList s n l → (i : ℕ) → i < n
-    → putRow dictionaryRows (withPending s b (take i l)) (pendingRow (getD l i 0))
-        (valueIn s (getD l i 0)) ≡ withPending s b (take (i + 1) l)
+pub after-one : (s b l : List ℕ) (n : ℕ) → IsPendingList s n l → (i : ℕ) → i < n
+    → putRow dictionaryRows (storeWithPending s b (take i l)) (pendingEntryRow (getD l i 0))
+        (packedItemValueIn s (getD l i 0)) ≡ storeWithPending s b (take (i + 1) l)
 after-one s b l n h i lt =
     let e : take (i + 1) l ≡ take i l ++ (getD l i 0 ∷ []) = rw (add-one i)
         (take-suc l i 0 (omega (arith, h .room, h .few))) in
-    sym (ap (withPending s b) e ∙ laid-more s b (take i l) (getD l i 0))
+    sym (ap (storeWithPending s b) e ∙ laid-more s b (take i l) (getD l i 0))

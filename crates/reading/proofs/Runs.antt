@@ -12,46 +12,46 @@ use borrow.Author.Tests.{ne-eqb}
 use Rattle.basics.proofs.Laws.{if-no}
 use Rattle.tlv.specs.declared.TlvHeader.{TlvHeader}
 use Rattle.tlv.specs.declared.ObjectFront.the-variants as front
-use Rattle.tlv.specs.declared.Following.the-variants.{End, Inner, Malformed}
+use Rattle.tlv.specs.declared.NextInTemplate.the-variants.{End, Inner, Malformed}
 use Rattle.tlv.specs.Object.{headerOf, headerValue, behindObject}
-use Rattle.tlv.specs.Tree.{Forest, end, leaf, node, objectCount, frontNext, nextOf, withLeaf, withNode, parseTree}
+use Rattle.tlv.specs.Tree.{Forest, end, leaf, node, objectCount, nextInTemplateOfFront, nextInTemplate, prependLeaf, prependNode, parseTree}
 use Rattle.tlv.proofs.Laws.{Bytes, HeaderFits, header-fits}
 use Rattle.tlv.proofs.NextObject.{next-empty, next-object}
 use Rattle.tlv.proofs.Tree.{parse-end, parse-malformed, parse-deep, parse-node, parse-leaf, parse-count, zeros-in-front}
-use Rattle.reading.specs.declared.Tally.{Tally}
-use Rattle.reading.specs.declared.Walked.{Walked}
-use Rattle.reading.specs.declared.Walked.the-variants.{Whole, Broken}
+use Rattle.reading.specs.declared.VisitTally.{VisitTally}
+use Rattle.reading.specs.declared.TemplateWalkResult.{TemplateWalkResult}
+use Rattle.reading.specs.declared.TemplateWalkResult.the-variants.{Whole, Broken}
 use Rattle.reading.specs.Taking.{PrimitiveItem, primitiveItem, primitiveItems}
-use Rattle.reading.specs.Items.{packedItem, tally, mostItems, itemsIn, WalkFits, HasListed, ThenLists, Walks}
+use Rattle.reading.specs.Items.{packedItem, tally, mostListedItems, unpackedFirstItems, TemplateWalkHasRoom, WalkListedItems, ListsTreeThen, WalkListsTree}
 use Rattle.reading.proofs.Items.{part, part-empty, part-bytes, part-length, part-cons, object-inside, value-in}
 use Rattle.reading.proofs.Items.{value-part, behind-part, tag-small}
 use Rattle.reading.proofs.Items.{item-packed, inside-packed, items-more, items-listed, pass, enter, has-room}
 use Rattle.reading.proofs.Items.{list, within}
 
-pub whole-broken : (t : Tally) → Whole t ≡ Broken → ⊥
+pub whole-broken : (t : VisitTally) → Whole t ≡ Broken → ⊥
 whole-broken t e = let z : _≡_ {A = ℕ} 0 1 = cc in omega arith
 
 -- no object is next where none is at the front, unless padding is
-pub next-broken : (b : ℕ) (v : List ℕ) → (b ≡ 0 → ⊥) → headerOf (b ∷ v) ≡ front.Broken → nextOf (b ∷ v) ≡ Malformed
-unfolding nextOf
-next-broken b v n e = if-no _ _ (ne-eqb b 0 n) ∙ ap frontNext e
+pub next-broken : (b : ℕ) (v : List ℕ) → (b ≡ 0 → ⊥) → headerOf (b ∷ v) ≡ front.Broken → nextInTemplate (b ∷ v) ≡ Malformed
+unfolding nextInTemplate
+next-broken b v n e = if-no _ _ (ne-eqb b 0 n) ∙ ap nextInTemplateOfFront e
 
 -- ---- the ways that a run goes on, after n objects of which `is` are listed, with k after it
 
-module _ (around : ℕ) (r : Walked) (k : ℕ → List PrimitiveItem → Type 0) (n : ℕ) (is : List PrimitiveItem) where
+module _ (around : ℕ) (r : TemplateWalkResult) (k : ℕ → List PrimitiveItem → Type 0) (n : ℕ) (is : List PrimitiveItem) where
   on-leaf : (t : ℕ) (v : List ℕ) (x : Option Forest)
-      → ThenLists around x r k (n + 1) (is ++ (primitiveItem around t v ∷ []))
-      → ThenLists around (withLeaf t v x) r k n is
-  unfolding withLeaf objectCount primitiveItems
+      → ListsTreeThen around x r k (n + 1) (is ++ (primitiveItem around t v ∷ []))
+      → ListsTreeThen around (prependLeaf t v x) r k n is
+  unfolding prependLeaf objectCount primitiveItems
   on-leaf t v none h = h
   on-leaf t v (some f) h =
       let e : n + 1 + objectCount f ≡ n + (1 + objectCount f) = omega arith in
       subst (λ (m : ℕ). k m (is ++ (primitiveItem around t v ∷ primitiveItems around f))) e
       (subst (k (n + 1 + objectCount f)) (append-assoc is (primitiveItem around t v ∷ []) (primitiveItems around f)) h)
 
-  on-node : (t : ℕ) (x y : Option Forest) → ThenLists t x r (ThenLists around y r k) (n + 1) is
-      → ThenLists around (withNode t x y) r k n is
-  unfolding withNode objectCount primitiveItems
+  on-node : (t : ℕ) (x y : Option Forest) → ListsTreeThen t x r (ListsTreeThen around y r k) (n + 1) is
+      → ListsTreeThen around (prependNode t x y) r k n is
+  unfolding prependNode objectCount primitiveItems
   on-node t none y h = h
   on-node t (some f) none h = h
   on-node t (some f) (some g) h =
@@ -62,36 +62,36 @@ module _ (around : ℕ) (r : Walked) (k : ℕ → List PrimitiveItem → Type 0)
 
   module _ (l : ℕ) (v : List ℕ) where
     abbrev Here : Type 0
-    Here = ThenLists around (parseTree l v) r k n is
+    Here = ListsTreeThen around (parseTree l v) r k n is
 
-    by-parse : (x : Option Forest) → parseTree l v ≡ x → ThenLists around x r k n is → Here
-    by-parse x e h = subst (λ (z : Option Forest). ThenLists around z r k n is) (sym e) h
+    by-parse : (x : Option Forest) → parseTree l v ≡ x → ListsTreeThen around x r k n is → Here
+    by-parse x e h = subst (λ (z : Option Forest). ListsTreeThen around z r k n is) (sym e) h
 
-    pub then-end : nextOf v ≡ End → k n is → Here
+    pub then-end : nextInTemplate v ≡ End → k n is → Here
     unfolding objectCount primitiveItems
     then-end e h = let z : n ≡ n + 0 = omega arith in
         by-parse (some end) (parse-end l v e)
         (subst (λ (m : ℕ). k m (is ++ [])) z (subst (k n) (sym (append-nil is)) h))
 
-    pub then-malformed : nextOf v ≡ Malformed → r ≡ Broken → Here
+    pub then-malformed : nextInTemplate v ≡ Malformed → r ≡ Broken → Here
     then-malformed e h = by-parse none (parse-malformed l v e) h
 
-    pub then-padding : (w : List ℕ) → w ≡ 0 ∷ v → Here → ThenLists around (parseTree l w) r k n is
+    pub then-padding : (w : List ℕ) → w ≡ 0 ∷ v → Here → ListsTreeThen around (parseTree l w) r k n is
     then-padding w e h =
-        subst (λ (z : Option Forest). ThenLists around z r k n is) (sym (ap (parseTree l) e ∙ zeros-in-front 1 l v)) h
+        subst (λ (z : Option Forest). ListsTreeThen around z r k n is) (sym (ap (parseTree l) e ∙ zeros-in-front 1 l v)) h
 
-    module _ (h : TlvHeader) (e : nextOf v ≡ Inner h) where
+    module _ (h : TlvHeader) (e : nextInTemplate v ≡ Inner h) where
       pub then-deep : h .template ≡ true → l ≡ 0 → r ≡ Broken → Here
       then-deep p z q = by-parse none (parse-deep l v h e p z) q
 
       pub then-leaf : h .template ≡ false
-          → ThenLists around (parseTree l (behindObject v h)) r k (n + 1)
+          → ListsTreeThen around (parseTree l (behindObject v h)) r k (n + 1)
           (is ++ (primitiveItem around (h .tag) (headerValue v h) ∷ [])) → Here
       then-leaf p g = by-parse _ (parse-leaf l v h e p) (on-leaf (h .tag) _ _ g)
 
       pub then-node : h .template ≡ true → (l ≡ 0 → ⊥)
-          → ThenLists (h .tag) (parseTree (l - 1) (headerValue v h)) r
-              (ThenLists around (parseTree l (behindObject v h)) r k) (n + 1) is → Here
+          → ListsTreeThen (h .tag) (parseTree (l - 1) (headerValue v h)) r
+              (ListsTreeThen around (parseTree l (behindObject v h)) r k) (n + 1) is → Here
       then-node p z g = by-parse _ (parse-node l v h e p z) (on-node (h .tag) _ _ g)
 
 -- ---- a run that was walked to its end, and what follows it
@@ -99,21 +99,21 @@ module _ (around : ℕ) (r : Walked) (k : ℕ → List PrimitiveItem → Type 0)
 module _ (s : List ℕ) (around : ℕ) (n : ℕ) (is : List PrimitiveItem) (l : List ℕ) where
   -- where it was broken, so is all
   pub broken-run : (x : Option Forest) (k : ℕ → List PrimitiveItem → Type 0)
-      → ThenLists around x Broken (HasListed s l Broken) n is → ThenLists around x Broken k n is
+      → ListsTreeThen around x Broken (WalkListedItems s l Broken) n is → ListsTreeThen around x Broken k n is
   broken-run none k h = refl
   broken-run (some f) k h = absurd (whole-broken _ (sym (h .reports)))
 
-  module _ (u : Tally) where
+  module _ (u : VisitTally) where
     -- where it was whole, what is after it goes on with its tally and list
-    pub whole-run : (x : Option Forest) (r : Walked) (k : ℕ → List PrimitiveItem → Type 0)
-        → ThenLists around x (Whole u) (HasListed s l (Whole u)) n is
-        → k (u .objects) (itemsIn s (u .items) l) → ThenLists around x r k n is
+    pub whole-run : (x : Option Forest) (r : TemplateWalkResult) (k : ℕ → List PrimitiveItem → Type 0)
+        → ListsTreeThen around x (Whole u) (WalkListedItems s l (Whole u)) n is
+        → k (u .objects) (unpackedFirstItems s (u .items) l) → ListsTreeThen around x r k n is
     whole-run none r k h g = absurd (whole-broken u h)
     whole-run (some f) r k h g =
         let e : u ≡ tally (n + objectCount f) (length (is ++ primitiveItems around f)) = cc in
-        let i : itemsIn s (u .items) l ≡ is ++ primitiveItems around f = ap (λ (z : Tally). itemsIn s (z .items) l) e
+        let i : unpackedFirstItems s (u .items) l ≡ is ++ primitiveItems around f = ap (λ (z : VisitTally). unpackedFirstItems s (z .items) l) e
             ∙ h .are in
-        subst (λ (m : ℕ). k m (is ++ primitiveItems around f)) (ap (λ (z : Tally). z .objects) e)
+        subst (λ (m : ℕ). k m (is ++ primitiveItems around f)) (ap (λ (z : VisitTally). z .objects) e)
             (subst (k (u .objects)) i g)
 
 few-items : (around : ℕ) (f : Forest) → length (primitiveItems around f) ≤ objectCount f
@@ -128,19 +128,19 @@ few-items around (node t f r) =
 -- ---- where a walk stands: at a place of a template's contents, which end at `stop`, after n objects, k listed in l
 
 -- K is what follows the template, All what the whole walk promises
-pub record Run (s : List ℕ) (e stop levels around : ℕ) (K : Walked → List ℕ → ℕ → List PrimitiveItem → Type 0)
-    (All : Walked → List ℕ → Type 0)
+pub record Run (s : List ℕ) (e stop levels around : ℕ) (K : TemplateWalkResult → List ℕ → ℕ → List PrimitiveItem → Type 0)
+    (All : TemplateWalkResult → List ℕ → Type 0)
     (at n k : ℕ) (l : List ℕ) : Type 0 where
-  pub fits : WalkFits s at e n k l
+  pub fits : TemplateWalkHasRoom s at e n k l
   pub before : at ≤ stop
   pub inside : stop ≤ e
   pub tag : around < 0x1000000
-  pub same : (r : Walked) (l′ : List ℕ)
-      → ThenLists around (parseTree levels (part s at stop)) r (K r l′) n (itemsIn s k l) → All r l′
+  pub same : (r : TemplateWalkResult) (l′ : List ℕ)
+      → ListsTreeThen around (parseTree levels (part s at stop)) r (K r l′) n (unpackedFirstItems s k l) → All r l′
 
 -- what was found at the end of all contents is reported
-pub has-listed : {s : List ℕ} {a e n k : ℕ} {l : List ℕ} → WalkFits s a e n k l
-    → HasListed s l (Whole (tally n k)) n (itemsIn s k l)
+pub has-listed : {s : List ℕ} {a e n k : ℕ} {l : List ℕ} → TemplateWalkHasRoom s a e n k l
+    → WalkListedItems s l (Whole (tally n k)) n (unpackedFirstItems s k l)
 has-listed {s} {a} {e} {n} {k} {l} w =
     let c = items-listed w in
     record {
@@ -149,21 +149,21 @@ has-listed {s} {a} {e} {n} {k} {l} w =
       are = rw c;
     }
 
-module _ {s : List ℕ} {e stop levels around : ℕ} {K : Walked → List ℕ → ℕ → List PrimitiveItem → Type 0}
-    {All : Walked → List ℕ → Type 0}
+module _ {s : List ℕ} {e stop levels around : ℕ} {K : TemplateWalkResult → List ℕ → ℕ → List PrimitiveItem → Type 0}
+    {All : TemplateWalkResult → List ℕ → Type 0}
     {at n k : ℕ} {l : List ℕ} (w : Run s e stop levels around K All at n k l) where
   pub stops : stop ≤ length s
   stops = omega (arith, w .inside, w .fits .ends)
 
-  pub ended : stop ≤ at → (r : Walked) (l′ : List ℕ) → K r l′ n (itemsIn s k l) → All r l′
+  pub ended : stop ≤ at → (r : TemplateWalkResult) (l′ : List ℕ) → K r l′ n (unpackedFirstItems s k l) → All r l′
   ended z r l′ h =
       w .same r l′
       (then-end around r (K r l′) n _ levels _ (next-empty _ (ap length (part-empty s at stop z))) h)
 
   -- a walk that stands elsewhere in the same contents
-  on : {at′ n′ k′ : ℕ} {l₁ : List ℕ} → WalkFits s at′ e n′ k′ l₁ → at′ ≤ stop
-      → ((r : Walked) (l′ : List ℕ) → ThenLists around (parseTree levels (part s at′ stop)) r (K r l′) n′
-          (itemsIn s k′ l₁) → All r l′)
+  on : {at′ n′ k′ : ℕ} {l₁ : List ℕ} → TemplateWalkHasRoom s at′ e n′ k′ l₁ → at′ ≤ stop
+      → ((r : TemplateWalkResult) (l′ : List ℕ) → ListsTreeThen around (parseTree levels (part s at′ stop)) r (K r l′) n′
+          (unpackedFirstItems s k′ l₁) → All r l′)
       → Run s e stop levels around K All at′ n′ k′ l₁
   on f b h = record { fits = f; before = b; inside = w .inside; tag = w .tag; same = h }
 
@@ -181,18 +181,18 @@ module _ {s : List ℕ} {e stop levels around : ℕ} {K : Walked → List ℕ �
     failed q x l′ =
         w .same Broken l′
         (then-malformed around Broken (K Broken l′) n _ levels _
-            (ap nextOf rest-cons ∙ next-broken _ _ q (ap headerOf (sym rest-cons) ∙ x)) refl)
+            (ap nextInTemplate rest-cons ∙ next-broken _ _ q (ap headerOf (sym rest-cons) ∙ x)) refl)
 
 -- the object that is next there, in bytes
-pub record Next (s : List ℕ) (e stop levels around : ℕ) (K : Walked → List ℕ → ℕ → List PrimitiveItem → Type 0)
-    (All : Walked → List ℕ → Type 0)
+pub record Next (s : List ℕ) (e stop levels around : ℕ) (K : TemplateWalkResult → List ℕ → ℕ → List PrimitiveItem → Type 0)
+    (All : TemplateWalkResult → List ℕ → Type 0)
     (at n k : ℕ) (l : List ℕ) (w : Run s e stop levels around K All at n k l) (h : TlvHeader) : Type 0 where
   pub bytes : Bytes s
   pub more : at < stop
   pub is : headerOf (part s at stop) ≡ front.Object h
 
-module _ {s : List ℕ} {e stop levels around : ℕ} {K : Walked → List ℕ → ℕ → List PrimitiveItem → Type 0}
-    {All : Walked → List ℕ → Type 0}
+module _ {s : List ℕ} {e stop levels around : ℕ} {K : TemplateWalkResult → List ℕ → ℕ → List PrimitiveItem → Type 0}
+    {All : TemplateWalkResult → List ℕ → Type 0}
     {at n k : ℕ} {l : List ℕ} {w : Run s e stop levels around K All at n k l} {h : TlvHeader}
         (x : Next s e stop levels around K All at n k l w h) where
   -- what is left of the contents, and where the object's value starts and ends
@@ -208,7 +208,7 @@ module _ {s : List ℕ} {e stop levels around : ℕ} {K : Walked → List ℕ �
   fits : HeaderFits rest h
   fits = header-fits rest h (x .is)
 
-  next : nextOf rest ≡ Inner h
+  next : nextInTemplate rest ≡ Inner h
   next = next-object rest h (x .is)
 
   pub bounds : (2 ≤ h .start) × ((beyond ≤ stop) × (beyond ≤ e))
@@ -217,7 +217,7 @@ module _ {s : List ℕ} {e stop levels around : ℕ} {K : Walked → List ℕ �
   pub small : h .tag < 0x1000000
   small = tag-small rest h (part-bytes s at stop (x .bytes)) (x .is)
 
-  pub list-length : length l ≡ mostItems
+  pub list-length : length l ≡ mostListedItems
   list-length = w .fits .room
 
   pub deep : h .template ≡ true → levels ≡ 0 → (l′ : List ℕ) → All Broken l′
@@ -231,7 +231,7 @@ module _ {s : List ℕ} {e stop levels around : ℕ} {K : Walked → List ℕ �
   number-fits = let b = bounds in
       (small, w .tag, omega arith, omega (arith, w .fits .short), omega (arith, w .fits .short))
 
-  pub room : k < mostItems
+  pub room : k < mostListedItems
   room = let b = bounds in has-room (w .fits) beyond (b .1 .1) (omega arith)
 
   pub listed : h .template ≡ false → Run s e stop levels around K All beyond (n + 1) (k + 1) (set l k number)
@@ -241,7 +241,7 @@ module _ {s : List ℕ} {e stop levels around : ℕ} {K : Walked → List ℕ �
       let v = item-packed (h .tag) around from (h .len) (f .1) (f .2) (f .3) (f .4) s
           ∙ ap (primitiveItem around (h .tag)) (sym (value-in s at stop (stops w) h fits)) in
       let m = items-more s l k number (omega (arith, room, list-length))
-          ∙ ap (λ (i : PrimitiveItem). itemsIn s k l ++ (i ∷ [])) v in
+          ∙ ap (λ (i : PrimitiveItem). unpackedFirstItems s k l ++ (i ∷ [])) v in
       on w
       (list (w .fits) beyond (b .1 .1) (omega arith) number
           (inside-packed (h .tag) around from (h .len) (f .1) (f .2) (f .3) (f .4) s (omega (arith, stops w))))
@@ -250,19 +250,19 @@ module _ {s : List ℕ} {e stop levels around : ℕ} {K : Walked → List ℕ �
           (then-leaf around r (K r l′) n _ levels rest h next p (rw (m, behind-part s at stop (stops w) h fits) at g)))
 
   -- a template, what it holds, and what follows it
-  pub entered : WalkFits s from e (n + 1) k l
+  pub entered : TemplateWalkHasRoom s from e (n + 1) k l
   entered = let b = bounds in enter (w .fits) from (omega arith) (omega arith)
 
-  pub entered-alone : WalkFits s from beyond (n + 1) k l
+  pub entered-alone : TemplateWalkHasRoom s from beyond (n + 1) k l
   entered-alone = within entered beyond (omega arith) (bounds .1 .1)
 
   module _ (p : h .template ≡ true) (q : levels ≡ 0 → ⊥) where
     abbrev tree : Option Forest
     tree = parseTree (levels - 1) (part s from beyond)
 
-    pub node-same : (r : Walked) (l′ : List ℕ)
-        → ThenLists (h .tag) tree r (ThenLists around (parseTree levels (part s beyond stop)) r (K r l′)) (n + 1)
-        (itemsIn s k l) → All r l′
+    pub node-same : (r : TemplateWalkResult) (l′ : List ℕ)
+        → ListsTreeThen (h .tag) tree r (ListsTreeThen around (parseTree levels (part s beyond stop)) r (K r l′)) (n + 1)
+        (unpackedFirstItems s k l) → All r l′
     node-same r l′ g =
         w .same r l′
         (then-node around r (K r l′) n _ levels rest h next p q
@@ -270,18 +270,18 @@ module _ {s : List ℕ} {e stop levels around : ℕ} {K : Walked → List ℕ �
 
     -- whose contents a walk has reported
     module _ (l₁ : List ℕ) where
-      pub inner-broken : Walks s (h .tag) tree (n + 1) k l Broken l₁ → (l′ : List ℕ) → All Broken l′
+      pub inner-broken : WalkListsTree s (h .tag) tree (n + 1) k l Broken l₁ → (l′ : List ℕ) → All Broken l′
       inner-broken g l′ = node-same Broken l′ (broken-run s (h .tag) (n + 1) _ l₁ tree _ g)
 
-      inner-fits : (u : Tally) (f : Option Forest) → tree ≡ f → Walks s (h .tag) f (n + 1) k l (Whole u) l₁
-          → WalkFits s beyond e (u .objects) (u .items) l₁
+      inner-fits : (u : VisitTally) (f : Option Forest) → tree ≡ f → WalkListsTree s (h .tag) f (n + 1) k l (Whole u) l₁
+          → TemplateWalkHasRoom s beyond e (u .objects) (u .items) l₁
       inner-fits u none z g = absurd (whole-broken u g)
       inner-fits u (some f) z g =
           let is = primitiveItems (h .tag) f in
-          let i : u ≡ tally (n + 1 + objectCount f) (length (itemsIn s k l ++ is)) = cc in
-          let o : u .objects ≡ n + 1 + objectCount f = ap (λ (t : Tally). t .objects) i in
-          let y : u .items ≡ length (itemsIn s k l ++ is) = ap (λ (t : Tally). t .items) i in
-          let j = length-append (itemsIn s k l) is in
+          let i : u ≡ tally (n + 1 + objectCount f) (length (unpackedFirstItems s k l ++ is)) = cc in
+          let o : u .objects ≡ n + 1 + objectCount f = ap (λ (t : VisitTally). t .objects) i in
+          let y : u .items ≡ length (unpackedFirstItems s k l ++ is) = ap (λ (t : VisitTally). t .items) i in
+          let j = length-append (unpackedFirstItems s k l) is in
           let d = items-listed (w .fits) in
           let a = few-items (h .tag) f in
           let c = parse-count (levels - 1) (part s from beyond) f z in
@@ -296,7 +296,7 @@ module _ {s : List ℕ} {e stop levels around : ℕ} {K : Walked → List ℕ �
             inside = rw y (g .items .inside);
           }
 
-      pub inner-whole : (u : Tally) → Walks s (h .tag) tree (n + 1) k l (Whole u) l₁
+      pub inner-whole : (u : VisitTally) → WalkListsTree s (h .tag) tree (n + 1) k l (Whole u) l₁
           → Run s e stop levels around K All beyond (u .objects) (u .items) l₁
       inner-whole u g =
           on w (inner-fits u tree refl g) (bounds .1 .0)

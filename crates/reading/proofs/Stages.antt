@@ -25,25 +25,25 @@ use Rattle.reading.specs.declared.Awaited.{Awaited}
 use Rattle.reading.specs.declared.ResponseVerdict.{ResponseVerdict}
 use Rattle.reading.specs.declared.ResponseVerdict.the-variants.{Accepted, BadStatus, Malformed, NotAllowed}
 use Rattle.reading.specs.declared.Reading.{Reading}
-use Rattle.reading.specs.declared.Tally.{Tally}
-use Rattle.reading.specs.declared.Beginning.{Beginning}
-use Rattle.reading.specs.declared.Beginning.the-variants as begins
+use Rattle.reading.specs.declared.VisitTally.{VisitTally}
+use Rattle.reading.specs.declared.ReadingBeginning.{ReadingBeginning}
+use Rattle.reading.specs.declared.ReadingBeginning.the-variants as begins
 use Rattle.reading.specs.declared.OuterObject.{OuterObject}
 use Rattle.reading.specs.declared.OuterObject.the-variants as outer
-use Rattle.reading.specs.declared.Walked.{Walked}
-use Rattle.reading.specs.declared.Walked.the-variants as walked
-use Rattle.reading.specs.declared.Listing.{Listing}
-use Rattle.reading.specs.declared.Listing.the-variants.{Objects, Decided}
-use Rattle.reading.specs.Taking.{PrimitiveItem, primitiveItem, TakeState, takeState, takeAll}
-use Rattle.reading.specs.Items.{packedItem, itemsOf, itemsIn, mostItems, ItemList, tally, HasListed, ThenLists}
-use Rattle.reading.specs.Pending.{withPending}
-use Rattle.reading.specs.Answer.{verdictNumber, ReadingOutcome, readingOutcome, GivesReading, primitive, template}
-use Rattle.reading.specs.Answer.{templateBody, frontBody, responseBody}
-use Rattle.reading.specs.Answer.{responseBit, primitiveParts, storedIfAllowed, readParts, readTree, readBody}
-use Rattle.reading.specs.Answer.{isRead, isStatus9000, isResponseLength, readAnswer}
-use Rattle.reading.specs.Count.{answerObjects}
-use Rattle.reading.specs.Inner.{readingOf, readingBeginning, outerFront, outerObject, listingOutcome, ListsFor}
-use Rattle.reading.specs.Inner.{ListsParts, readTemplate, valueOf, TemplateIn, closedListing}
+use Rattle.reading.specs.declared.TemplateWalkResult.{TemplateWalkResult}
+use Rattle.reading.specs.declared.TemplateWalkResult.the-variants as walked
+use Rattle.reading.specs.declared.ItemListing.{ItemListing}
+use Rattle.reading.specs.declared.ItemListing.the-variants.{Objects, Decided}
+use Rattle.reading.specs.Taking.{PrimitiveItem, primitiveItem, StoringState, storingState, storeAllItems}
+use Rattle.reading.specs.Items.{packedItem, unpackedItems, unpackedFirstItems, mostListedItems, IsItemList, tally, WalkListedItems, ListsTreeThen}
+use Rattle.reading.specs.Pending.{storeWithPending}
+use Rattle.reading.specs.Answer.{verdictNumber, ReadingOutcome, readingOutcome, ReadingAndStoreMatchOutcome, primitive, template}
+use Rattle.reading.specs.Answer.{templateBody, bodyOfOneObject, parseResponseBody}
+use Rattle.reading.specs.Answer.{responseBit, primitiveBodyItems, readingIfAllAllowed, readBodyItems, readParsedBody, readBody}
+use Rattle.reading.specs.Answer.{isBodyToBeRead, isStatus9000, responseLengthIs2To258, readAnswer}
+use Rattle.reading.specs.Count.{objectCountInAnswer}
+use Rattle.reading.specs.Inner.{readingOf, readingBeginning, outerObjectOfFront, outerObject, readingOutcomeOfListing, ListingGivesReading}
+use Rattle.reading.specs.Inner.{ListingGivesPrimitiveBodyReading, readTemplate, valueOfHeader, ResponseIsTemplate, listingOfTemplate}
 use Rattle.reading.proofs.Parts.{regive, judged-yes, template-right, template-wrong}
 use Rattle.reading.proofs.Count.{answer-tree, answer-half}
 use Rattle.reading.proofs.Items.{drop-take, front-bytes, item-packed, inside-packed, items-more, inside-more}
@@ -53,35 +53,35 @@ use Rattle.reading.proofs.Items.{tag-small}
 
 module _ (a : Awaited) (s : List ℕ) where
   pub begin-short : length s < 2 → readingBeginning a s ≡ begins.Decided Malformed
-  unfolding readingBeginning isResponseLength
+  unfolding readingBeginning responseLengthIs2To258
   begin-short h = if-no _ _ (both-no-left _ _ (lt-leb _ _ h))
 
   pub begin-long : 258 < length s → readingBeginning a s ≡ begins.Decided Malformed
-  unfolding readingBeginning isResponseLength
+  unfolding readingBeginning responseLengthIs2To258
   begin-long h = if-no _ _ (both-no-right _ _ (lt-leb _ _ h))
 
   module _ (l : 2 ≤ length s) (m : length s ≤ 258) where
-    good-length : isResponseLength s ≡ true
-    unfolding isResponseLength
+    good-length : responseLengthIs2To258 s ≡ true
+    unfolding responseLengthIs2To258
     good-length = both-yes _ _ (le-leb _ _ l) (le-leb _ _ m)
 
     pub begin-status : isStatus9000 s ≡ false → readingBeginning a s ≡ begins.Decided BadStatus
     unfolding readingBeginning
     begin-status e = if-yes _ _ good-length ∙ if-no _ _ e
 
-    pub begin-unread : isStatus9000 s ≡ true → isRead a ≡ false → readingBeginning a s ≡ begins.Decided Accepted
+    pub begin-unread : isStatus9000 s ≡ true → isBodyToBeRead a ≡ false → readingBeginning a s ≡ begins.Decided Accepted
     unfolding readingBeginning
     begin-unread e f = if-yes _ _ good-length ∙ if-yes _ _ e ∙ if-no _ _ f
 
-    pub begin-body : isStatus9000 s ≡ true → isRead a ≡ true → readingBeginning a s ≡ begins.Body (length s - 2)
+    pub begin-body : isStatus9000 s ≡ true → isBodyToBeRead a ≡ true → readingBeginning a s ≡ begins.Body (length s - 2)
     unfolding readingBeginning
     begin-body e f = if-yes _ _ good-length ∙ if-yes _ _ e ∙ if-yes _ _ f
 
   -- a body is the answer's bytes before the status, 256 at most
   pub begin-size : (n : ℕ) → readingBeginning a s ≡ begins.Body n → (n ≡ length s - 2) × (n ≤ 256)
-  unfolding readingBeginning isResponseLength
+  unfolding readingBeginning responseLengthIs2To258
   begin-size n =
-      let P : Beginning → Type 0 = λ x. x ≡ begins.Body n → (n ≡ length s - 2) × (n ≤ 256) in
+      let P : ReadingBeginning → Type 0 = λ x. x ≡ begins.Body n → (n ≡ length s - 2) × (n ≤ 256) in
       if-ind P _ _ _
       (λ t. if-ind P _ _ _
           (λ u. if-ind P _ _ _ (λ v e. let z : length s - 2 ≡ n = cc in let m : length s ≤ 258 = leb-true _ _
@@ -94,13 +94,13 @@ module _ (a : Awaited) (s : List ℕ) where
 
   -- what a beginning leads to, into the store b
   module _ (b : List ℕ) where
-    abbrev begun : Beginning → ReadingOutcome
+    abbrev begun : ReadingBeginning → ReadingOutcome
     begun (begins.Body n) = readBody a b (take n s)
     begun (begins.Decided v) = readingOutcome (verdictNumber v) 0 b
 
     answer-begun : readAnswer a b s ≡ begun (readingBeginning a s)
     unfolding readAnswer readingBeginning if
-    answer-begun = by-tests (isResponseLength s) (isStatus9000 s) (isRead a)
+    answer-begun = by-tests (responseLengthIs2To258 s) (isStatus9000 s) (isBodyToBeRead a)
       where
         by-tests : (l t r : Bool)
             → if l (if t (if r (readBody a b (take (length s - 2) s)) (readingOutcome 0 0 b)) (readingOutcome 1 0 b))
@@ -117,8 +117,8 @@ module _ (a : Awaited) (s : List ℕ) where
 
 -- what a whole reading promises: the reading r, and the store c that it leaves of b
 abbrev pub Whole : Awaited → List ℕ → List ℕ → Reading → List ℕ → Type 0
-Whole a s b r c = GivesReading r c (readAnswer a b s)
-    × ((length c ≡ storeSize) × ((2 * r .objects ≤ length s - 2) × (r .objects ≡ answerObjects a s)))
+Whole a s b r c = ReadingAndStoreMatchOutcome r c (readAnswer a b s)
+    × ((length c ≡ storeSize) × ((2 * r .objects ≤ length s - 2) × (r .objects ≡ objectCountInAnswer a s)))
 
 -- ---- the body's one object
 
@@ -133,7 +133,7 @@ module _ (s : List ℕ) where
   unfolding outerObject
   fits-outer = go (headerOf s) refl
     where
-      go : (x : ObjectFront) → headerOf s ≡ x → Fits (outerFront s x)
+      go : (x : ObjectFront) → headerOf s ≡ x → Fits (outerObjectOfFront s x)
       go Broken e = tt
       go (Object h) e =
           if-ind Fits _ _ _ (λ t. let f : (headerOf s ≡ Object h) × (h .start + h .len ≡ length s) = (e,
@@ -147,14 +147,14 @@ module _ (s : List ℕ) where
     abbrev objectRead : OuterObject → ReadingOutcome
     objectRead outer.Broken = readingOutcome 2 0 b
     objectRead (outer.Template h) = readTemplate a (h .tag) (headerValue s h) b
-    objectRead (outer.Primitive h) = readTree a b (some (primitive (h .tag) (headerValue s h)))
+    objectRead (outer.Primitive h) = readParsedBody a b (some (primitive (h .tag) (headerValue s h)))
 
     outer-object : readBody a b s ≡ objectRead (outerObject s)
-    unfolding readBody responseBody outerObject if
+    unfolding readBody parseResponseBody outerObject if
     outer-object = go (headerOf s)
       where
         by-tests : (h : TlvHeader) (t u : Bool)
-            → readTree a b
+            → readParsedBody a b
                 (if t (if u (templateBody (h .tag) (parseTree 3 (headerValue s h)))
                 (some (primitive (h .tag) (headerValue s h)))) none)
             ≡ objectRead (if t (if u (outer.Template h) (outer.Primitive h)) outer.Broken)
@@ -162,7 +162,7 @@ module _ (s : List ℕ) where
         by-tests h true false = refl
         by-tests h false u = refl
 
-        go : (x : ObjectFront) → readTree a b (frontBody s x) ≡ objectRead (outerFront s x)
+        go : (x : ObjectFront) → readParsedBody a b (bodyOfOneObject s x) ≡ objectRead (outerObjectOfFront s x)
         go Broken = refl
         go (Object h) = by-tests h (eqb (h .start + h .len) (length s)) (h .template)
 
@@ -188,7 +188,7 @@ module _ (a : Awaited) (s : List ℕ) (n : ℕ) (q : readingBeginning a s ≡ be
         let z = begin-size a s n q in
         (f .two, (omega (arith, f .inside), omega (arith, f .inside)))
 
-    value-here : headerValue body h ≡ valueOf s h
+    value-here : headerValue body h ≡ valueOfHeader s h
     value-here =
         let f = header-fits body h e in
         let l = body-length in
@@ -196,11 +196,11 @@ module _ (a : Awaited) (s : List ℕ) (n : ℕ) (q : readingBeginning a s ≡ be
         ap (take (h .len)) (drop-take (h .start) n s) ∙ take-take (h .len) (n - h .start) (drop (h .start) s) m
 
   module _ {x : OuterObject} (p : x ≡ outerObject body) where
-    pub broken-opened : x ≡ outer.Broken → {y : Listing} (l : List ℕ) → y ≡ Decided (readingOf Malformed 0)
-        → ListsFor a s (λ b. readAnswer a b s) y l
+    pub broken-opened : x ≡ outer.Broken → {y : ItemListing} (l : List ℕ) → y ≡ Decided (readingOf Malformed 0)
+        → ListingGivesReading a s (λ b. readAnswer a b s) y l
     broken-opened e l d = rw d (record { gives = λ b. answer-object outer.Broken p e b; fits = tt })
 
-    pub template-opened : (h : TlvHeader) → x ≡ outer.Template h → Bytes s → TemplateIn a s h
+    pub template-opened : (h : TlvHeader) → x ≡ outer.Template h → Bytes s → ResponseIsTemplate a s h
     template-opened h e i =
         let f = outer-fits body p e in
         let o = object-places h (f .0) in
@@ -213,14 +213,14 @@ module _ (a : Awaited) (s : List ℕ) (n : ℕ) (q : readingBeginning a s ≡ be
           tag = tag-small body h (front-bytes s n i) (f .0);
         }
 
-    pub primitive-opened : (h : TlvHeader) → x ≡ outer.Primitive h → {y : Listing} (l : List ℕ)
-        → ListsParts a (primitiveParts a (h .tag)) (h .start) (h .len) y l → ListsFor a s (λ b. readAnswer a b s) y l
+    pub primitive-opened : (h : TlvHeader) → x ≡ outer.Primitive h → {y : ItemListing} (l : List ℕ)
+        → ListingGivesPrimitiveBodyReading a (primitiveBodyItems a (h .tag)) (h .start) (h .len) y l → ListingGivesReading a s (λ b. readAnswer a b s) y l
     primitive-opened h e l g =
         let f = outer-fits body p e in
         let w = g s (object-places h (f .0) .1 .0) in
         record {
           gives = λ b. answer-object (outer.Primitive h) p e b
-              ∙ ap (λ (v : List ℕ). readTree a b (some (primitive (h .tag) v))) (value-here h (f .0)) ∙ w .gives b;
+              ∙ ap (λ (v : List ℕ). readParsedBody a b (some (primitive (h .tag) v))) (value-here h (f .0)) ∙ w .gives b;
           fits = w .fits;
         }
 
@@ -228,40 +228,40 @@ module _ (a : Awaited) (s : List ℕ) (n : ℕ) (q : readingBeginning a s ≡ be
 
 -- an answer that is decided by how it begins
 pub decided-opened : (a : Awaited) (s : List ℕ) (v : ResponseVerdict) → readingBeginning a s ≡ begins.Decided v
-    → {y : Listing} (l : List ℕ)
-    → y ≡ Decided (readingOf v 0) → ListsFor a s (λ b. readAnswer a b s) y l
+    → {y : ItemListing} (l : List ℕ)
+    → y ≡ Decided (readingOf v 0) → ListingGivesReading a s (λ b. readAnswer a b s) y l
 decided-opened a s v q l d = rw d (record { gives = λ b. answer-begun a s b ∙ ap (begun a s b) q; fits = tt })
 
 -- a template by what the walk over its contents reports
 module _ (a : Awaited) (t : ℕ) (s v l : List ℕ) where
-  by-tree : (x : Option Forest) (w : Walked) → ThenLists t x w (HasListed s l w) 1 []
-      → ListsFor a s (λ b. readTree a b (templateBody t x)) (closedListing a t w) l
-  unfolding closedListing
-  by-tree none w g = subst (λ (z : Walked). ListsFor a s (λ b. readTree a b none) (closedListing a t z) l) (sym g)
+  by-tree : (x : Option Forest) (w : TemplateWalkResult) → ListsTreeThen t x w (WalkListedItems s l w) 1 []
+      → ListingGivesReading a s (λ b. readParsedBody a b (templateBody t x)) (listingOfTemplate a t w) l
+  unfolding listingOfTemplate
+  by-tree none w g = subst (λ (z : TemplateWalkResult). ListingGivesReading a s (λ b. readParsedBody a b none) (listingOfTemplate a t z) l) (sym g)
       (record { gives = λ b. refl; fits = tt })
   by-tree (some f) w g =
-      let Q : Listing → Type 0 = λ y. ListsFor a s (λ b. readTree a b (some (template t f))) y l in
-      subst (λ (z : Walked). Q (closedListing a t z)) (sym (g .reports))
+      let Q : ItemListing → Type 0 = λ y. ListingGivesReading a s (λ b. readParsedBody a b (some (template t f))) y l in
+      subst (λ (z : TemplateWalkResult). Q (listingOfTemplate a t z)) (sym (g .reports))
       (if-ind Q _ _ _
       (λ e. record {
         gives = λ b.
-            ap (readParts a b (1 + objectCount f)) (template-right a t f (eqb-true _ _ e))
-            ∙ ap (λ (is : List PrimitiveItem). storedIfAllowed b (1 + objectCount f)
-                (takeAll (responseBit a) (takeState true b) is)) (sym (g .are));
+            ap (readBodyItems a b (1 + objectCount f)) (template-right a t f (eqb-true _ _ e))
+            ∙ ap (λ (is : List PrimitiveItem). readingIfAllAllowed b (1 + objectCount f)
+                (storeAllItems (responseBit a) (storingState true b) is)) (sym (g .are));
         fits = g .items;
       })
-      (λ e. record { gives = λ b. ap (readParts a b (1 + objectCount f)) (template-wrong a t f (eqb-false _ _ e));
+      (λ e. record { gives = λ b. ap (readBodyItems a b (1 + objectCount f)) (template-wrong a t f (eqb-false _ _ e));
           fits = tt }))
 
-  pub closed-listed : (w : Walked) {y : Listing} → ThenLists t (parseTree 3 v) w (HasListed s l w) 1 []
-      → y ≡ closedListing a t w → ListsFor a s (readTemplate a t v) y l
+  pub closed-listed : (w : TemplateWalkResult) {y : ItemListing} → ListsTreeThen t (parseTree 3 v) w (WalkListedItems s l w) 1 []
+      → y ≡ listingOfTemplate a t w → ListingGivesReading a s (readTemplate a t v) y l
   closed-listed w g d = rw d (by-tree (parseTree 3 v) w g)
 
 -- the outer template of an answer
-pub template-listed : (a : Awaited) (s : List ℕ) (h : TlvHeader) (l : List ℕ) → TemplateIn a s h
-    → (w : Walked) {y : Listing}
-    → ThenLists (h .tag) (parseTree 3 (contents s (h .start) (h .len))) w (HasListed s l w) 1 []
-        → y ≡ closedListing a (h .tag) w → ListsFor a s (λ b. readAnswer a b s) y l
+pub template-listed : (a : Awaited) (s : List ℕ) (h : TlvHeader) (l : List ℕ) → ResponseIsTemplate a s h
+    → (w : TemplateWalkResult) {y : ItemListing}
+    → ListsTreeThen (h .tag) (parseTree 3 (contents s (h .start) (h .len))) w (WalkListedItems s l w) 1 []
+        → y ≡ listingOfTemplate a (h .tag) w → ListingGivesReading a s (λ b. readAnswer a b s) y l
 template-listed a s h l i w g d =
     let c = closed-listed a (h .tag) s (contents s (h .start) (h .len)) l w g d in
     record { gives = λ b. i .gives b ∙ ap (λ (v : List ℕ). readTemplate a (h .tag) v b)
@@ -271,17 +271,17 @@ template-listed a s h l i w g d =
 
 -- the first k numbers of l are the objects `is` of s
 pub record PartList (s : List ℕ) (k : ℕ) (l : List ℕ) (is : List PrimitiveItem) : Type 0 where
-  pub list : ItemList s k l
-  pub are : itemsIn s k l ≡ is
+  pub list : IsItemList s k l
+  pub are : unpackedFirstItems s k l ≡ is
 
-pub set-room : (l : List ℕ) (i x : ℕ) → length l ≡ mostItems → length (set l i x) ≡ mostItems
+pub set-room : (l : List ℕ) (i x : ℕ) → length l ≡ mostListedItems → length (set l i x) ≡ mostListedItems
 set-room l i x e = length-set l i x ∙ e
 
-pub no-parts : (s l : List ℕ) → length l ≡ mostItems → PartList s 0 l []
-unfolding itemsOf
+pub no-parts : (s l : List ℕ) → length l ≡ mostListedItems → PartList s 0 l []
+unfolding unpackedItems
 no-parts s l e = record { list = record { room = e; few = omega arith; inside = tt }; are = refl }
 
-add-part : {s : List ℕ} {k : ℕ} {l : List ℕ} {is : List PrimitiveItem} → PartList s k l is → k < mostItems
+add-part : {s : List ℕ} {k : ℕ} {l : List ℕ} {is : List PrimitiveItem} → PartList s k l is → k < mostListedItems
     → (t p n : ℕ) → 1 ≤ p → p + n ≤ length s → p + n ≤ 256
     → n < 256 → (v : List ℕ) → take n (drop p s) ≡ v
         → PartList s (k + 1) (set l k (packedItem t 0x77 p n)) (is ++ (primitiveItem 0x77 t v ∷ []))
@@ -310,7 +310,7 @@ module _ (s : List ℕ) (start n : ℕ) where
   value-size h = simp (length-take, length-drop) (omega arith)
 
   module _ (a : 2 ≤ start) (b : start + n ≤ 256) (i : start + n ≤ length s) where
-    pub front-part : (l : List ℕ) → length l ≡ mostItems → (t j : ℕ) → j ≤ n
+    pub front-part : (l : List ℕ) → length l ≡ mostListedItems → (t j : ℕ) → j ≤ n
         → PartList s 1 (set l 0 (packedItem t 0x77 start j)) (primitiveItem 0x77 t (take j value) ∷ [])
     front-part l e t j h =
         add-part (no-parts s l e) (omega arith) t start j (omega arith) (omega arith) (omega arith) (omega arith)
@@ -318,7 +318,7 @@ module _ (s : List ℕ) (start n : ℕ) where
         (sym (take-take j n (drop start s) h))
 
     module _ {k : ℕ} {l : List ℕ} {is : List PrimitiveItem} (w : PartList s k l is) (t m : ℕ)
-        (few : k < mostItems) where
+        (few : k < mostListedItems) where
       behind : drop m value ≡ take (n - m) (drop (start + m) s)
       behind = drop-take m n (drop start s) ∙ ap (take (n - m)) (drop-drop m start s)
 
@@ -336,41 +336,41 @@ module _ (s : List ℕ) (start n : ℕ) where
           (drop m value) (sym behind)
 
 module _ (a : Awaited) (f : List ℕ → Option (List PrimitiveItem)) (start n : ℕ) (l : List ℕ) where
-  pub parts-none : {y : Listing} → ((v : List ℕ) → length v ≡ n → f v ≡ none) → y ≡ Decided (readingOf Malformed 1)
-      → ListsParts a f start n y l
+  pub parts-none : {y : ItemListing} → ((v : List ℕ) → length v ≡ n → f v ≡ none) → y ≡ Decided (readingOf Malformed 1)
+      → ListingGivesPrimitiveBodyReading a f start n y l
   parts-none h d s i =
-      rw d (record { gives = λ b. ap (readParts a b 1) (h (value s start n) (value-size s start n i)); fits = tt })
+      rw d (record { gives = λ b. ap (readBodyItems a b 1) (h (value s start n) (value-size s start n i)); fits = tt })
 
   pub parts-some : (k : ℕ) (is : List ℕ → List PrimitiveItem) → ((v : List ℕ) → length v ≡ n → f v ≡ some (is v))
       → ((s : List ℕ) → start + n ≤ length s → PartList s k l (is (value s start n)))
-          → ListsParts a f start n (Objects (tally 1 k)) l
+          → ListingGivesPrimitiveBodyReading a f start n (Objects (tally 1 k)) l
   parts-some k is h g s i =
       let w = g s i in
       record {
         gives = λ b.
-            ap (readParts a b 1) (h (value s start n) (value-size s start n i))
-            ∙ ap (λ (js : List PrimitiveItem). storedIfAllowed b 1 (takeAll (responseBit a) (takeState true b) js))
+            ap (readBodyItems a b 1) (h (value s start n) (value-size s start n i))
+            ∙ ap (λ (js : List PrimitiveItem). readingIfAllAllowed b 1 (storeAllItems (responseBit a) (storingState true b) js))
                 (sym (w .are));
         fits = w .list;
       }
 
 -- the parts of the answer c, where c is awaited
-pub parts-for : {a c : Awaited} {f : List ℕ → Option (List PrimitiveItem)} (t start n : ℕ) {y : Listing} {l : List ℕ}
+pub parts-for : {a c : Awaited} {f : List ℕ → Option (List PrimitiveItem)} (t start n : ℕ) {y : ItemListing} {l : List ℕ}
     → a ≡ c
-    → ((v : List ℕ) → primitiveParts c t v ≡ f v) → ListsParts c f start n y l
-        → ListsParts a (primitiveParts a t) start n y l
-parts-for {a} {c} {f} t start n {y} {l} e h g = subst (λ (z : Awaited). ListsParts z (primitiveParts z t) start n y l)
+    → ((v : List ℕ) → primitiveBodyItems c t v ≡ f v) → ListingGivesPrimitiveBodyReading c f start n y l
+        → ListingGivesPrimitiveBodyReading a (primitiveBodyItems a t) start n y l
+parts-for {a} {c} {f} t start n {y} {l} e h g = subst (λ (z : Awaited). ListingGivesPrimitiveBodyReading z (primitiveBodyItems z t) start n y l)
     (sym e) here
   where
-    here : ListsParts c (primitiveParts c t) start n y l
+    here : ListingGivesPrimitiveBodyReading c (primitiveBodyItems c t) start n y l
     here s i =
         let w = g s i in
-        record { gives = λ b. ap (readParts c b 1) (h (value s start n)) ∙ w .gives b; fits = w .fits }
+        record { gives = λ b. ap (readBodyItems c b 1) (h (value s start n)) ∙ w .gives b; fits = w .fits }
 
 -- ---- what is said of the objects
 
 gives : (v : ResponseVerdict) (n : ℕ) (c : List ℕ) {r : Reading} {o : ReadingOutcome} → r ≡ readingOf v n
-    → o ≡ readingOutcome (verdictNumber v) n c → GivesReading r c o
+    → o ≡ readingOutcome (verdictNumber v) n c → ReadingAndStoreMatchOutcome r c o
 gives v n c e f = record {
   reason = ap (λ (x : Reading). verdictNumber (x .verdict)) e ∙ ap (λ (x : ReadingOutcome). x .reason) (sym f);
   objects = ap (λ (x : Reading). x .objects) e ∙ ap (λ (x : ReadingOutcome). x .objects) (sym f);
@@ -378,33 +378,33 @@ gives v n c e f = record {
 }
 
 -- the work that the objects of a listing leave
-abbrev taken : Awaited → List ℕ → List ℕ → List ℕ → Tally → TakeState
-taken a s b l t = takeAll (responseBit a) (takeState true b) (itemsIn s (t .items) l)
+abbrev taken : Awaited → List ℕ → List ℕ → List ℕ → VisitTally → StoringState
+taken a s b l t = storeAllItems (responseBit a) (storingState true b) (unpackedFirstItems s (t .items) l)
 
-module _ (a : Awaited) (s b l l′ : List ℕ) {x : Listing} where
+module _ (a : Awaited) (s b l l′ : List ℕ) {x : ItemListing} where
   pub decided-given : (r : Reading) → x ≡ Decided r
-      → GivesReading r (withPending s b (take 0 l′)) (listingOutcome a s b x l)
-  unfolding withPending
+      → ReadingAndStoreMatchOutcome r (storeWithPending s b (take 0 l′)) (readingOutcomeOfListing a s b x l)
+  unfolding storeWithPending
   decided-given r e = rw e (record { reason = refl; objects = refl; store = refl })
 
-  module _ (t : Tally) (e : x ≡ Objects t) {r : Reading} {p : ℕ} where
+  module _ (t : VisitTally) (e : x ≡ Objects t) {r : Reading} {p : ℕ} where
     pub refused-given : taken a s b l t .good ≡ false → r ≡ readingOf NotAllowed (t .objects) → p ≡ 0
-        → GivesReading r (withPending s b (take p l′)) (listingOutcome a s b x l)
-    unfolding withPending
+        → ReadingAndStoreMatchOutcome r (storeWithPending s b (take p l′)) (readingOutcomeOfListing a s b x l)
+    unfolding storeWithPending
     refused-given g d z = rw (z, e) (gives NotAllowed (t .objects) b d (if-no _ _ g))
 
-    pub accepted-given : (k : ℕ) → taken a s b l t ≡ takeState true (withPending s b (take k l′))
+    pub accepted-given : (k : ℕ) → taken a s b l t ≡ storingState true (storeWithPending s b (take k l′))
         → r ≡ readingOf Accepted (t .objects) → p ≡ k
-        → GivesReading r (withPending s b (take p l′)) (listingOutcome a s b x l)
+        → ReadingAndStoreMatchOutcome r (storeWithPending s b (take p l′)) (readingOutcomeOfListing a s b x l)
     accepted-given k g d z =
-        rw (z, e) (gives Accepted (t .objects) (withPending s b (take k l′)) d (judged-yes b (t .objects) g refl))
+        rw (z, e) (gives Accepted (t .objects) (storeWithPending s b (take k l′)) d (judged-yes b (t .objects) g refl))
 
 -- ---- the whole reading
 
-module _ (a : Awaited) (s b : List ℕ) {x : Listing} {l : List ℕ} (w : ListsFor a s (λ b. readAnswer a b s) x l)
+module _ (a : Awaited) (s b : List ℕ) {x : ItemListing} {l : List ℕ} (w : ListingGivesReading a s (λ b. readAnswer a b s) x l)
     {r : Reading} {c : List ℕ}
-    (g : GivesReading r c (listingOutcome a s b x l)) where
-  pub answer-given : GivesReading r c (readAnswer a b s)
+    (g : ReadingAndStoreMatchOutcome r c (readingOutcomeOfListing a s b x l)) where
+  pub answer-given : ReadingAndStoreMatchOutcome r c (readAnswer a b s)
   answer-given = regive (sym (w .gives b)) g
 
   pub whole : length c ≡ storeSize → Whole a s b r c

@@ -12,26 +12,26 @@ use Rattle.tlv.specs.declared.ObjectFront.the-variants.{Object, Broken}
 use Rattle.tlv.specs.Object.{headerOf}
 use Rattle.tlv.specs.Tree.{Forest, objectCount, parseTree}
 use Rattle.reading.specs.declared.Awaited.{Awaited}
-use Rattle.reading.specs.Answer.{isResponseLength, isStatus9000, isRead}
+use Rattle.reading.specs.Answer.{responseLengthIs2To258, isStatus9000, isBodyToBeRead}
 
 -- one object at the front is all there is: no byte before it, none after it
-abbrev pub isOneObject : Bytes → ObjectFront → Bool
-isOneObject s Broken = false
-isOneObject s (Object h) = h .start + h .len =? length s
+abbrev pub objectSpansAllBytes : Bytes → ObjectFront → Bool
+objectSpansAllBytes s Broken = false
+objectSpansAllBytes s (Object h) = h .start + h .len =? length s
 
 -- the objects of a tree; 0 where there is none
-abbrev pub treeCount : Option Forest → Count
-treeCount none = 0
-treeCount (some f) = objectCount f
+abbrev pub treeObjectCount : Option Forest → Count
+treeObjectCount none = 0
+treeObjectCount (some f) = objectCount f
 
 -- the objects of a body that is one object, this one included; at most four levels of templates
-unfoldable pub bodyObjects : Bytes → Count
-bodyObjects s =
-    if isOneObject s (headerOf s) then treeCount (parseTree 4 s)
+unfoldable pub objectCountInBody : Bytes → Count
+objectCountInBody s =
+    if objectSpansAllBytes s (headerOf s) then treeObjectCount (parseTree 4 s)
     else 0
 
 -- the objects of an answer: those of its body, where length and status are good and more than the status is read
-unfoldable pub answerObjects : Awaited → Response → Count
-answerObjects a s =
-    if isResponseLength s and isStatus9000 s and isRead a then bodyObjects (take (length s - 2) s)
+unfoldable pub objectCountInAnswer : Awaited → Response → Count
+objectCountInAnswer a s =
+    if responseLengthIs2To258 s and isStatus9000 s and isBodyToBeRead a then objectCountInBody (take (length s - 2) s)
     else 0

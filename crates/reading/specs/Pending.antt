@@ -14,87 +14,89 @@ use Rattle.tlv.specs.Tag.{isPrivate}
 use Rattle.dictionary.specs.declared.RowFound.{RowFound}
 use Rattle.dictionary.specs.declared.RowFound.the-variants.{At, Unknown}
 use Rattle.dictionary.specs.Rows.{dictionaryRows, rowAt, rowCount, findRow, storeSize}
-use Rattle.store.specs.Place.{isFree, putRow}
+use Rattle.store.specs.Place.{isRowAbsentOrEmpty, putRow}
 use Rattle.reading.specs.declared.ItemVerdict.{ItemVerdict}
 use Rattle.reading.specs.declared.ItemVerdict.the-variants.{Skipped, NotAllowed, ForRow}
 use Rattle.reading.specs.declared.ItemsVerdict.{ItemsVerdict}
 use Rattle.reading.specs.declared.ItemsVerdict.the-variants as items
-use Rattle.reading.specs.Taking.{PrimitiveItem, cardMaySet, allowedInResponse, TakeState, takeState, takeAll}
-use Rattle.reading.specs.Items.{valueIn, valueLength, ValueInside, mostItems}
+use Rattle.reading.specs.Taking.{PrimitiveItem, cardMaySet, rowAllowsValueFromCard, StoringState, storingState, storeAllItems}
+use Rattle.reading.specs.Items.{packedItemValueIn, packedItemValueLength, ItemValueInside, mostListedItems}
 
 -- ---- one object, before the store is asked
 
 -- a known object is skipped if it is private and not for the card to set, else for its row if it is allowed here
-unfoldable pub judgeKnown : ℕ → PrimitiveItem → RowNumber → ItemVerdict
-judgeKnown answer i k =
+unfoldable pub judgeKnownItem : ℕ → PrimitiveItem → RowNumber → ItemVerdict
+judgeKnownItem answer i k =
     if isPrivate (i .tag) and not (cardMaySet (rowAt k)) then Skipped
-    else if allowedInResponse answer (rowAt k) (i .around) (i .value) then ForRow k
+    else if rowAllowsValueFromCard answer (rowAt k) (i .around) (i .value) then ForRow k
     else NotAllowed
 
 -- by its row in the table; an unknown one is skipped
-abbrev pub judgeFound : ℕ → PrimitiveItem → RowFound → ItemVerdict
-judgeFound answer i Unknown = Skipped
-judgeFound answer i (At k) = judgeKnown answer i k
+abbrev pub judgeItemOfRowFound : ℕ → PrimitiveItem → RowFound → ItemVerdict
+judgeItemOfRowFound answer i Unknown = Skipped
+judgeItemOfRowFound answer i (At k) = judgeKnownItem answer i k
 
 abbrev pub judgeItem : ℕ → PrimitiveItem → ItemVerdict
-judgeItem answer i = judgeFound answer i (findRow dictionaryRows (i .tag))
+judgeItem answer i = judgeItemOfRowFound answer i (findRow dictionaryRows (i .tag))
 
 -- and into the store b: an object for row k is put where no non-empty one is present
-abbrev pub takeJudged : StoreBytes → PrimitiveItem → ItemVerdict → TakeState
-takeJudged b i Skipped = takeState true b
-takeJudged b i NotAllowed = takeState false b
-takeJudged b i (ForRow k) =
-    if isFree dictionaryRows b k then takeState true (putRow dictionaryRows b k (i .value))
-    else takeState false b
+abbrev pub storeJudgedItem : StoreBytes → PrimitiveItem → ItemVerdict → StoringState
+storeJudgedItem b i Skipped = storingState true b
+storeJudgedItem b i NotAllowed = storingState false b
+storeJudgedItem b i (ForRow k) =
+    if isRowAbsentOrEmpty dictionaryRows b k then storingState true (putRow dictionaryRows b k (i .value))
+    else storingState false b
 
 -- ---- a pending value in one number: 2^16 times its row, 256 times the place of the byte before it, its length
 
-abbrev pub packedPending : RowNumber → ℕ → ℕ
-packedPending k x = k * 0x10000 + x % 0x10000
+abbrev pub packedPendingEntry : RowNumber → ℕ → ℕ
+packedPendingEntry k x = k * 0x10000 + x % 0x10000
 
-abbrev pub pendingRow : ℕ → RowNumber
-pendingRow x = x / 0x10000
+abbrev pub pendingEntryRow : ℕ → RowNumber
+pendingEntryRow x = x / 0x10000
 
 -- the store b with the values of the bytes s in it, one after the other
-unfoldable pub withPending : Bytes → StoreBytes → List ℕ → StoreBytes
-withPending s b [] = b
-withPending s b (x ∷ xs) = withPending s (putRow dictionaryRows b (pendingRow x) (valueIn s x)) xs
+unfoldable pub storeWithPending : Bytes → StoreBytes → List ℕ → StoreBytes
+storeWithPending s b [] = b
+storeWithPending s b (x ∷ xs) =
+    storeWithPending s (putRow dictionaryRows b (pendingEntryRow x) (packedItemValueIn s x)) xs
 
 -- a pending value fits its row and lies in the bytes
-pub record PendingFits (s : Bytes) (x : ℕ) : Type 0 where
-  pub row : pendingRow x < rowCount
-  pub most : valueLength x ≤ rowAt (pendingRow x) .greatest
-  pub inside : ValueInside s x
+pub record PendingEntryFitsRowAndBytes (answerBytes : Bytes) (packedEntry : ℕ) : Type 0 where
+  pub row : pendingEntryRow packedEntry < rowCount
+  pub most : packedItemValueLength packedEntry ≤ rowAt (pendingEntryRow packedEntry) .greatest
+  pub inside : ItemValueInside answerBytes packedEntry
 
 -- and so do all of some
-abbrev pub AllPendingFit : Bytes → List ℕ → Type 0
-AllPendingFit s [] = Unit {0}
-AllPendingFit s (x ∷ xs) = PendingFits s x × AllPendingFit s xs
+abbrev pub AllPendingEntriesFitRowAndBytes : Bytes → List ℕ → Type 0
+AllPendingEntriesFitRowAndBytes s [] = Unit {0}
+AllPendingEntriesFitRowAndBytes s (x ∷ xs) = PendingEntryFitsRowAndBytes s x × AllPendingEntriesFitRowAndBytes s xs
 
 -- the first k numbers of l are pending values
-pub record PendingList (s : Bytes) (k : Count) (l : List ℕ) : Type 0 where
-  pub room : length l ≡ mostItems
-  pub few : k ≤ mostItems
-  pub fitting : AllPendingFit s (take k l)
+pub record IsPendingList (answerBytes : Bytes) (entryCount : Count) (packedEntries : List ℕ) : Type 0 where
+  pub room : length packedEntries ≡ mostListedItems
+  pub few : entryCount ≤ mostListedItems
+  pub fitting : AllPendingEntriesFitRowAndBytes answerBytes (take entryCount packedEntries)
 
 -- a mark for row k, for which a value of n bytes is pending
-abbrev pub markRow : List ℕ → RowNumber → Length → List ℕ
-markRow filled k n =
+abbrev pub markRowFilledIfNonEmpty : List ℕ → RowNumber → Length → List ℕ
+markRowFilledIfNonEmpty filled k n =
     if n =? 0 then filled
     else set filled k 1
 
 -- the values xs are pending for the store b, with a mark for each row that has bytes pending
-pub record PendingValues (s : Bytes) (b : StoreBytes) (xs filled : List ℕ) : Type 0 where
-  pub fitting : AllPendingFit s xs
-  pub sized : length b ≡ storeSize
-  pub marks : length filled ≡ rowCount
+pub record PendingEntriesAndMarksForStore (answerBytes : Bytes) (storeBefore : StoreBytes) (packedEntries filledMarks : List ℕ) : Type 0 where
+  pub fitting : AllPendingEntriesFitRowAndBytes answerBytes packedEntries
+  pub sized : length storeBefore ≡ storeSize
+  pub marks : length filledMarks ≡ rowCount
   pub free : (k : ℕ) → k < rowCount
-    → isFree dictionaryRows (withPending s b xs) k ≡ (isFree dictionaryRows b k and getD filled k 0 =? 0)
+    → isRowAbsentOrEmpty dictionaryRows (storeWithPending answerBytes storeBefore packedEntries) k ≡ (isRowAbsentOrEmpty dictionaryRows storeBefore k and getD filledMarks k 0 =? 0)
 
 -- ---- all objects
 
 -- the objects `is` in an answer to the store b: r is said of them, and l lists what is pending
-abbrev pub JudgesItems : ℕ → Bytes → StoreBytes → List PrimitiveItem → ItemsVerdict → List ℕ → Type 0
-JudgesItems answer s b is items.NotAllowed l = takeAll answer (takeState true b) is .good ≡ false
-JudgesItems answer s b is (items.Pending k) l =
-    (takeAll answer (takeState true b) is ≡ takeState true (withPending s b (take k l))) × PendingList s k l
+abbrev pub ItemsVerdictMatchesStoringItems : ℕ → Bytes → StoreBytes → List PrimitiveItem → ItemsVerdict → List ℕ → Type 0
+ItemsVerdictMatchesStoringItems answer s b is items.NotAllowed l =
+    storeAllItems answer (storingState true b) is .good ≡ false
+ItemsVerdictMatchesStoringItems answer s b is (items.Pending k) l =
+    (storeAllItems answer (storingState true b) is ≡ storingState true (storeWithPending s b (take k l))) × IsPendingList s k l

@@ -6,14 +6,14 @@ use mathlib.Core.List.{List, [], _∷_, _++_}
 use Prim.Native.Nat.{ℕ}
 use Rattle.basics.specs.Types.{StoreBytes, Value, Tag, RowNumber}
 use Rattle.basics.specs.Choice.{if_then_else_, _and_, _=?_}
-use Rattle.basics.specs.Number.{hasBit}
+use Rattle.basics.specs.Number.{hasBitOfWeight}
 use Rattle.tlv.specs.Tag.{isPrivate}
 use Rattle.tlv.specs.Tree.{Forest, end, leaf, node}
 use Rattle.dictionary.specs.declared.RowFound.{RowFound}
 use Rattle.dictionary.specs.declared.RowFound.the-variants.{At, Unknown}
-use Rattle.dictionary.specs.Rows.{Row, dictionaryRows, rowAt, findRow, setByCard, in70, in77, inA5, inBF0C, in6F}
-use Rattle.dictionary.specs.Form.{fitsRow}
-use Rattle.store.specs.Place.{isFree, putRow}
+use Rattle.dictionary.specs.Rows.{Row, dictionaryRows, rowAt, findRow, setByCard, inTemplate70, inTemplate77, inTemplateA5, inTemplateBF0C, inTemplate6F}
+use Rattle.dictionary.specs.Form.{lengthAndDigitsFitRow}
+use Rattle.store.specs.Place.{isRowAbsentOrEmpty, putRow}
 
 -- a primitive object as it is in an answer: the tag of the template directly around it, its own tag, its value
 pub record PrimitiveItem : Type 0 where
@@ -32,67 +32,68 @@ primitiveItems a (leaf t v r) = primitiveItem a t v ∷ primitiveItems a r
 primitiveItems a (node t f r) = primitiveItems t f ++ primitiveItems a r
 
 -- a template is one of a set of templates; one other than these five is in none
-abbrev pub isTemplateIn : ℕ → Tag → Bool
-isTemplateIn templates around =
-    if around =? 0x70 then hasBit templates in70
-    else if around =? 0x77 then hasBit templates in77
-    else if around =? 0xA5 then hasBit templates inA5
-    else if around =? 0xBF0C then hasBit templates inBF0C
-    else if around =? 0x6F then hasBit templates in6F
+abbrev pub isTemplateInSet : ℕ → Tag → Bool
+isTemplateInSet templates around =
+    if around =? 0x70 then hasBitOfWeight templates inTemplate70
+    else if around =? 0x77 then hasBitOfWeight templates inTemplate77
+    else if around =? 0xA5 then hasBitOfWeight templates inTemplateA5
+    else if around =? 0xBF0C then hasBitOfWeight templates inTemplateBF0C
+    else if around =? 0x6F then hasBitOfWeight templates inTemplate6F
     else false
 
 -- a row's object may be directly inside this template
 unfoldable pub allowedInTemplate : Row → Tag → Bool
-allowedInTemplate r around = isTemplateIn (r .templates) around
+allowedInTemplate r around = isTemplateInSet (r .templates) around
 
 -- a row's object may be set by the card
 abbrev pub cardMaySet : Row → Bool
-cardMaySet r = hasBit (r .setters) setByCard
+cardMaySet r = hasBitOfWeight (r .setters) setByCard
 
 -- the card may bring a row's object in this answer, directly inside this template, with this value: it fits the row
-unfoldable pub allowedInResponse : ℕ → Row → Tag → Value → Bool
-allowedInResponse answer r around v =
+unfoldable pub rowAllowsValueFromCard : ℕ → Row → Tag → Value → Bool
+rowAllowsValueFromCard answer r around v =
     cardMaySet r
-    and hasBit (r .answers) answer
+    and hasBitOfWeight (r .answers) answer
     and allowedInTemplate r around
-    and fitsRow r v
+    and lengthAndDigitsFitRow r v
 
 -- the card may set row k's object so, and no non-empty one is present
-unfoldable pub allowedNow : ℕ → StoreBytes → RowNumber → Tag → Value → Bool
-allowedNow answer b k around v = allowedInResponse answer (rowAt k) around v and isFree dictionaryRows b k
+unfoldable pub rowAllowsValueAndAbsentOrEmpty : ℕ → StoreBytes → RowNumber → Tag → Value → Bool
+rowAllowsValueAndAbsentOrEmpty answer b k around v =
+    rowAllowsValueFromCard answer (rowAt k) around v and isRowAbsentOrEmpty dictionaryRows b k
 
 -- the store while objects are taken, and whether every one so far was allowed
-pub record TakeState : Type 0 where
+pub record StoringState : Type 0 where
   pub good : Bool
   pub store : StoreBytes
 
 -- a store of these parts
-abbrev pub takeState : Bool → StoreBytes → TakeState
-takeState g b = record { good = g; store = b }
+abbrev pub storingState : Bool → StoreBytes → StoringState
+storingState g b = record { good = g; store = b }
 
 -- a known object is skipped if it is private and not for the card to set, stored if it is allowed, else not allowed
-abbrev pub takeKnown : ℕ → StoreBytes → PrimitiveItem → RowNumber → TakeState
-takeKnown answer b i k =
-    if isPrivate (i .tag) and not (cardMaySet (rowAt k)) then takeState true b
-    else if allowedNow answer b k (i .around) (i .value) then takeState true (putRow dictionaryRows b k (i .value))
-    else takeState false b
+abbrev pub storeKnownItem : ℕ → StoreBytes → PrimitiveItem → RowNumber → StoringState
+storeKnownItem answer b i k =
+    if isPrivate (i .tag) and not (cardMaySet (rowAt k)) then storingState true b
+    else if rowAllowsValueAndAbsentOrEmpty answer b k (i .around) (i .value) then storingState true (putRow dictionaryRows b k (i .value))
+    else storingState false b
 
 -- by its row in the table; an unknown one is skipped
-abbrev pub takeFound : ℕ → StoreBytes → PrimitiveItem → RowFound → TakeState
-takeFound answer b i Unknown = takeState true b
-takeFound answer b i (At k) = takeKnown answer b i k
+abbrev pub storeItemOfRowFound : ℕ → StoreBytes → PrimitiveItem → RowFound → StoringState
+storeItemOfRowFound answer b i Unknown = storingState true b
+storeItemOfRowFound answer b i (At k) = storeKnownItem answer b i k
 
 -- one object
-unfoldable pub takeItem : ℕ → StoreBytes → PrimitiveItem → TakeState
-takeItem answer b i = takeFound answer b i (findRow dictionaryRows (i .tag))
+unfoldable pub storeItem : ℕ → StoreBytes → PrimitiveItem → StoringState
+storeItem answer b i = storeItemOfRowFound answer b i (findRow dictionaryRows (i .tag))
 
 -- nothing is taken after an object that is not allowed
-unfoldable pub takeNext : ℕ → TakeState → PrimitiveItem → TakeState
-takeNext answer w i =
-    if w .good then takeItem answer (w .store) i
+unfoldable pub storeNextItem : ℕ → StoringState → PrimitiveItem → StoringState
+storeNextItem answer w i =
+    if w .good then storeItem answer (w .store) i
     else w
 
 -- one object after the other
-unfoldable pub takeAll : ℕ → TakeState → List PrimitiveItem → TakeState
-takeAll answer w [] = w
-takeAll answer w (i ∷ is) = takeAll answer (takeNext answer w i) is
+unfoldable pub storeAllItems : ℕ → StoringState → List PrimitiveItem → StoringState
+storeAllItems answer w [] = w
+storeAllItems answer w (i ∷ is) = storeAllItems answer (storeNextItem answer w i) is

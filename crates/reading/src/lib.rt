@@ -8,7 +8,7 @@
 // Here the walk calls itself on a template's contents. The module `flat` has the same open functions with the same
 // promises and a walk with no recursion; it shares all else. `read_both` runs both readers and says that they agree.
 pub mod flat;
-use dictionary::Attributes;
+use dictionary::RowAttributes;
 use dictionary::RowFound;
 use dictionary::ROWS;
 use tlv::{ObjectFront, TlvHeader};
@@ -18,29 +18,29 @@ ghost use Prim.Native.Nat.{_+_, _-_, _*_, _/_, _%_, _≤_, _<_};
 ghost use lib.Dec.{eqb};
 ghost use lib.ListN.{length, getD, set, take, drop};
 ghost use Rattle.basics.specs.Choice.{both};
-ghost use Rattle.basics.specs.Number.{hasBit};
+ghost use Rattle.basics.specs.Number.{hasBitOfWeight};
 ghost use Rattle.dictionary.specs.Rows.{dictionaryRows, rowCount, storeSize};
-ghost use Rattle.dictionary.specs.Packing.{rowWithAttributes};
-ghost use Rattle.dictionary.specs.Tables.{TablesGiven};
-ghost use Rattle.store.specs.Place.{isFree};
+ghost use Rattle.dictionary.specs.Packing.{rowWithAttributesAndTagZero};
+ghost use Rattle.dictionary.specs.Tables.{AreDictionaryTables};
+ghost use Rattle.store.specs.Place.{isRowAbsentOrEmpty};
 ghost use Rattle.tlv.specs.Tag.{isPrivate};
 ghost use Rattle.tlv.specs.Tree.{parseTree};
 ghost use Rattle.reading.specs.declared.Awaited.{Awaited};
-ghost use Rattle.reading.specs.declared.Listing.{Listing};
-ghost use Rattle.reading.specs.Taking.{allowedInResponse, cardMaySet, isTemplateIn};
-ghost use Rattle.reading.specs.Count.{answerObjects};
-ghost use Rattle.reading.specs.Both.{AnswerRead, ReadersAgree};
-ghost use Rattle.reading.specs.Items.{packedItem, itemTag, itemAround, valueStart, valueLength, ValueInside};
-ghost use Rattle.reading.specs.Items.{itemOf};
-ghost use Rattle.reading.specs.Items.{mostItems, ItemList, itemsIn, WalkFits, Walks};
-ghost use Rattle.reading.specs.Pending.{judgeItem, packedPending, pendingRow, markRow, PendingList, withPending};
-ghost use Rattle.reading.specs.Pending.{JudgesItems};
-ghost use Rattle.reading.specs.Inner.{readingOf, readingBeginning, outerObject, listingOutcome, ListingFits};
-ghost use Rattle.reading.specs.Inner.{ListsFor};
-ghost use Rattle.reading.specs.Inner.{ListsParts, Opens, closedListing};
-ghost use Rattle.reading.specs.Answer.{GivesReading, verdictNumber, responseBit, templateTag, gpoParts};
-ghost use Rattle.reading.specs.Answer.{cryptogramParts};
-ghost use Rattle.reading.specs.Answer.{primitiveParts, isRead, isStatus9000, readAnswer};
+ghost use Rattle.reading.specs.declared.ItemListing.{ItemListing};
+ghost use Rattle.reading.specs.Taking.{rowAllowsValueFromCard, cardMaySet, isTemplateInSet};
+ghost use Rattle.reading.specs.Count.{objectCountInAnswer};
+ghost use Rattle.reading.specs.Both.{ReadAnswerPromises, ReadersAgree};
+ghost use Rattle.reading.specs.Items.{packedItem, packedItemTag, packedItemTemplateTag, packedItemValueStart, packedItemValueLength, ItemValueInside};
+ghost use Rattle.reading.specs.Items.{unpackedItem};
+ghost use Rattle.reading.specs.Items.{mostListedItems, IsItemList, unpackedFirstItems, TemplateWalkHasRoom, WalkListsTree};
+ghost use Rattle.reading.specs.Pending.{judgeItem, packedPendingEntry, pendingEntryRow, markRowFilledIfNonEmpty, IsPendingList, storeWithPending};
+ghost use Rattle.reading.specs.Pending.{ItemsVerdictMatchesStoringItems};
+ghost use Rattle.reading.specs.Inner.{readingOf, readingBeginning, outerObject, readingOutcomeOfListing, ListedItemsLieInResponse};
+ghost use Rattle.reading.specs.Inner.{ListingGivesReading};
+ghost use Rattle.reading.specs.Inner.{ListingGivesPrimitiveBodyReading, OpenedResponseDescribesResponse, listingOfTemplate};
+ghost use Rattle.reading.specs.Answer.{ReadingAndStoreMatchOutcome, verdictNumber, responseBit, responseTemplateTag, gpoItemsUnder80};
+ghost use Rattle.reading.specs.Answer.{cryptogramItemsUnder80};
+ghost use Rattle.reading.specs.Answer.{primitiveBodyItems, isBodyToBeRead, isStatus9000, readAnswer};
 
 // An answer has at most 256 bytes and the two status bytes.
 const MOST_ANSWER: usize = 258;
@@ -90,14 +90,14 @@ pub struct Reading {
 }
 
 // The readings of one answer by both readers.
-pub struct Readings {
+pub struct BothReadings {
     pub recursive: Reading,
     pub flat: Reading,
 }
 
 // How the reading of an answer begins: with so many bytes of body, or with a verdict where length, status or
 // file decides.
-pub enum Beginning {
+pub enum ReadingBeginning {
     Body(usize),
     Decided(ResponseVerdict),
 }
@@ -110,33 +110,33 @@ pub enum OuterObject {
 }
 
 // A template's contents: where they start and end in the bytes.
-pub struct Contents {
+pub struct ContentsRange {
     pub start: usize,
     pub end: usize,
 }
 
 // How many objects were visited, templates included, and how many of them, the primitive ones, are listed.
-pub struct Tally {
+pub struct VisitTally {
     pub objects: usize,
     pub items: usize,
 }
 
 // What a walk over a template's contents reports.
-pub enum Walked {
-    Whole(Tally),
+pub enum TemplateWalkResult {
+    Whole(VisitTally),
     Broken,
 }
 
 // The objects of an answer, which are to be judged; or a reading where the answer is decided without them.
-pub enum Listing {
-    Objects(Tally),
+pub enum ItemListing {
+    Objects(VisitTally),
     Decided(Reading),
 }
 
 // What an answer is before a walk: a template, whose contents are to be walked, or listed without one.
-pub enum Opened {
+pub enum OpenedResponse {
     Template(TlvHeader),
-    Listed(Listing),
+    Listed(ItemListing),
 }
 
 // The verdict on an object before the store is asked: skipped, not allowed, or a value for a row.
@@ -161,10 +161,10 @@ pub struct PendingReading {
 // The whole answer to the command that was handed out, status bytes included.
 pub fn read_answer(store: &mut [u8], awaited: Awaited, answer: &[u8]) -> Reading
     requires { ⌜ length (now store) ≡ storeSize ⌝ }
-    ensures given { λ r. ⌜ GivesReading r (now (store .exit)) (readAnswer awaited (now (store .entry)) (now (answer .entry))) ⌝ }
+    ensures given { λ r. ⌜ ReadingAndStoreMatchOutcome r (now (store .exit)) (readAnswer awaited (now (store .entry)) (now (answer .entry))) ⌝ }
     ensures sized { λ _. ⌜ length (now (store .exit)) ≡ storeSize ⌝ }
     ensures half { λ r. ⌜ 2 * r .objects ≤ length (now (answer .entry)) - 2 ⌝ }
-    ensures tree { λ r. ⌜ r .objects ≡ answerObjects awaited (now (answer .entry)) ⌝ }
+    ensures tree { λ r. ⌜ r .objects ≡ objectCountInAnswer awaited (now (answer .entry)) ⌝ }
 {
     let mut items = [0u64; ITEMS];
     let listing = list_objects(awaited, answer, &mut items);
@@ -185,16 +185,16 @@ pub fn judge_answer(store: &[u8], awaited: Awaited, answer: &[u8]) -> ResponseVe
 
 // The answer by both readers, each with a store of its own; where the stores are equal, so are the readings and
 // what they leave.
-pub fn read_both(recursive: &mut [u8], flat: &mut [u8], awaited: Awaited, answer: &[u8]) -> Readings
+pub fn read_both(recursive: &mut [u8], flat: &mut [u8], awaited: Awaited, answer: &[u8]) -> BothReadings
     requires { ⌜ length (now recursive) ≡ storeSize ⌝ }
     requires { ⌜ length (now flat) ≡ storeSize ⌝ }
-    ensures recursive { λ r. ⌜ AnswerRead awaited (now (answer .entry)) (now (recursive .entry)) (r .recursive) (now (recursive .exit)) ⌝ }
-    ensures flat { λ r. ⌜ AnswerRead awaited (now (answer .entry)) (now (flat .entry)) (r .flat) (now (flat .exit)) ⌝ }
+    ensures recursive { λ r. ⌜ ReadAnswerPromises awaited (now (answer .entry)) (now (recursive .entry)) (r .recursive) (now (recursive .exit)) ⌝ }
+    ensures flat { λ r. ⌜ ReadAnswerPromises awaited (now (answer .entry)) (now (flat .entry)) (r .flat) (now (flat .exit)) ⌝ }
     ensures same { λ r. ⌜ (now (recursive .entry) ≡ now (flat .entry) → ReadersAgree r (now (recursive .exit)) (now (flat .exit))) ⌝ }
 {
     let first = read_answer(recursive, awaited, answer);
     let second = flat::read_answer(flat, awaited, answer);
-    Readings {
+    BothReadings {
         recursive: first,
         flat: second,
     }
@@ -213,19 +213,19 @@ pub fn verdict_number(verdict: ResponseVerdict) -> u8
 }
 
 // The objects of an answer, a template's by the walk that calls itself.
-fn list_objects(awaited: Awaited, answer: &[u8], items: &mut [u64; ITEMS]) -> Listing
-    requires { ⌜ length (now items) ≡ mostItems ⌝ }
-    ensures lists { λ r. ⌜ ListsFor awaited (now (answer .entry)) (λ b. readAnswer awaited b (now (answer .entry)))
+fn list_objects(awaited: Awaited, answer: &[u8], items: &mut [u64; ITEMS]) -> ItemListing
+    requires { ⌜ length (now items) ≡ mostListedItems ⌝ }
+    ensures lists { λ r. ⌜ ListingGivesReading awaited (now (answer .entry)) (λ b. readAnswer awaited b (now (answer .entry)))
       r (now (items .exit)) ⌝ }
-    ensures room { λ _. ⌜ length (now (items .exit)) ≡ mostItems ⌝ }
+    ensures room { λ _. ⌜ length (now (items .exit)) ≡ mostListedItems ⌝ }
 {
     let opened = open(awaited, answer, items);
     match opened {
-        Opened::Listed(listing) => listing,
-        Opened::Template(h) => {
+        OpenedResponse::Listed(listing) => listing,
+        OpenedResponse::Template(h) => {
             let start = h.start;
             let end = start + h.len;
-            let walked = walk(answer, Contents { start, end }, h.tag, 3, Tally { objects: 1, items: 0 }, items);
+            let walked = walk(answer, ContentsRange { start, end }, h.tag, 3, VisitTally { objects: 1, items: 0 }, items);
             close(awaited, h.tag, walked)
         }
     }
@@ -234,13 +234,13 @@ fn list_objects(awaited: Awaited, answer: &[u8], items: &mut [u64; ITEMS]) -> Li
 // The objects of a template's contents, listed behind those of the tally, with so many levels of templates still
 // allowed: an object that is a template is walked by a call of this function on its contents. Bytes of 00 before, between
 // and after the objects are padding, passed one at a time.
-fn walk(bytes: &[u8], contents: Contents, around: u32, levels: usize, tally: Tally, items: &mut [u64; ITEMS]) -> Walked
-    requires { ⌜ WalkFits (now bytes) (contents .start) (contents .end) (tally .objects) (tally .items) (now items) ⌝ }
+fn walk(bytes: &[u8], contents: ContentsRange, around: u32, levels: usize, tally: VisitTally, items: &mut [u64; ITEMS]) -> TemplateWalkResult
+    requires { ⌜ TemplateWalkHasRoom (now bytes) (contents .start) (contents .end) (tally .objects) (tally .items) (now items) ⌝ }
     requires { ⌜ around < 0x1000000 ⌝ }
-    ensures walks { λ r. ⌜ Walks (now (bytes .entry)) around
+    ensures walks { λ r. ⌜ WalkListsTree (now (bytes .entry)) around
       (parseTree levels (take (contents .end - contents .start) (drop (contents .start) (now (bytes .entry)))))
       (tally .objects) (tally .items) (now (items .entry)) r (now (items .exit)) ⌝ }
-    ensures room { λ _. ⌜ length (now (items .exit)) ≡ mostItems ⌝ }
+    ensures room { λ _. ⌜ length (now (items .exit)) ≡ mostListedItems ⌝ }
 {
     let end = contents.end;
     let mut at = contents.start;
@@ -252,20 +252,20 @@ fn walk(bytes: &[u8], contents: Contents, around: u32, levels: usize, tally: Tal
         } else {
             let front = tlv::object_header(&bytes[at..end]);
             let ObjectFront::Object(h) = front else {
-                return Walked::Broken; // no whole object is next
+                return TemplateWalkResult::Broken; // no whole object is next
             };
             let from = at + h.start;
             let e = from + h.len;
             n += 1;
             if h.template {
                 if levels == 0 {
-                    return Walked::Broken;
+                    return TemplateWalkResult::Broken;
                 }
-                let within = Contents { start: from, end: e };
-                let so_far = Tally { objects: n, items: k };
+                let within = ContentsRange { start: from, end: e };
+                let so_far = VisitTally { objects: n, items: k };
                 let inside = walk(bytes, within, h.tag, levels - 1, so_far, items);
-                let Walked::Whole(t) = inside else {
-                    return Walked::Broken;
+                let TemplateWalkResult::Whole(t) = inside else {
+                    return TemplateWalkResult::Broken;
                 };
                 n = t.objects;
                 k = t.items;
@@ -276,15 +276,15 @@ fn walk(bytes: &[u8], contents: Contents, around: u32, levels: usize, tally: Tal
             at = e;
         }
     }
-    Walked::Whole(Tally { objects: n, items: k })
+    TemplateWalkResult::Whole(VisitTally { objects: n, items: k })
 }
 
 // The listed objects are judged, and the pending values put into the store.
-fn take_listed(store: &mut [u8], awaited: Awaited, answer: &[u8], listing: Listing, items: &mut [u64; ITEMS]) -> Reading
-    requires { ⌜ (length (now store) ≡ storeSize) × (length (now items) ≡ mostItems) ⌝ }
-    requires { ⌜ ListingFits (now answer) listing (now items) ⌝ }
-    ensures given { λ r. ⌜ GivesReading r (now (store .exit))
-      (listingOutcome awaited (now (answer .entry)) (now (store .entry)) listing (now (items .entry))) ⌝ }
+fn take_listed(store: &mut [u8], awaited: Awaited, answer: &[u8], listing: ItemListing, items: &mut [u64; ITEMS]) -> Reading
+    requires { ⌜ (length (now store) ≡ storeSize) × (length (now items) ≡ mostListedItems) ⌝ }
+    requires { ⌜ ListedItemsLieInResponse (now answer) listing (now items) ⌝ }
+    ensures given { λ r. ⌜ ReadingAndStoreMatchOutcome r (now (store .exit))
+      (readingOutcomeOfListing awaited (now (answer .entry)) (now (store .entry)) listing (now (items .entry))) ⌝ }
     ensures sized { λ _. ⌜ length (now (store .exit)) ≡ storeSize ⌝ }
 {
     let judged = judge_listed(store, awaited, answer, listing, items);
@@ -297,19 +297,19 @@ fn judge_listed(
     store: &[u8],
     awaited: Awaited,
     answer: &[u8],
-    listing: Listing,
+    listing: ItemListing,
     items: &mut [u64; ITEMS],
 ) -> PendingReading
-    requires { ⌜ (length (now store) ≡ storeSize) × (length (now items) ≡ mostItems) ⌝ }
-    requires { ⌜ ListingFits (now answer) listing (now items) ⌝ }
-    ensures given { λ r. ⌜ GivesReading (r .reading)
-      (withPending (now (answer .entry)) (now (store .entry)) (take (r .pending) (now (items .exit))))
-      (listingOutcome awaited (now (answer .entry)) (now (store .entry)) listing (now (items .entry))) ⌝ }
-    ensures pending { λ r. ⌜ PendingList (now (answer .entry)) (r .pending) (now (items .exit)) ⌝ }
+    requires { ⌜ (length (now store) ≡ storeSize) × (length (now items) ≡ mostListedItems) ⌝ }
+    requires { ⌜ ListedItemsLieInResponse (now answer) listing (now items) ⌝ }
+    ensures given { λ r. ⌜ ReadingAndStoreMatchOutcome (r .reading)
+      (storeWithPending (now (answer .entry)) (now (store .entry)) (take (r .pending) (now (items .exit))))
+      (readingOutcomeOfListing awaited (now (answer .entry)) (now (store .entry)) listing (now (items .entry))) ⌝ }
+    ensures pending { λ r. ⌜ IsPendingList (now (answer .entry)) (r .pending) (now (items .exit)) ⌝ }
 {
     match listing {
-        Listing::Decided(reading) => PendingReading { reading, pending: 0 },
-        Listing::Objects(tally) => {
+        ItemListing::Decided(reading) => PendingReading { reading, pending: 0 },
+        ItemListing::Objects(tally) => {
             let judged = judge_items(items, tally.items, answer_bit(awaited), answer, store);
             match judged {
                 ItemsVerdict::NotAllowed => pending_reading(ResponseVerdict::NotAllowed, tally.objects, 0),
@@ -329,8 +329,8 @@ fn pending_reading(verdict: ResponseVerdict, objects: usize, pending: usize) -> 
 
 // Puts the pending values into the store, one after the other.
 fn store_pending(store: &mut [u8], bytes: &[u8], pending: &[u64; ITEMS], n: usize)
-    requires { ⌜ (length (now store) ≡ storeSize) × PendingList (now bytes) n (now pending) ⌝ }
-    ensures put { λ _. ⌜ now (store .exit) ≡ withPending (now (bytes .entry)) (now (store .entry))
+    requires { ⌜ (length (now store) ≡ storeSize) × IsPendingList (now bytes) n (now pending) ⌝ }
+    ensures put { λ _. ⌜ now (store .exit) ≡ storeWithPending (now (bytes .entry)) (now (store .entry))
       (take n (now (pending .entry))) ⌝ }
     ensures sized { λ _. ⌜ length (now (store .exit)) ≡ storeSize ⌝ }
 {
@@ -345,23 +345,23 @@ fn store_pending(store: &mut [u8], bytes: &[u8], pending: &[u64; ITEMS], n: usiz
 }
 
 // Length and status, and whether the body is read.
-fn begin(awaited: Awaited, answer: &[u8]) -> Beginning
+fn begin(awaited: Awaited, answer: &[u8]) -> ReadingBeginning
     ensures { λ r. ⌜ r ≡ readingBeginning awaited (now (answer .entry)) ⌝ }
 {
     let n = answer.len();
     if n < 2 {
-        return Beginning::Decided(ResponseVerdict::Malformed);
+        return ReadingBeginning::Decided(ResponseVerdict::Malformed);
     }
     if MOST_ANSWER < n {
-        return Beginning::Decided(ResponseVerdict::Malformed);
+        return ReadingBeginning::Decided(ResponseVerdict::Malformed);
     }
     if !is_good(answer) {
-        return Beginning::Decided(ResponseVerdict::BadStatus);
+        return ReadingBeginning::Decided(ResponseVerdict::BadStatus);
     }
     if !is_read(awaited) {
-        return Beginning::Decided(ResponseVerdict::Accepted);
+        return ReadingBeginning::Decided(ResponseVerdict::Accepted);
     }
-    Beginning::Body(n - 2)
+    ReadingBeginning::Body(n - 2)
 }
 
 // Whether the two bytes at the end are 90 00.
@@ -378,7 +378,7 @@ fn is_good(answer: &[u8]) -> bool
 
 // Whether more than the status is read: of files 11 to 30 nothing is.
 fn is_read(awaited: Awaited) -> bool
-    ensures { λ r. ⌜ r ≡ isRead awaited ⌝ }
+    ensures { λ r. ⌜ r ≡ isBodyToBeRead awaited ⌝ }
 {
     match awaited {
         Awaited::Gpo => true,
@@ -403,7 +403,7 @@ fn answer_bit(awaited: Awaited) -> u8
 
 // The outer tag of an answer that is a template.
 fn template_tag(awaited: Awaited) -> u32
-    ensures { λ r. ⌜ r ≡ templateTag awaited ⌝ }
+    ensures { λ r. ⌜ r ≡ responseTemplateTag awaited ⌝ }
 {
     match awaited {
         Awaited::Gpo => 0x77,
@@ -431,51 +431,51 @@ fn outer_of(body: &[u8]) -> OuterObject
 }
 
 // Length, status and the body's one object: a template, or the parts of a body under 80.
-fn open(awaited: Awaited, answer: &[u8], items: &mut [u64; ITEMS]) -> Opened
-    requires { ⌜ length (now items) ≡ mostItems ⌝ }
-    ensures opens { λ r. ⌜ Opens awaited (now (answer .entry)) r (now (items .exit)) ⌝ }
-    ensures room { λ _. ⌜ length (now (items .exit)) ≡ mostItems ⌝ }
+fn open(awaited: Awaited, answer: &[u8], items: &mut [u64; ITEMS]) -> OpenedResponse
+    requires { ⌜ length (now items) ≡ mostListedItems ⌝ }
+    ensures opens { λ r. ⌜ OpenedResponseDescribesResponse awaited (now (answer .entry)) r (now (items .exit)) ⌝ }
+    ensures room { λ _. ⌜ length (now (items .exit)) ≡ mostListedItems ⌝ }
 {
     let beginning = begin(awaited, answer);
     match beginning {
-        Beginning::Decided(verdict) => Opened::Listed(decided(verdict, 0)),
-        Beginning::Body(n) => {
+        ReadingBeginning::Decided(verdict) => OpenedResponse::Listed(decided(verdict, 0)),
+        ReadingBeginning::Body(n) => {
             let outer = outer_of(&answer[..n]);
             match outer {
-                OuterObject::Broken => Opened::Listed(decided(ResponseVerdict::Malformed, 0)),
-                OuterObject::Template(h) => Opened::Template(h),
-                OuterObject::Primitive(h) => Opened::Listed(list_parts(awaited, h, items)),
+                OuterObject::Broken => OpenedResponse::Listed(decided(ResponseVerdict::Malformed, 0)),
+                OuterObject::Template(h) => OpenedResponse::Template(h),
+                OuterObject::Primitive(h) => OpenedResponse::Listed(list_parts(awaited, h, items)),
             }
         }
     }
 }
 
 // An answer that is decided without its objects.
-fn decided(verdict: ResponseVerdict, objects: usize) -> Listing
-    ensures { λ r. ⌜ r ≡ Listing.Decided (readingOf verdict objects) ⌝ }
+fn decided(verdict: ResponseVerdict, objects: usize) -> ItemListing
+    ensures { λ r. ⌜ r ≡ ItemListing.Decided (readingOf verdict objects) ⌝ }
 {
-    Listing::Decided(Reading { verdict, objects })
+    ItemListing::Decided(Reading { verdict, objects })
 }
 
 // The objects of a template by what the walk over its contents reports.
-fn close(awaited: Awaited, tag: u32, walked: Walked) -> Listing
-    ensures { λ r. ⌜ r ≡ closedListing awaited tag walked ⌝ }
+fn close(awaited: Awaited, tag: u32, walked: TemplateWalkResult) -> ItemListing
+    ensures { λ r. ⌜ r ≡ listingOfTemplate awaited tag walked ⌝ }
 {
-    let Walked::Whole(t) = walked else {
+    let TemplateWalkResult::Whole(t) = walked else {
         return decided(ResponseVerdict::Malformed, 0);
     };
     if tag != template_tag(awaited) {
         return decided(ResponseVerdict::Malformed, t.objects);
     }
-    Listing::Objects(t)
+    ItemListing::Objects(t)
 }
 
 // The parts of a primitive body, which must be under 80.
-fn list_parts(awaited: Awaited, h: TlvHeader, items: &mut [u64; ITEMS]) -> Listing
-    requires { ⌜ (length (now items) ≡ mostItems) × (2 ≤ h .start) × (h .start + h .len ≤ 256) ⌝ }
-    ensures lists { λ r. ⌜ ListsParts awaited (primitiveParts awaited (h .tag)) (h .start) (h .len)
+fn list_parts(awaited: Awaited, h: TlvHeader, items: &mut [u64; ITEMS]) -> ItemListing
+    requires { ⌜ (length (now items) ≡ mostListedItems) × (2 ≤ h .start) × (h .start + h .len ≤ 256) ⌝ }
+    ensures lists { λ r. ⌜ ListingGivesPrimitiveBodyReading awaited (primitiveBodyItems awaited (h .tag)) (h .start) (h .len)
       r (now (items .exit)) ⌝ }
-    ensures room { λ _. ⌜ length (now (items .exit)) ≡ mostItems ⌝ }
+    ensures room { λ _. ⌜ length (now (items .exit)) ≡ mostListedItems ⌝ }
 {
     if h.tag != 0x80 {
         return decided(ResponseVerdict::Malformed, 1);
@@ -489,10 +489,10 @@ fn list_parts(awaited: Awaited, h: TlvHeader, items: &mut [u64; ITEMS]) -> Listi
 }
 
 // The parts of a GPO body under 80: the AIP, then the AFL.
-fn list_gpo(start: usize, n: usize, items: &mut [u64; ITEMS]) -> Listing
-    requires { ⌜ (length (now items) ≡ mostItems) × (2 ≤ start) × (start + n ≤ 256) ⌝ }
-    ensures lists { λ r. ⌜ ListsParts Awaited.Gpo gpoParts start n r (now (items .exit)) ⌝ }
-    ensures room { λ _. ⌜ length (now (items .exit)) ≡ mostItems ⌝ }
+fn list_gpo(start: usize, n: usize, items: &mut [u64; ITEMS]) -> ItemListing
+    requires { ⌜ (length (now items) ≡ mostListedItems) × (2 ≤ start) × (start + n ≤ 256) ⌝ }
+    ensures lists { λ r. ⌜ ListingGivesPrimitiveBodyReading Awaited.Gpo gpoItemsUnder80 start n r (now (items .exit)) ⌝ }
+    ensures room { λ _. ⌜ length (now (items .exit)) ≡ mostListedItems ⌝ }
 {
     if n < LEAST_GPO_BODY {
         return decided(ResponseVerdict::Malformed, 1);
@@ -505,14 +505,14 @@ fn list_gpo(start: usize, n: usize, items: &mut [u64; ITEMS]) -> Listing
     }
     items[0] = packed_item(0x82, 0x77, start, 2);
     items[1] = packed_item(0x94, 0x77, start + 2, n - 2);
-    Listing::Objects(Tally { objects: 1, items: 2 })
+    ItemListing::Objects(VisitTally { objects: 1, items: 2 })
 }
 
 // 9F27, 9F36 and 9F26, and 9F10 if any bytes are left.
-fn list_cryptogram(start: usize, n: usize, items: &mut [u64; ITEMS]) -> Listing
-    requires { ⌜ (length (now items) ≡ mostItems) × (2 ≤ start) × (start + n ≤ 256) ⌝ }
-    ensures lists { λ r. ⌜ ListsParts Awaited.Cryptogram cryptogramParts start n r (now (items .exit)) ⌝ }
-    ensures room { λ _. ⌜ length (now (items .exit)) ≡ mostItems ⌝ }
+fn list_cryptogram(start: usize, n: usize, items: &mut [u64; ITEMS]) -> ItemListing
+    requires { ⌜ (length (now items) ≡ mostListedItems) × (2 ≤ start) × (start + n ≤ 256) ⌝ }
+    ensures lists { λ r. ⌜ ListingGivesPrimitiveBodyReading Awaited.Cryptogram cryptogramItemsUnder80 start n r (now (items .exit)) ⌝ }
+    ensures room { λ _. ⌜ length (now (items .exit)) ≡ mostListedItems ⌝ }
 {
     if n < LEAST_AC_BODY {
         return decided(ResponseVerdict::Malformed, 1);
@@ -524,23 +524,23 @@ fn list_cryptogram(start: usize, n: usize, items: &mut [u64; ITEMS]) -> Listing
     items[1] = packed_item(0x9F36, 0x77, start + 1, 2);
     items[2] = packed_item(0x9F26, 0x77, start + 3, 8);
     if n == LEAST_AC_BODY {
-        return Listing::Objects(Tally { objects: 1, items: 3 });
+        return ItemListing::Objects(VisitTally { objects: 1, items: 3 });
     }
     items[3] = packed_item(0x9F10, 0x77, start + 11, n - 11);
-    Listing::Objects(Tally { objects: 1, items: 4 })
+    ItemListing::Objects(VisitTally { objects: 1, items: 4 })
 }
 
 // The listed objects one after the other: the pending values take their place, from the front; or one is not allowed.
 fn judge_items(items: &mut [u64; ITEMS], n: usize, answer: u8, bytes: &[u8], store: &[u8]) -> ItemsVerdict
-    requires { ⌜ (length (now store) ≡ storeSize) × ItemList (now bytes) n (now items) ⌝ }
+    requires { ⌜ (length (now store) ≡ storeSize) × IsItemList (now bytes) n (now items) ⌝ }
     requires { ⌜ 0 < answer ⌝ }
-    ensures judges { λ r. ⌜ JudgesItems answer (now (bytes .entry)) (now (store .entry))
-      (itemsIn (now (bytes .entry)) n (now (items .entry))) r (now (items .exit)) ⌝ }
-    ensures room { λ _. ⌜ length (now (items .exit)) ≡ mostItems ⌝ }
+    ensures judges { λ r. ⌜ ItemsVerdictMatchesStoringItems answer (now (bytes .entry)) (now (store .entry))
+      (unpackedFirstItems (now (bytes .entry)) n (now (items .entry))) r (now (items .exit)) ⌝ }
+    ensures room { λ _. ⌜ length (now (items .exit)) ≡ mostListedItems ⌝ }
 {
     let mut filled = [0u8; ROWS];
-    let tags = dictionary::tags();
-    let codes = dictionary::codes();
+    let tags = dictionary::dictionary_tags();
+    let codes = dictionary::packed_row_attributes();
     let mut pending = 0;
     let mut i = 0;
     while i < n {
@@ -564,17 +564,17 @@ fn judge_items(items: &mut [u64; ITEMS], n: usize, answer: u8, bytes: &[u8], sto
 
 // The verdict on one object, before the store is asked.
 fn judge_item(item: u64, answer: u8, bytes: &[u8], tags: &[u32; ROWS], codes: &[u32; ROWS]) -> ItemVerdict
-    requires { ⌜ ValueInside (now bytes) item ⌝ }
+    requires { ⌜ ItemValueInside (now bytes) item ⌝ }
     requires { ⌜ 0 < answer ⌝ }
-    requires { ⌜ TablesGiven (now tags) (now codes) ⌝ }
-    ensures { λ r. ⌜ r ≡ judgeItem answer (itemOf (now (bytes .entry)) item) ⌝ }
+    requires { ⌜ AreDictionaryTables (now tags) (now codes) ⌝ }
+    ensures { λ r. ⌜ r ≡ judgeItem answer (unpackedItem (now (bytes .entry)) item) ⌝ }
 {
     let tag = tag_in(item);
     let found = dictionary::find_row(tags, tag).found;
     let RowFound::At(row) = found else {
         return ItemVerdict::Skipped;
     };
-    let attributes = dictionary::unpacked(codes[row]);
+    let attributes = dictionary::unpack_row_attributes(codes[row]);
     if is_skipped(tag, attributes) {
         return ItemVerdict::Skipped;
     }
@@ -589,21 +589,21 @@ fn judge_item(item: u64, answer: u8, bytes: &[u8], tags: &[u32; ROWS], codes: &[
 // Whether no bytes are in a row's place of the store and none are pending for it.
 fn is_free(row: usize, store: &[u8], filled: &[u8; ROWS]) -> bool
     requires { ⌜ (row < rowCount) × (length (now store) ≡ storeSize) × (length (now filled) ≡ rowCount) ⌝ }
-    ensures { λ r. ⌜ r ≡ both (isFree dictionaryRows (now (store .entry)) row)
+    ensures { λ r. ⌜ r ≡ both (isRowAbsentOrEmpty dictionaryRows (now (store .entry)) row)
       (eqb (getD (now (filled .entry)) row 0) 0) ⌝ }
 {
     if filled[row] != 0 {
         return false;
     }
-    store::length_byte(store, row) <= 1
+    store::length_plus_one_or_zero(store, row) <= 1
 }
 
 // An object's value is pending for a row, behind so many others; the row is marked where the value has bytes.
 fn add_pending(row: usize, item: u64, pending: usize, items: &mut [u64; ITEMS], filled: &mut [u8; ROWS])
-    requires { ⌜ (row < rowCount) × (pending < mostItems) ⌝ }
-    requires { ⌜ (length (now items) ≡ mostItems) × (length (now filled) ≡ rowCount) ⌝ }
-    ensures put { λ _. ⌜ now (items .exit) ≡ set (now (items .entry)) pending (packedPending row item) ⌝ }
-    ensures marked { λ _. ⌜ now (filled .exit) ≡ markRow (now (filled .entry)) row (valueLength item) ⌝ }
+    requires { ⌜ (row < rowCount) × (pending < mostListedItems) ⌝ }
+    requires { ⌜ (length (now items) ≡ mostListedItems) × (length (now filled) ≡ rowCount) ⌝ }
+    ensures put { λ _. ⌜ now (items .exit) ≡ set (now (items .entry)) pending (packedPendingEntry row item) ⌝ }
+    ensures marked { λ _. ⌜ now (filled .exit) ≡ markRowFilledIfNonEmpty (now (filled .entry)) row (packedItemValueLength item) ⌝ }
 {
     items[pending] = pending_of(row, item);
     if len_in(item) != 0 {
@@ -622,45 +622,45 @@ fn packed_item(tag: u32, around: u32, start: usize, len: usize) -> u64
 // An object's value in one number, by its row.
 fn pending_of(row: usize, item: u64) -> u64
     requires { ⌜ row < rowCount ⌝ }
-    ensures { λ r. ⌜ r ≡ packedPending row item ⌝ }
+    ensures { λ r. ⌜ r ≡ packedPendingEntry row item ⌝ }
 {
     row as u64 * ROW + item % ROW
 }
 
 // The parts of an object's number, and of a pending value's.
 fn tag_in(item: u64) -> u32
-    ensures { λ r. ⌜ r ≡ itemTag item ⌝ }
+    ensures { λ r. ⌜ r ≡ packedItemTag item ⌝ }
 {
     (item / TAG) as u32
 }
 
 fn around_in(item: u64) -> u32
-    ensures { λ r. ⌜ r ≡ itemAround item ⌝ }
+    ensures { λ r. ⌜ r ≡ packedItemTemplateTag item ⌝ }
 {
     (item / AROUND % (TAG / AROUND)) as u32
 }
 
 fn start_in(item: u64) -> usize
-    ensures { λ r. ⌜ (r ≡ valueStart item) × (r ≤ 256) ⌝ }
+    ensures { λ r. ⌜ (r ≡ packedItemValueStart item) × (r ≤ 256) ⌝ }
 {
     (item / PLACE % PLACE) as usize + 1
 }
 
 fn len_in(item: u64) -> usize
-    ensures { λ r. ⌜ (r ≡ valueLength item) × (r < 256) ⌝ }
+    ensures { λ r. ⌜ (r ≡ packedItemValueLength item) × (r < 256) ⌝ }
 {
     (item % PLACE) as usize
 }
 
 fn row_in(value: u64) -> usize
-    ensures { λ r. ⌜ r ≡ pendingRow value ⌝ }
+    ensures { λ r. ⌜ r ≡ pendingEntryRow value ⌝ }
 {
     (value / ROW) as usize
 }
 
 // Whether a known object is skipped: of the private class, and not the card's to set.
-fn is_skipped(tag: u32, attributes: Attributes) -> bool
-    ensures { λ r. ⌜ r ≡ both (isPrivate tag) (not (cardMaySet (rowWithAttributes attributes))) ⌝ }
+fn is_skipped(tag: u32, attributes: RowAttributes) -> bool
+    ensures { λ r. ⌜ r ≡ both (isPrivate tag) (not (cardMaySet (rowWithAttributesAndTagZero attributes))) ⌝ }
 {
     if attributes.setters / dictionary::CARD % 2 == 1 {
         return false;
@@ -669,9 +669,9 @@ fn is_skipped(tag: u32, attributes: Attributes) -> bool
 }
 
 // Whether the card may bring an object of these attributes here, with this value.
-fn may_come(attributes: Attributes, around: u32, answer: u8, v: &[u8]) -> bool
+fn may_come(attributes: RowAttributes, around: u32, answer: u8, v: &[u8]) -> bool
     requires { ⌜ 0 < answer ⌝ }
-    ensures { λ r. ⌜ r ≡ allowedInResponse answer (rowWithAttributes attributes) around (now (v .entry)) ⌝ }
+    ensures { λ r. ⌜ r ≡ rowAllowsValueFromCard answer (rowWithAttributesAndTagZero attributes) around (now (v .entry)) ⌝ }
 {
     if attributes.setters / dictionary::CARD % 2 != 1 {
         return false;
@@ -682,14 +682,14 @@ fn may_come(attributes: Attributes, around: u32, answer: u8, v: &[u8]) -> bool
     if !may_stand(attributes.templates, around) {
         return false;
     }
-    dictionary::fits(attributes, v)
+    dictionary::length_and_digits_fit_row(attributes, v)
 }
 
 // Whether an answer is one of those that may bring an object. The last test would do for all; the first
 // two spare a division.
 fn is_brought_by(answers: u8, answer: u8) -> bool
     requires { ⌜ 0 < answer ⌝ }
-    ensures { λ r. ⌜ r ≡ hasBit answers answer ⌝ }
+    ensures { λ r. ⌜ r ≡ hasBitOfWeight answers answer ⌝ }
 {
     if answer == dictionary::CARD_RECORD {
         return answers / dictionary::CARD_RECORD % 2 == 1;
@@ -702,7 +702,7 @@ fn is_brought_by(answers: u8, answer: u8) -> bool
 
 // Whether an object of these templates may be directly inside a template.
 fn may_stand(templates: u8, around: u32) -> bool
-    ensures { λ r. ⌜ r ≡ isTemplateIn templates around ⌝ }
+    ensures { λ r. ⌜ r ≡ isTemplateInSet templates around ⌝ }
 {
     if around == 0x70 {
         return templates / dictionary::IN_70 % 2 == 1;

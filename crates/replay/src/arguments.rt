@@ -1,13 +1,13 @@
 // The words that the program is called with: --tree, --bits, --tell, --journal with a file's name after it, and the
 // name of a file.
 use libc::STDERR_FILENO;
-use print::tree::View;
+use print::tree::TreeView;
 
 // What is requested: what is shown, whether the exit status is reported on descriptor 3, which argument names the file
 // and which the journal (0: none does), whether a journal's name is next, and whether there is one name too many, one
 // too few or an unknown option.
 pub struct ReplayArguments {
-    pub view: View,
+    pub view: TreeView,
     pub tell: bool,
     pub file: usize,
     pub journal: usize,
@@ -26,7 +26,7 @@ pub fn replay_arguments() -> ReplayArguments {
 // Every argument in turn.
 fn all() -> ReplayArguments {
     let mut out = ReplayArguments {
-        view: View {
+        view: TreeView {
             tree: false,
             bits: false,
         },
@@ -53,16 +53,16 @@ fn with_argument(arguments: ReplayArguments, i: usize) -> ReplayArguments {
     if arguments.naming {
         return with_journal(arguments, i);
     }
-    if basics::same(word, b"--journal") {
+    if basics::bytes_equal(word, b"--journal") {
         return naming(arguments);
     }
-    if basics::same(word, b"--tell") {
+    if basics::bytes_equal(word, b"--tell") {
         return telling(arguments);
     }
-    if basics::same(word, b"--tree") {
+    if basics::bytes_equal(word, b"--tree") {
         return with_view(arguments, true, arguments.view.bits);
     }
-    if basics::same(word, b"--bits") {
+    if basics::bytes_equal(word, b"--bits") {
         return with_view(arguments, arguments.view.tree, true);
     }
     if basics::byte_at(word, 0) == b'-' {
@@ -99,7 +99,7 @@ fn with_journal(arguments: ReplayArguments, i: usize) -> ReplayArguments {
 
 fn with_view(arguments: ReplayArguments, tree: bool, bits: bool) -> ReplayArguments {
     ReplayArguments {
-        view: View { tree, bits },
+        view: TreeView { tree, bits },
         tell: arguments.tell,
         file: arguments.file,
         journal: arguments.journal,

@@ -16,7 +16,7 @@ use arguments::ReplayArguments;
 use libc::{STDERR_FILENO, STDIN_FILENO};
 use text_line::{Line, LONGEST, MOST};
 use session_record::{CallResult, Phase, Reply, Session};
-use print::tree::View;
+use print::tree::TreeView;
 ghost use mathlib.Core.Path.{_≡_};
 ghost use Prim.Native.Nat.{_≤_};
 ghost use lib.ListN.{length};
@@ -27,7 +27,7 @@ ghost use lib.ListN.{length};
 struct ReplayProgress {
     session: Session,
     buffer: usize,
-    view: View,
+    view: TreeView,
     journal: i32,
     renewed: bool,
     number: usize,
@@ -37,7 +37,7 @@ struct ReplayProgress {
 }
 
 // The session after a call, and whether the journal could be written.
-struct After {
+struct SessionAndJournalWritten {
     session: Session,
     written: bool,
 }
@@ -125,7 +125,7 @@ fn kept(fd: i32, asked: ReplayArguments) -> u8 {
 // ---- the file's lines
 
 // Plays all of a file. A proved loop has to end, so it counts its iterations from a number that no file uses up.
-fn play(fd: i32, view: View, journal: i32) -> u8 {
+fn play(fd: i32, view: TreeView, journal: i32) -> u8 {
     let mut line = [0u8; ROOM];
     let mut state = beginning(view, journal);
     let mut turns = u64::MAX;
@@ -136,7 +136,7 @@ fn play(fd: i32, view: View, journal: i32) -> u8 {
     state.status
 }
 
-fn beginning(view: View, journal: i32) -> ReplayProgress {
+fn beginning(view: TreeView, journal: i32) -> ReplayProgress {
     let session = session_record::fresh_session();
     ReplayProgress {
         session,
@@ -269,26 +269,26 @@ fn made(state: ReplayProgress, said: Line, bytes: &[u8]) -> ReplayProgress {
 }
 
 // Makes a call, puts it into the journal and shows its reply, and below it what it is due to.
-fn shown(state: ReplayProgress, said: Line, bytes: &[u8], command: &mut [u8]) -> After {
+fn shown(state: ReplayProgress, said: Line, bytes: &[u8], command: &mut [u8]) -> SessionAndJournalWritten {
     let session = state.session;
     let view = state.view;
     let reply = call(session, said, bytes, command);
-    print::reply_in_words(reply, command);
+    print::print_reply_in_words(reply, command);
     let answer = reply.answer;
-    let written = recorded::keep(state.journal, said, bytes, answer, command);
+    let written = recorded::append_to_journal(state.journal, said, bytes, answer, command);
     match said {
         Line::Start(brought) => {
             let size = brought.size;
-            why::start_refused(front(bytes, size), refusal_in(answer));
+            why::print_start_refusal(front(bytes, size), refusal_in(answer));
         }
         Line::Answer(brought) => {
             let size = brought.size;
-            why::answered(front(bytes, size), reason_in(answer), view);
+            why::print_answer_details(front(bytes, size), reason_in(answer), view);
         }
-        _ => print::text(b""),
+        _ => print::print_text(b""),
     }
     let next = reply.session;
-    After {
+    SessionAndJournalWritten {
         session: next,
         written,
     }
@@ -297,7 +297,7 @@ fn shown(state: ReplayProgress, said: Line, bytes: &[u8], command: &mut [u8]) ->
 fn call(session: Session, said: Line, bytes: &[u8], command: &mut [u8]) -> Reply {
     match said {
         Line::Start(brought) => {
-            print::text(b"start: ");
+            print::print_text(b"start: ");
             let size = brought.size;
             session::start(session, front(bytes, size), command)
         }
@@ -307,11 +307,11 @@ fn call(session: Session, said: Line, bytes: &[u8], command: &mut [u8]) -> Reply
             session::answer(session, front(bytes, size), command)
         }
         Line::LinkFailed => {
-            print::text(b"link-failed: ");
+            print::print_text(b"link-failed: ");
             session::link_failed(session, command)
         }
         _ => {
-            print::text(b"stop: ");
+            print::print_text(b"stop: ");
             session::stop(session, command)
         }
     }
@@ -320,13 +320,13 @@ fn call(session: Session, said: Line, bytes: &[u8], command: &mut [u8]) -> Reply
 // The word for an answer, with its status bytes.
 fn answer_line(card: &[u8]) {
     if card.len() < 2 {
-        print::text(b"answer without status bytes: ");
+        print::print_text(b"answer without status bytes: ");
         return;
     }
     let n = card.len() - 2;
-    print::text(b"answer");
-    print::bytes(&card[n..]);
-    print::text(b": ");
+    print::print_text(b"answer");
+    print::print_bytes(&card[n..]);
+    print::print_text(b": ");
 }
 
 // The number of a refusal, 0 where a call is not refused.
@@ -417,7 +417,7 @@ fn renewed(state: ReplayProgress) -> ReplayProgress {
     if !is_fresh(state.session) {
         holding(state);
     }
-    print::text(b"session: fresh\n");
+    print::print_text(b"session: fresh\n");
     let mut out = with_buffer(with_session(state, session_record::fresh_session()), USUAL);
     out.renewed = true;
     out
@@ -436,9 +436,9 @@ fn holding(state: ReplayProgress) {
     let store = session.store;
     let bytes = store.bytes;
     let view = state.view;
-    print::text(b"objects held:\n");
-    print::held(&bytes, view.bits);
-    explained::line(session);
+    print::print_text(b"objects held:\n");
+    print::print_stored_objects(&bytes, view.bits);
+    explained::print_explanation_line(session);
 }
 
 // ---- what is wrong

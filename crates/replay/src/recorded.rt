@@ -5,7 +5,7 @@ use session_record::CallResult;
 
 // Puts a call and its reply after what the journal has, unless there is none or the call is refused: whether they
 // could be written.
-pub fn keep(journal: i32, said: Line, bytes: &[u8], answer: CallResult, command: &[u8]) -> bool {
+pub fn append_to_journal(journal: i32, said: Line, bytes: &[u8], answer: CallResult, command: &[u8]) -> bool {
     if journal < 0 {
         return true;
     }

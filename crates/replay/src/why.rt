@@ -2,14 +2,14 @@
 // absent, and where a malformed answer cannot be read.
 use dictionary::ROWS;
 use print::tree;
-use print::tree::{View, Walk};
+use print::tree::{TreeView, TreeWalk};
 use start_data::LoadResult;
 use tlv::ObjectFront;
 ghost use Prim.Native.Nat.{_≤_};
 ghost use lib.ListN.{length};
 
 // The first object of a run: its tag and how many bytes it has, no byte where there is none.
-struct First {
+struct FirstObject {
     tag: u32,
     size: usize,
 }
@@ -17,11 +17,11 @@ struct First {
 // ---- a start
 
 // Below a start that is refused: the tags that decided it.
-pub fn start_refused(start: &[u8], number: u8) {
+pub fn print_start_refusal(start: &[u8], number: u8) {
     match number {
         basics::REFUSED_OBJECT => refused(start),
         basics::REFUSED_ABSENT => absent(start),
-        _ => print::text(b""),
+        _ => print::print_text(b""),
     }
 }
 
@@ -89,36 +89,36 @@ fn brings(start: &[u8], tag: u32) -> bool {
 }
 
 // The primitive object at the front.
-fn first_of(s: &[u8]) -> First
+fn first_of(s: &[u8]) -> FirstObject
     ensures { λ r. ⌜ r .size ≤ length (now (s .entry)) ⌝ }
 {
-    let front = tlv::primitive(s);
+    let front = tlv::primitive_at_front(s);
     let ObjectFront::Object(h) = front else {
-        return First { tag: 0, size: 0 };
+        return FirstObject { tag: 0, size: 0 };
     };
-    First {
+    FirstObject {
         tag: h.tag,
         size: h.start + h.len,
     }
 }
 
 fn tag_line(words: &[u8], tag: u32) {
-    print::margin(0);
-    print::text(words);
-    print::named(tag);
-    print::text(b"\n");
+    print::print_indentation(0);
+    print::print_text(words);
+    print::print_tag_and_name(tag);
+    print::print_text(b"\n");
 }
 
 // ---- an answer
 
 // Below an answer: its objects where they are requested, and what is malformed where that ended the session.
-pub fn answered(card: &[u8], reason: u8, view: View) {
+pub fn print_answer_details(card: &[u8], reason: u8, view: TreeView) {
     if card.len() < 2 {
         wrong_length(card.len(), reason);
         return;
     }
     let n = card.len() - 2;
-    let walk = print::tree::walked(&card[..n], view);
+    let walk = print::tree::print_tree_walk(&card[..n], view);
     if 258 < card.len() {
         wrong_length(card.len(), reason);
         return;
@@ -130,15 +130,15 @@ pub fn answered(card: &[u8], reason: u8, view: View) {
 
 fn wrong_length(size: usize, reason: u8) {
     if reason == basics::REASON_MALFORMED {
-        print::margin(0);
-        print::text(b"malformed: length ");
+        print::print_indentation(0);
+        print::print_text(b"malformed: length ");
         print::print_number(size);
-        print::text(b", and an answer has 2 to 258 bytes\n");
+        print::print_text(b", and an answer has 2 to 258 bytes\n");
     }
 }
 
 // Where the answer cannot be read, counted from 0, and why. Where all its objects can be, the outer one is at fault.
-fn malformed(walk: Walk) {
+fn malformed(walk: TreeWalk) {
     let at = walk.at;
     let ended = walk.ended;
     match ended {
@@ -150,10 +150,10 @@ fn malformed(walk: Walk) {
 }
 
 fn malformed_at(place: usize, words: &[u8]) {
-    print::margin(0);
-    print::text(b"malformed at byte ");
+    print::print_indentation(0);
+    print::print_text(b"malformed at byte ");
     print::print_number(place);
-    print::text(b": ");
-    print::text(words);
-    print::text(b"\n");
+    print::print_text(b": ");
+    print::print_text(words);
+    print::print_text(b"\n");
 }

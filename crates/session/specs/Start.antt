@@ -2,31 +2,31 @@
 -- and GPO is the first command.
 -- Assumes nothing.
 use Rattle.basics.specs.Types.{StoreBytes, StartBytes, Buffer}
-use Rattle.basics.specs.Reason.{refusedPhase}
+use Rattle.basics.specs.Reason.{refusalWrongPhase}
 use Rattle.command.specs.WithList.{getProcessingOptions}
 use Rattle.session_record.specs.declared.AwaitedResponse.{AwaitedResponse}
 use Rattle.session_record.specs.declared.Phase.{Phase}
 use Rattle.session_record.specs.declared.Session.{Session}
 use Rattle.session_record.specs.Session.{storeBytes}
 use Rattle.session_record.specs.Ranges.{zeroTvr}
-use Rattle.start_data.specs.StartData.{LoadedStore, refusal, loaded, loadStart}
-use Rattle.session.specs.Steps.{Next, askWithDol, withTvr, CallEffect, refuse, follow, Step, admittedStep}
+use Rattle.start_data.specs.StartData.{LoadedStore, refusal, loaded, loadStartBytes}
+use Rattle.session.specs.Steps.{NextAction, requestCommandOrEndForDol, storeWithTvr, CallEffect, refuse, follow, Step, stepIfAdmitted}
 
 -- GPO carries the filled PDOL
-unfoldable pub askGpo : StoreBytes → Next
-askGpo b = askWithDol AwaitedResponse.Gpo b (getProcessingOptions b)
+unfoldable pub requestGpo : StoreBytes → NextAction
+requestGpo b = requestCommandOrEndForDol AwaitedResponse.Gpo b (getProcessingOptions b)
 
 -- a loading that is refused passes its number on (20, 23, 24); else 95 is zero at start, and GPO is requested
-abbrev pub startLoaded : LoadedStore → CallEffect
-startLoaded (refusal n) = refuse n
-startLoaded (loaded b)  = follow (askGpo (withTvr b zeroTvr))
+abbrev pub startEffectAfterLoading : LoadedStore → CallEffect
+startEffectAfterLoading (refusal n) = refuse n
+startEffectAfterLoading (loaded b)  = follow (requestGpo (storeWithTvr b zeroTvr))
 
 -- a start on a session that is not fresh is refused (21)
-abbrev pub startCall : Phase → StoreBytes → StartBytes → CallEffect
-startCall Phase.Fresh       b bytes = startLoaded (loadStart b bytes)
-startCall (Phase.Waiting w) b bytes = refuse refusedPhase
-startCall (Phase.Ended e)   b bytes = refuse refusedPhase
+abbrev pub startEffect : Phase → StoreBytes → StartBytes → CallEffect
+startEffect Phase.Fresh       b bytes = startEffectAfterLoading (loadStartBytes b bytes)
+startEffect (Phase.Waiting w) b bytes = refuse refusalWrongPhase
+startEffect (Phase.Ended e)   b bytes = refuse refusalWrongPhase
 
 -- the call start
 abbrev pub startStep : Session → StartBytes → Buffer → Step
-startStep s bytes buf = admittedStep s buf (startCall (s .phase) (storeBytes s) bytes)
+startStep s bytes buf = stepIfAdmitted s buf (startEffect (s .phase) (storeBytes s) bytes)

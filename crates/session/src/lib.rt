@@ -5,8 +5,8 @@
 // an outcome or a refusal. A command is at the front of the buffer, which is left alone otherwise. A refusal
 // changes nothing.
 //
-// `start_in`, `answer_in`, `link_failed_in` and `stop_in` are the same calls on a session's parts with the store
-// borrowed mutably or shared: a transition is returned, and the store is not copied.
+// `start_on_parts`, `answer_on_parts`, `link_failed_on_parts` and `stop_on_parts` are the same calls on a session's
+// parts with the store borrowed mutably or shared: a transition is returned, and the store is not copied.
 use analysis::choice::Choice;
 use analysis::cvm::NOT_APPLICABLE;
 use command::DolCommand;
@@ -24,23 +24,23 @@ ghost use mathlib.Core.Bool.{false, not};
 ghost use mathlib.Core.List.{List};
 ghost use Prim.Native.Nat.{ℕ, _+_, _≤_, _<_};
 ghost use lib.ListN.{length, replicate};
-ghost use Rattle.basics.specs.Front.{withPrefix};
-ghost use Rattle.basics.specs.Reason.{reasonNotAllowed, reasonMissing, reasonAboveLimit, reasonMode, unless};
+ghost use Rattle.basics.specs.Front.{writtenOverFront};
+ghost use Rattle.basics.specs.Reason.{reasonObjectNotAllowed, reasonObjectMissing, reasonAboveLimit, reasonNoSupportedMode, reasonUnless};
 ghost use Rattle.dictionary.specs.Rows.{storeSize};
 ghost use Rattle.store.specs.Held.{hasObject};
 ghost use Rattle.command.specs.ReadRecord.{readRecordCommand};
-ghost use Rattle.start_data.specs.StartData.{loadStart};
-ghost use Rattle.analysis.specs.Action.{aboveTransactionLimit, findingsOf};
+ghost use Rattle.start_data.specs.StartData.{loadStartBytes};
+ghost use Rattle.analysis.specs.Action.{storedAmountAboveLimit, findingsOf};
 ghost use Rattle.analysis.specs.Cvm.{cvmNumber};
 ghost use Rattle.session_record.specs.Session.{sessionOf, commandTransition};
-ghost use Rattle.session_record.specs.Ranges.{emvMode, emvOrMagStripeMode, cryptogramDataPresent, trackDataPresent};
-ghost use Rattle.session.specs.Steps.{DidStep, DidTransition, heldCvm, stepOn, stepOf, withFindings, leastBuffer, abortStep, linkFailedStep, stopStep};
-ghost use Rattle.session.specs.Start.{askGpo, startLoaded, startStep};
-ghost use Rattle.session.specs.Answer.{aipAndAflPresent, afterGpo, gpoNext, askCryptogram, requestedCryptogram, afterRecordsEmv, afterLastRecord, afterRecord, recordNext};
-ghost use Rattle.session.specs.Answer.{cryptogramOutcome, endingFor, cryptogramPresent, afterCryptogram, cryptogramNext, responseNext, answerStep};
-ghost use Rattle.session.specs.MagStripe.{askChecksum, afterRecordsMagStripe, storedTrack, storedBitmaps, storedDigitValues, trackCanTakeDigits, storeWithDigits, afterChecksum, checksumNext};
-ghost use Rattle.mag_stripe.specs.Digits.{trackWithDigits};
-ghost use Rattle.session.specs.Inner.{loadRefusalNumber, checkNumber, cryptogramOutcomeEnding};
+ghost use Rattle.session_record.specs.Ranges.{emvMode, emvOrMagStripeMode, expiryPanAndCdol1NonEmpty, track2AndBitmapsNonEmpty};
+ghost use Rattle.session.specs.Steps.{ReturnsStep, ReturnsTransition, heldCvm, stepOfNext, stepOfEffect, storeWithFindings, leastBuffer, abortStep, linkFailedStep, stopStep};
+ghost use Rattle.session.specs.Start.{requestGpo, startEffectAfterLoading, startStep};
+ghost use Rattle.session.specs.Answer.{aipAndAflPresent, nextAfterGpoRead, nextOnGpoResponse, requestCryptogram, requestedCryptogram, nextAfterRecordsInEmvMode, nextAfterLastRecord, nextAfterRecordRead, nextOnRecordResponse};
+ghost use Rattle.session.specs.Answer.{outcomeForCryptogramType, endingForDecision, cidAtcAndCryptogramPresent, nextAfterCryptogramRead, nextOnCryptogramResponse, nextOnResponse, answerStep};
+ghost use Rattle.session.specs.MagStripe.{requestChecksum, nextAfterRecordsInMagStripeMode, storedTrack2, storedBitmaps, storedDigitValues, storedTrackCanTakeDigits, storeWithTrackDigits, nextAfterChecksumRead, nextOnChecksumResponse};
+ghost use Rattle.mag_stripe.specs.Digits.{trackWithDigitsIfPossible};
+ghost use Rattle.session.specs.Inner.{loadRefusalNumberOrZero, reasonIfCheckFailed, cryptogramOutcomeEnding};
 
 // The least command buffer.
 pub const LEAST_BUFFER: usize = 261;
@@ -68,55 +68,55 @@ pub struct Decision {
 
 // Starts a session with the objects that the terminal brings; the first command is GPO.
 pub fn start(session: Session, terminal: &[u8], command: &mut [u8]) -> Reply
-    ensures { λ r. ⌜ DidStep r (now (command .exit)) (startStep session (now (terminal .entry)) (now (command .entry))) ⌝ }
+    ensures { λ r. ⌜ ReturnsStep r (now (command .exit)) (startStep session (now (terminal .entry)) (now (command .entry))) ⌝ }
 {
     let phase = session.phase;
     let store = session.store;
     let mut bytes = store.bytes;
-    let transition = start_in(phase, session.count, &mut bytes, terminal, command);
+    let transition = start_on_parts(phase, session.count, &mut bytes, terminal, command);
     session_record::reply_of(transition, Store { bytes })
 }
 
 // Takes the card's answer to the command that was handed out last, status bytes included.
 pub fn answer(session: Session, card: &[u8], command: &mut [u8]) -> Reply
-    ensures { λ r. ⌜ DidStep r (now (command .exit)) (answerStep session (now (card .entry)) (now (command .entry))) ⌝ }
+    ensures { λ r. ⌜ ReturnsStep r (now (command .exit)) (answerStep session (now (card .entry)) (now (command .entry))) ⌝ }
 {
     let phase = session.phase;
     let store = session.store;
     let mut bytes = store.bytes;
-    let transition = answer_in(phase, session.count, &mut bytes, card, command);
+    let transition = answer_on_parts(phase, session.count, &mut bytes, card, command);
     session_record::reply_of(transition, Store { bytes })
 }
 
 // The link to the card failed.
 pub fn link_failed(session: Session, command: &mut [u8]) -> Reply
-    ensures { λ r. ⌜ DidStep r (now (command .exit)) (linkFailedStep session (now (command .entry))) ⌝ }
+    ensures { λ r. ⌜ ReturnsStep r (now (command .exit)) (linkFailedStep session (now (command .entry))) ⌝ }
 {
     let phase = session.phase;
     let store = session.store;
-    let transition = link_failed_in(phase, session.count, &store.bytes, command);
+    let transition = link_failed_on_parts(phase, session.count, &store.bytes, command);
     session_record::reply_of(transition, store)
 }
 
 // The terminal stops the session.
 pub fn stop(session: Session, command: &mut [u8]) -> Reply
-    ensures { λ r. ⌜ DidStep r (now (command .exit)) (stopStep session (now (command .entry))) ⌝ }
+    ensures { λ r. ⌜ ReturnsStep r (now (command .exit)) (stopStep session (now (command .entry))) ⌝ }
 {
     let phase = session.phase;
     let store = session.store;
-    let transition = stop_in(phase, session.count, &store.bytes, command);
+    let transition = stop_on_parts(phase, session.count, &store.bytes, command);
     session_record::reply_of(transition, store)
 }
 
 // `start` on a session's parts, the store borrowed.
-pub fn start_in(phase: Phase, count: u8, store: &mut [u8], terminal: &[u8], command: &mut [u8]) -> Transition
-    ensures { λ r. ⌜ DidTransition r (now (store .exit)) (now (command .exit))
+pub fn start_on_parts(phase: Phase, count: u8, store: &mut [u8], terminal: &[u8], command: &mut [u8]) -> Transition
+    ensures { λ r. ⌜ ReturnsTransition r (now (store .exit)) (now (command .exit))
         (startStep (sessionOf phase count (now (store .entry))) (now (terminal .entry)) (now (command .entry))) ⌝ }
 {
     if command.len() < LEAST_BUFFER {
         return session_record::refuse_call(phase, count, basics::REFUSED_BUFFER);
     }
-    if !session_record::parts_in_ranges(phase, count, &store[..]) {
+    if !session_record::session_parts_in_ranges(phase, count, &store[..]) {
         return session_record::refuse_call(phase, count, basics::REFUSED_RANGES);
     }
     let Phase::Fresh = phase else {
@@ -126,14 +126,14 @@ pub fn start_in(phase: Phase, count: u8, store: &mut [u8], terminal: &[u8], comm
 }
 
 // `answer` on a session's parts, the store borrowed.
-pub fn answer_in(phase: Phase, count: u8, store: &mut [u8], card: &[u8], command: &mut [u8]) -> Transition
-    ensures { λ r. ⌜ DidTransition r (now (store .exit)) (now (command .exit))
+pub fn answer_on_parts(phase: Phase, count: u8, store: &mut [u8], card: &[u8], command: &mut [u8]) -> Transition
+    ensures { λ r. ⌜ ReturnsTransition r (now (store .exit)) (now (command .exit))
         (answerStep (sessionOf phase count (now (store .entry))) (now (card .entry)) (now (command .entry))) ⌝ }
 {
     if command.len() < LEAST_BUFFER {
         return session_record::refuse_call(phase, count, basics::REFUSED_BUFFER);
     }
-    if !session_record::parts_in_ranges(phase, count, &store[..]) {
+    if !session_record::session_parts_in_ranges(phase, count, &store[..]) {
         return session_record::refuse_call(phase, count, basics::REFUSED_RANGES);
     }
     match phase {
@@ -144,16 +144,16 @@ pub fn answer_in(phase: Phase, count: u8, store: &mut [u8], card: &[u8], command
 }
 
 // `link_failed` on a session's parts, the store shared.
-pub fn link_failed_in(phase: Phase, count: u8, bytes: &[u8], command: &mut [u8]) -> Transition
-    ensures { λ r. ⌜ DidTransition r (now (bytes .entry)) (now (command .exit))
+pub fn link_failed_on_parts(phase: Phase, count: u8, bytes: &[u8], command: &mut [u8]) -> Transition
+    ensures { λ r. ⌜ ReturnsTransition r (now (bytes .entry)) (now (command .exit))
         (linkFailedStep (sessionOf phase count (now (bytes .entry))) (now (command .entry))) ⌝ }
 {
     abort(phase, count, bytes, basics::REASON_LINK, command)
 }
 
 // `stop` on a session's parts, the store shared.
-pub fn stop_in(phase: Phase, count: u8, bytes: &[u8], command: &mut [u8]) -> Transition
-    ensures { λ r. ⌜ DidTransition r (now (bytes .entry)) (now (command .exit))
+pub fn stop_on_parts(phase: Phase, count: u8, bytes: &[u8], command: &mut [u8]) -> Transition
+    ensures { λ r. ⌜ ReturnsTransition r (now (bytes .entry)) (now (command .exit))
         (stopStep (sessionOf phase count (now (bytes .entry))) (now (command .entry))) ⌝ }
 {
     abort(phase, count, bytes, basics::REASON_STOPPED, command)
@@ -161,13 +161,13 @@ pub fn stop_in(phase: Phase, count: u8, bytes: &[u8], command: &mut [u8]) -> Tra
 
 // A running session ends for a reason; no command comes.
 fn abort(phase: Phase, count: u8, bytes: &[u8], reason: u8, command: &mut [u8]) -> Transition
-    ensures { λ r. ⌜ DidTransition r (now (bytes .entry)) (now (command .exit))
+    ensures { λ r. ⌜ ReturnsTransition r (now (bytes .entry)) (now (command .exit))
         (abortStep (sessionOf phase count (now (bytes .entry))) reason (now (command .entry))) ⌝ }
 {
     if command.len() < LEAST_BUFFER {
         return session_record::refuse_call(phase, count, basics::REFUSED_BUFFER);
     }
-    if !session_record::parts_in_ranges(phase, count, bytes) {
+    if !session_record::session_parts_in_ranges(phase, count, bytes) {
         return session_record::refuse_call(phase, count, basics::REFUSED_RANGES);
     }
     match phase {
@@ -193,8 +193,8 @@ fn held_cvm(awaited: AwaitedResponse) -> u8
 fn load_objects(count: u8, store: &mut [u8], terminal: &[u8], command: &mut [u8]) -> Transition
     requires { ⌜ (leastBuffer ≤ length (now command)) × (count < 255) ⌝ }
     requires { ⌜ now store ≡ replicate storeSize 0 ⌝ }
-    ensures { λ r. ⌜ DidTransition r (now (store .exit)) (now (command .exit))
-        (stepOf (sessionOf Phase.Fresh count (now (store .entry))) (now (command .entry)) (startLoaded (loadStart (now (store .entry)) (now (terminal .entry))))) ⌝ }
+    ensures { λ r. ⌜ ReturnsTransition r (now (store .exit)) (now (command .exit))
+        (stepOfEffect (sessionOf Phase.Fresh count (now (store .entry))) (now (command .entry)) (startEffectAfterLoading (loadStartBytes (now (store .entry)) (now (terminal .entry))))) ⌝ }
 {
     let said = start_data::load(store, terminal);
     let LoadResult::Loaded = said else {
@@ -207,7 +207,7 @@ fn load_objects(count: u8, store: &mut [u8], terminal: &[u8], command: &mut [u8]
 
 // The number of a loading that is refused.
 fn refusal_number(said: LoadResult) -> u8
-    ensures { λ r. ⌜ r ≡ loadRefusalNumber said ⌝ }
+    ensures { λ r. ⌜ r ≡ loadRefusalNumberOrZero said ⌝ }
 {
     match said {
         LoadResult::Loaded => 0,
@@ -218,8 +218,8 @@ fn refusal_number(said: LoadResult) -> u8
 // The GPO command.
 fn ask_gpo(count: u8, bytes: &[u8], command: &mut [u8]) -> Transition
     requires { ⌜ (leastBuffer ≤ length (now command)) × (count < 255) ⌝ }
-    ensures { λ r. ⌜ DidTransition r (now (bytes .entry)) (now (command .exit))
-        (stepOn count (now (command .entry)) (askGpo (now (bytes .entry)))) ⌝ }
+    ensures { λ r. ⌜ ReturnsTransition r (now (bytes .entry)) (now (command .exit))
+        (stepOfNext count (now (command .entry)) (requestGpo (now (bytes .entry)))) ⌝ }
 {
     let DolCommand::Command(c) = command::get_processing_options(bytes, command) else {
         return session_record::fail_session(count, basics::REASON_DOL, NOT_APPLICABLE);
@@ -231,8 +231,8 @@ fn ask_gpo(count: u8, bytes: &[u8], command: &mut [u8]) -> Transition
 fn take_response(awaited: AwaitedResponse, count: u8, store: &mut [u8], card: &[u8], command: &mut [u8]) -> Transition
     requires { ⌜ (leastBuffer ≤ length (now command)) × (count < 255) ⌝ }
     requires { ⌜ length (now store) ≡ storeSize ⌝ }
-    ensures { λ r. ⌜ DidTransition r (now (store .exit)) (now (command .exit))
-        (stepOn count (now (command .entry)) (responseNext (now (store .entry)) (now (card .entry)) awaited)) ⌝ }
+    ensures { λ r. ⌜ ReturnsTransition r (now (store .exit)) (now (command .exit))
+        (stepOfNext count (now (command .entry)) (nextOnResponse (now (store .entry)) (now (card .entry)) awaited)) ⌝ }
 {
     match awaited {
         AwaitedResponse::Gpo => take_gpo(count, store, card, command),
@@ -246,8 +246,8 @@ fn take_response(awaited: AwaitedResponse, count: u8, store: &mut [u8], card: &[
 fn take_gpo(count: u8, store: &mut [u8], card: &[u8], command: &mut [u8]) -> Transition
     requires { ⌜ (leastBuffer ≤ length (now command)) × (count < 255) ⌝ }
     requires { ⌜ length (now store) ≡ storeSize ⌝ }
-    ensures { λ r. ⌜ DidTransition r (now (store .exit)) (now (command .exit))
-        (stepOn count (now (command .entry)) (gpoNext (now (store .entry)) (now (card .entry)))) ⌝ }
+    ensures { λ r. ⌜ ReturnsTransition r (now (store .exit)) (now (command .exit))
+        (stepOfNext count (now (command .entry)) (nextOnGpoResponse (now (store .entry)) (now (card .entry)))) ⌝ }
 {
     let read = reader::read_answer(store, Awaited::Gpo, card);
     let verdict = read.verdict;
@@ -260,8 +260,8 @@ fn take_gpo(count: u8, store: &mut [u8], card: &[u8], command: &mut [u8]) -> Tra
 // After GPO: the transaction limit is fixed, and the first record is requested.
 fn after_gpo(count: u8, bytes: &[u8], command: &mut [u8]) -> Transition
     requires { ⌜ (leastBuffer ≤ length (now command)) × (count < 255) ⌝ }
-    ensures { λ r. ⌜ DidTransition r (now (bytes .entry)) (now (command .exit))
-        (stepOn count (now (command .entry)) (afterGpo (now (bytes .entry)))) ⌝ }
+    ensures { λ r. ⌜ ReturnsTransition r (now (bytes .entry)) (now (command .exit))
+        (stepOfNext count (now (command .entry)) (nextAfterGpoRead (now (bytes .entry)))) ⌝ }
 {
     let Check::Passed = gpo_data_present(bytes) else {
         return session_record::fail_session(count, basics::REASON_MISSING, NOT_APPLICABLE);
@@ -273,7 +273,7 @@ fn after_gpo(count: u8, bytes: &[u8], command: &mut [u8]) -> Transition
     let AflCheck::Accepted(_) = afl::check_afl(entries) else {
         return session_record::fail_session(count, basics::REASON_AFL, NOT_APPLICABLE);
     };
-    let RecordFound::At(wanted) = afl::record_at(entries, 1) else {
+    let RecordFound::At(wanted) = afl::kth_record_of_accepted_afl(entries, 1) else {
         return session_record::fail_session(count, basics::REASON_AFL, NOT_APPLICABLE);
     };
     let limit = analysis::action::transaction_limit(bytes);
@@ -285,7 +285,7 @@ fn ask_record(count: u8, wanted: afl::CardRecord, place: AwaitedRecord, command:
     requires { ⌜ (leastBuffer ≤ length (now command)) × (count < 255) ⌝ }
     requires { ⌜ wanted .sfi < 32 ⌝ }
     ensures transition { λ r. ⌜ r ≡ commandTransition (AwaitedResponse.Record place) (count + 1) (length (readRecordCommand wanted)) ⌝ }
-    ensures buffer { λ _. ⌜ now (command .exit) ≡ withPrefix (readRecordCommand wanted) (now (command .entry)) ⌝ }
+    ensures buffer { λ _. ⌜ now (command .exit) ≡ writtenOverFront (readRecordCommand wanted) (now (command .entry)) ⌝ }
 {
     let size = command::read_record(wanted, command);
     session_record::issue_command(AwaitedResponse::Record(place), count + 1, size)
@@ -295,11 +295,11 @@ fn ask_record(count: u8, wanted: afl::CardRecord, place: AwaitedRecord, command:
 fn take_record(place: AwaitedRecord, count: u8, store: &mut [u8], card: &[u8], command: &mut [u8]) -> Transition
     requires { ⌜ (leastBuffer ≤ length (now command)) × (count < 255) ⌝ }
     requires { ⌜ length (now store) ≡ storeSize ⌝ }
-    ensures { λ r. ⌜ DidTransition r (now (store .exit)) (now (command .exit))
-        (stepOn count (now (command .entry)) (recordNext place (now (store .entry)) (now (card .entry)))) ⌝ }
+    ensures { λ r. ⌜ ReturnsTransition r (now (store .exit)) (now (command .exit))
+        (stepOfNext count (now (command .entry)) (nextOnRecordResponse place (now (store .entry)) (now (card .entry)))) ⌝ }
 {
     let k = basics::widen(place.number);
-    let found = afl::record_at(store::value(&store[..], ROW_AFL), k);
+    let found = afl::kth_record_of_accepted_afl(store::value(&store[..], ROW_AFL), k);
     let RecordFound::At(asked) = found else {
         return session_record::fail_session(count, basics::REASON_AFL, NOT_APPLICABLE);
     };
@@ -316,12 +316,12 @@ fn take_record(place: AwaitedRecord, count: u8, store: &mut [u8], card: &[u8], c
 fn ask_next_record(place: AwaitedRecord, count: u8, store: &mut [u8], command: &mut [u8]) -> Transition
     requires { ⌜ (leastBuffer ≤ length (now command)) × (count < 255) ⌝ }
     requires { ⌜ length (now store) ≡ storeSize ⌝ }
-    ensures { λ r. ⌜ DidTransition r (now (store .exit)) (now (command .exit))
-        (stepOn count (now (command .entry)) (afterRecord place (now (store .entry)))) ⌝ }
+    ensures { λ r. ⌜ ReturnsTransition r (now (store .exit)) (now (command .exit))
+        (stepOfNext count (now (command .entry)) (nextAfterRecordRead place (now (store .entry)))) ⌝ }
 {
     let number = place.number;
     let k = basics::widen(number) + 1;
-    let found = afl::record_at(store::value(&store[..], ROW_AFL), k);
+    let found = afl::kth_record_of_accepted_afl(store::value(&store[..], ROW_AFL), k);
     let limit = place.limit;
     let RecordFound::At(wanted) = found else {
         return after_last_record(limit, count, store, command);
@@ -333,10 +333,10 @@ fn ask_next_record(place: AwaitedRecord, count: u8, store: &mut [u8], command: &
 fn after_last_record(limit: u64, count: u8, store: &mut [u8], command: &mut [u8]) -> Transition
     requires { ⌜ (leastBuffer ≤ length (now command)) × (count < 255) ⌝ }
     requires { ⌜ length (now store) ≡ storeSize ⌝ }
-    ensures { λ r. ⌜ DidTransition r (now (store .exit)) (now (command .exit))
-        (stepOn count (now (command .entry)) (afterLastRecord limit (now (store .entry)))) ⌝ }
+    ensures { λ r. ⌜ ReturnsTransition r (now (store .exit)) (now (command .exit))
+        (stepOfNext count (now (command .entry)) (nextAfterLastRecord limit (now (store .entry)))) ⌝ }
 {
-    if session_record::is_emv(&store[..]) {
+    if session_record::is_emv_mode(&store[..]) {
         return emv_mode_analysis(limit, count, store, command);
     }
     mag_stripe_checks(limit, count, &store[..], command)
@@ -346,8 +346,8 @@ fn after_last_record(limit: u64, count: u8, store: &mut [u8], command: &mut [u8]
 fn emv_mode_analysis(limit: u64, count: u8, store: &mut [u8], command: &mut [u8]) -> Transition
     requires { ⌜ (leastBuffer ≤ length (now command)) × (count < 255) ⌝ }
     requires { ⌜ length (now store) ≡ storeSize ⌝ }
-    ensures { λ r. ⌜ DidTransition r (now (store .exit)) (now (command .exit))
-        (stepOn count (now (command .entry)) (afterRecordsEmv limit (now (store .entry)))) ⌝ }
+    ensures { λ r. ⌜ ReturnsTransition r (now (store .exit)) (now (command .exit))
+        (stepOfNext count (now (command .entry)) (nextAfterRecordsInEmvMode limit (now (store .entry)))) ⌝ }
 {
     let Check::Passed = limit_in(limit, &store[..]) else {
         return session_record::fail_session(count, basics::REASON_ABOVE_LIMIT, NOT_APPLICABLE);
@@ -362,14 +362,14 @@ fn emv_mode_analysis(limit: u64, count: u8, store: &mut [u8], command: &mut [u8]
 fn analyse(limit: u64, count: u8, store: &mut [u8], command: &mut [u8]) -> Transition
     requires { ⌜ (leastBuffer ≤ length (now command)) × (count < 255) ⌝ }
     requires { ⌜ length (now store) ≡ storeSize ⌝ }
-    ensures { λ r. ⌜ DidTransition r (now (store .exit)) (now (command .exit))
-        (stepOn count (now (command .entry)) (askCryptogram (requestedCryptogram limit (now (store .entry))) (withFindings (now (store .entry)) (findingsOf (now (store .entry)))))) ⌝ }
+    ensures { λ r. ⌜ ReturnsTransition r (now (store .exit)) (now (command .exit))
+        (stepOfNext count (now (command .entry)) (requestCryptogram (requestedCryptogram limit (now (store .entry))) (storeWithFindings (now (store .entry)) (findingsOf (now (store .entry)))))) ⌝ }
 {
     let found = analysis::action::findings_of(&store[..]);
     let results = found.results;
     let bits = found.bits;
     let cvm = found.cvm;
-    let choice = analysis::action::choice_for(&store[..], bits);
+    let choice = analysis::action::choice_for_tvr(&store[..], bits);
     store::put(store, ROW_CVM_RESULTS, &results);
     store::put(store, ROW_TVR, &bits);
     ask_cryptogram(RequestedCryptogram { choice, cvm, limit }, count, &store[..], command)
@@ -378,11 +378,11 @@ fn analyse(limit: u64, count: u8, store: &mut [u8], command: &mut [u8]) -> Trans
 // The command for the cryptogram.
 fn ask_cryptogram(asked: RequestedCryptogram, count: u8, bytes: &[u8], command: &mut [u8]) -> Transition
     requires { ⌜ (leastBuffer ≤ length (now command)) × (count < 255) ⌝ }
-    ensures { λ r. ⌜ DidTransition r (now (bytes .entry)) (now (command .exit))
-        (stepOn count (now (command .entry)) (askCryptogram asked (now (bytes .entry)))) ⌝ }
+    ensures { λ r. ⌜ ReturnsTransition r (now (bytes .entry)) (now (command .exit))
+        (stepOfNext count (now (command .entry)) (requestCryptogram asked (now (bytes .entry)))) ⌝ }
 {
     let choice = asked.choice;
-    let p1 = analysis::choice::p1(choice);
+    let p1 = analysis::choice::generate_ac_p1(choice);
     let DolCommand::Command(c) = command::generate_ac(bytes, p1, command) else {
         return session_record::fail_session(count, basics::REASON_DOL, requested_cvm(asked));
     };
@@ -400,8 +400,8 @@ fn requested_cvm(asked: RequestedCryptogram) -> u8
 // The answer to the cryptogram: no command follows it.
 fn take_cryptogram(asked: RequestedCryptogram, count: u8, store: &mut [u8], card: &[u8]) -> Transition
     requires { ⌜ length (now store) ≡ storeSize ⌝ }
-    ensures { λ r. ⌜ ((buf : List ℕ) → DidTransition r (now (store .exit)) buf
-        (stepOn count buf (cryptogramNext asked (now (store .entry)) (now (card .entry))))) ⌝ }
+    ensures { λ r. ⌜ ((buf : List ℕ) → ReturnsTransition r (now (store .exit)) buf
+        (stepOfNext count buf (nextOnCryptogramResponse asked (now (store .entry)) (now (card .entry))))) ⌝ }
 {
     let read = reader::read_answer(store, Awaited::Cryptogram, card);
     let verdict = read.verdict;
@@ -413,15 +413,15 @@ fn take_cryptogram(asked: RequestedCryptogram, count: u8, store: &mut [u8], card
 
 // The outcome, by the type of the cryptogram that came.
 fn cryptogram_outcome(asked: RequestedCryptogram, count: u8, bytes: &[u8]) -> Transition
-    ensures { λ r. ⌜ ((buf : List ℕ) → DidTransition r (now (bytes .entry)) buf
-        (stepOn count buf (afterCryptogram asked (now (bytes .entry))))) ⌝ }
+    ensures { λ r. ⌜ ((buf : List ℕ) → ReturnsTransition r (now (bytes .entry)) buf
+        (stepOfNext count buf (nextAfterCryptogramRead asked (now (bytes .entry))))) ⌝ }
 {
     let Check::Passed = cryptogram_present(bytes) else {
         return session_record::fail_session(count, basics::REASON_MISSING, requested_cvm(asked));
     };
     let kind = basics::byte_at(store::value(bytes, ROW_CID), 0) / 64;
     let choice = asked.choice;
-    let CryptogramOutcome::On(d) = outcome_for_cryptogram(choice, kind) else {
+    let CryptogramOutcome::On(d) = outcome_for_cryptogram_type(choice, kind) else {
         return session_record::fail_session(count, basics::REASON_CRYPTOGRAM, requested_cvm(asked));
     };
     let outcome = d.outcome;
@@ -429,8 +429,8 @@ fn cryptogram_outcome(asked: RequestedCryptogram, count: u8, bytes: &[u8]) -> Tr
 }
 
 // What a type of cryptogram decides, by what was requested.
-pub fn outcome_for_cryptogram(choice: Choice, kind: u8) -> CryptogramOutcome
-    ensures { λ r. ⌜ cryptogramOutcomeEnding r ≡ endingFor (cryptogramOutcome choice kind) ⌝ }
+pub fn outcome_for_cryptogram_type(choice: Choice, kind: u8) -> CryptogramOutcome
+    ensures { λ r. ⌜ cryptogramOutcomeEnding r ≡ endingForDecision (outcomeForCryptogramType choice kind) ⌝ }
 {
     if kind == CID_AAC {
         return CryptogramOutcome::On(Decision { outcome: Outcome::Declined });
@@ -455,8 +455,8 @@ pub fn outcome_for_cryptogram(choice: Choice, kind: u8) -> CryptogramOutcome
 // After the last record in mag-stripe mode: the limit that the session holds, what is needed, and then the checksum.
 fn mag_stripe_checks(limit: u64, count: u8, bytes: &[u8], command: &mut [u8]) -> Transition
     requires { ⌜ (leastBuffer ≤ length (now command)) × (count < 255) ⌝ }
-    ensures { λ r. ⌜ DidTransition r (now (bytes .entry)) (now (command .exit))
-        (stepOn count (now (command .entry)) (afterRecordsMagStripe limit (now (bytes .entry)))) ⌝ }
+    ensures { λ r. ⌜ ReturnsTransition r (now (bytes .entry)) (now (command .exit))
+        (stepOfNext count (now (command .entry)) (nextAfterRecordsInMagStripeMode limit (now (bytes .entry)))) ⌝ }
 {
     let Check::Passed = limit_in(limit, bytes) else {
         return session_record::fail_session(count, basics::REASON_ABOVE_LIMIT, NOT_APPLICABLE);
@@ -470,8 +470,8 @@ fn mag_stripe_checks(limit: u64, count: u8, bytes: &[u8], command: &mut [u8]) ->
 // The command for the checksum.
 fn ask_checksum(limit: u64, count: u8, bytes: &[u8], command: &mut [u8]) -> Transition
     requires { ⌜ (leastBuffer ≤ length (now command)) × (count < 255) ⌝ }
-    ensures { λ r. ⌜ DidTransition r (now (bytes .entry)) (now (command .exit))
-        (stepOn count (now (command .entry)) (askChecksum limit (now (bytes .entry)))) ⌝ }
+    ensures { λ r. ⌜ ReturnsTransition r (now (bytes .entry)) (now (command .exit))
+        (stepOfNext count (now (command .entry)) (requestChecksum limit (now (bytes .entry)))) ⌝ }
 {
     let DolCommand::Command(c) = command::compute_cryptographic_checksum(bytes, command) else {
         return session_record::fail_session(count, basics::REASON_DOL, NOT_APPLICABLE);
@@ -483,8 +483,8 @@ fn ask_checksum(limit: u64, count: u8, bytes: &[u8], command: &mut [u8]) -> Tran
 // kept, whatever the reading reports.
 fn take_checksum(count: u8, store: &mut [u8], card: &[u8]) -> Transition
     requires { ⌜ length (now store) ≡ storeSize ⌝ }
-    ensures { λ r. ⌜ ((buf : List ℕ) → DidTransition r (now (store .exit)) buf
-        (stepOn count buf (checksumNext (now (store .entry)) (now (card .entry))))) ⌝ }
+    ensures { λ r. ⌜ ((buf : List ℕ) → ReturnsTransition r (now (store .exit)) buf
+        (stepOfNext count buf (nextOnChecksumResponse (now (store .entry)) (now (card .entry))))) ⌝ }
 {
     let Check::Passed = track_in(&store[..]) else {
         return refuse_track(count, &store[..], card);
@@ -500,9 +500,9 @@ fn take_checksum(count: u8, store: &mut [u8], card: &[u8]) -> Transition
 // A track that cannot take the digits: the reading's reason, else that an object is not allowed.
 fn refuse_track(count: u8, bytes: &[u8], card: &[u8]) -> Transition
     requires { ⌜ length (now bytes) ≡ storeSize ⌝ }
-    requires { ⌜ trackCanTakeDigits (now bytes) ≡ false ⌝ }
-    ensures { λ r. ⌜ ((buf : List ℕ) → DidTransition r (now (bytes .entry)) buf
-        (stepOn count buf (checksumNext (now (bytes .entry)) (now (card .entry))))) ⌝ }
+    requires { ⌜ storedTrackCanTakeDigits (now bytes) ≡ false ⌝ }
+    ensures { λ r. ⌜ ((buf : List ℕ) → ReturnsTransition r (now (bytes .entry)) buf
+        (stepOfNext count buf (nextOnChecksumResponse (now (bytes .entry)) (now (card .entry))))) ⌝ }
 {
     let verdict = reader::judge_answer(bytes, Awaited::Checksum, card);
     let ResponseVerdict::Accepted = verdict else {
@@ -514,13 +514,13 @@ fn refuse_track(count: u8, bytes: &[u8], card: &[u8]) -> Transition
 // The outcome, by what the answer brought; with ATC and CVC3 the digits go into the track.
 fn checksum_outcome(count: u8, store: &mut [u8]) -> Transition
     requires { ⌜ length (now store) ≡ storeSize ⌝ }
-    ensures { λ r. ⌜ ((buf : List ℕ) → DidTransition r (now (store .exit)) buf
-        (stepOn count buf (afterChecksum (now (store .entry))))) ⌝ }
+    ensures { λ r. ⌜ ((buf : List ℕ) → ReturnsTransition r (now (store .exit)) buf
+        (stepOfNext count buf (nextAfterChecksumRead (now (store .entry))))) ⌝ }
 {
     let Check::Passed = atc_present(&store[..]) else {
         return session_record::fail_session(count, basics::REASON_MISSING, NOT_APPLICABLE);
     };
-    if !store::is_there(&store[..], ROW_CVC3_TRACK2) {
+    if !store::is_present(&store[..], ROW_CVC3_TRACK2) {
         return session_record::end_session(count, Outcome::Declined, basics::REASON_NONE, NOT_APPLICABLE);
     }
     store_digits(store);
@@ -530,7 +530,7 @@ fn checksum_outcome(count: u8, store: &mut [u8]) -> Transition
 // Puts the digits of CVC3, UN and ATC into the stored track.
 fn store_digits(store: &mut [u8])
     requires { ⌜ length (now store) ≡ storeSize ⌝ }
-    ensures { λ _. ⌜ now (store .exit) ≡ storeWithDigits (now (store .entry)) ⌝ }
+    ensures { λ _. ⌜ now (store .exit) ≡ storeWithTrackDigits (now (store .entry)) ⌝ }
 {
     let n = store::value(&store[..], ROW_TRACK2_DATA).len();
     let mut track = [0u8; 19];
@@ -540,8 +540,8 @@ fn store_digits(store: &mut [u8])
 
 // The stored track with the digits in it, into the caller's.
 fn track_after(bytes: &[u8], track: &mut [u8])
-    requires { ⌜ length (now track) ≡ length (storedTrack (now bytes)) ⌝ }
-    ensures digits { λ _. ⌜ now (track .exit) ≡ trackWithDigits (storedTrack (now (bytes .entry))) (storedBitmaps (now (bytes .entry))) (storedDigitValues (now (bytes .entry))) ⌝ }
+    requires { ⌜ length (now track) ≡ length (storedTrack2 (now bytes)) ⌝ }
+    ensures digits { λ _. ⌜ now (track .exit) ≡ trackWithDigitsIfPossible (storedTrack2 (now (bytes .entry))) (storedBitmaps (now (bytes .entry))) (storedDigitValues (now (bytes .entry))) ⌝ }
     ensures sized { λ _. ⌜ length (now (track .exit)) ≡ length (now (track .entry)) ⌝ }
 {
     bytes::copy(store::value(bytes, ROW_TRACK2_DATA), track);
@@ -565,12 +565,12 @@ fn values_in(bytes: &[u8]) -> DigitValues
 {
     let code = store::value(bytes, ROW_CVC3_TRACK2);
     let number = store::value(bytes, ROW_UN_NUMERIC);
-    mag_stripe::values_of(code, number, store::value(bytes, ROW_ATC))
+    mag_stripe::digit_values_of(code, number, store::value(bytes, ROW_ATC))
 }
 
 // The stored track against the bitmaps.
 fn track_in(bytes: &[u8]) -> Check
-    ensures { λ r. ⌜ checkNumber reasonNotAllowed r ≡ unless (trackCanTakeDigits (now (bytes .entry))) reasonNotAllowed ⌝ }
+    ensures { λ r. ⌜ reasonIfCheckFailed reasonObjectNotAllowed r ≡ reasonUnless (storedTrackCanTakeDigits (now (bytes .entry))) reasonObjectNotAllowed ⌝ }
 {
     let bitmaps = bitmaps_in(bytes);
     if mag_stripe::can_take_digits(store::value(bytes, ROW_TRACK2_DATA), bitmaps) {
@@ -581,9 +581,9 @@ fn track_in(bytes: &[u8]) -> Check
 
 // 9F6B, 9F65, 9F66 and 9F67 are present, none empty.
 fn track_complete(bytes: &[u8]) -> Check
-    ensures { λ r. ⌜ checkNumber reasonMissing r ≡ unless (trackDataPresent (now (bytes .entry))) reasonMissing ⌝ }
+    ensures { λ r. ⌜ reasonIfCheckFailed reasonObjectMissing r ≡ reasonUnless (track2AndBitmapsNonEmpty (now (bytes .entry))) reasonObjectMissing ⌝ }
 {
-    if session_record::is_track_complete(bytes) {
+    if session_record::track2_and_bitmaps_non_empty(bytes) {
         return Check::Passed;
     }
     Check::Failed
@@ -591,9 +591,9 @@ fn track_complete(bytes: &[u8]) -> Check
 
 // 9F36 is present.
 fn atc_present(bytes: &[u8]) -> Check
-    ensures { λ r. ⌜ checkNumber reasonMissing r ≡ unless (hasObject (now (bytes .entry)) 0x9F36) reasonMissing ⌝ }
+    ensures { λ r. ⌜ reasonIfCheckFailed reasonObjectMissing r ≡ reasonUnless (hasObject (now (bytes .entry)) 0x9F36) reasonObjectMissing ⌝ }
 {
-    if store::is_there(bytes, ROW_ATC) {
+    if store::is_present(bytes, ROW_ATC) {
         return Check::Passed;
     }
     Check::Failed
@@ -601,10 +601,10 @@ fn atc_present(bytes: &[u8]) -> Check
 
 // 82 and 94 are present.
 fn gpo_data_present(bytes: &[u8]) -> Check
-    ensures { λ r. ⌜ checkNumber reasonMissing r ≡ unless (aipAndAflPresent (now (bytes .entry))) reasonMissing ⌝ }
+    ensures { λ r. ⌜ reasonIfCheckFailed reasonObjectMissing r ≡ reasonUnless (aipAndAflPresent (now (bytes .entry))) reasonObjectMissing ⌝ }
 {
-    if store::is_there(bytes, ROW_AIP) {
-        if store::is_there(bytes, ROW_AFL) {
+    if store::is_present(bytes, ROW_AIP) {
+        if store::is_present(bytes, ROW_AFL) {
             return Check::Passed;
         }
     }
@@ -613,9 +613,9 @@ fn gpo_data_present(bytes: &[u8]) -> Check
 
 // The mode that the AIP (82) indicates, against the kernel configuration.
 fn mode_in(bytes: &[u8]) -> Check
-    ensures { λ r. ⌜ checkNumber reasonMode r ≡ unless (emvOrMagStripeMode (now (bytes .entry))) reasonMode ⌝ }
+    ensures { λ r. ⌜ reasonIfCheckFailed reasonNoSupportedMode r ≡ reasonUnless (emvOrMagStripeMode (now (bytes .entry))) reasonNoSupportedMode ⌝ }
 {
-    if session_record::is_either(bytes) {
+    if session_record::is_emv_or_mag_stripe_mode(bytes) {
         return Check::Passed;
     }
     Check::Failed
@@ -623,9 +623,9 @@ fn mode_in(bytes: &[u8]) -> Check
 
 // The amount against a limit.
 fn limit_in(limit: u64, bytes: &[u8]) -> Check
-    ensures { λ r. ⌜ checkNumber reasonAboveLimit r ≡ unless (not (aboveTransactionLimit limit (now (bytes .entry)))) reasonAboveLimit ⌝ }
+    ensures { λ r. ⌜ reasonIfCheckFailed reasonAboveLimit r ≡ reasonUnless (not (storedAmountAboveLimit limit (now (bytes .entry)))) reasonAboveLimit ⌝ }
 {
-    if analysis::action::above_transaction_limit(bytes, limit) {
+    if analysis::action::stored_amount_above_limit(bytes, limit) {
         return Check::Failed;
     }
     Check::Passed
@@ -633,9 +633,9 @@ fn limit_in(limit: u64, bytes: &[u8]) -> Check
 
 // 5F24, 5A and 8C are present, none empty.
 fn card_complete(bytes: &[u8]) -> Check
-    ensures { λ r. ⌜ checkNumber reasonMissing r ≡ unless (cryptogramDataPresent (now (bytes .entry))) reasonMissing ⌝ }
+    ensures { λ r. ⌜ reasonIfCheckFailed reasonObjectMissing r ≡ reasonUnless (expiryPanAndCdol1NonEmpty (now (bytes .entry))) reasonObjectMissing ⌝ }
 {
-    if session_record::is_complete(bytes) {
+    if session_record::expiry_pan_and_cdol1_non_empty(bytes) {
         return Check::Passed;
     }
     Check::Failed
@@ -643,11 +643,11 @@ fn card_complete(bytes: &[u8]) -> Check
 
 // 9F27, 9F36 and 9F26 are present.
 fn cryptogram_present(bytes: &[u8]) -> Check
-    ensures { λ r. ⌜ checkNumber reasonMissing r ≡ unless (cryptogramPresent (now (bytes .entry))) reasonMissing ⌝ }
+    ensures { λ r. ⌜ reasonIfCheckFailed reasonObjectMissing r ≡ reasonUnless (cidAtcAndCryptogramPresent (now (bytes .entry))) reasonObjectMissing ⌝ }
 {
-    if store::is_there(bytes, ROW_CID) {
-        if store::is_there(bytes, ROW_ATC) {
-            if store::is_there(bytes, ROW_AC) {
+    if store::is_present(bytes, ROW_CID) {
+        if store::is_present(bytes, ROW_ATC) {
+            if store::is_present(bytes, ROW_AC) {
                 return Check::Passed;
             }
         }

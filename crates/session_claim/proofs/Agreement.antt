@@ -10,31 +10,31 @@ use mathlib.Core.Option.{Option, some, none}
 use Prim.Native.Nat.{ℕ}
 use lib.Dec.{eqb}
 use Rattle.basics.specs.Choice.{if, both}
-use Rattle.basics.specs.Reason.{reasonNone, reasonDol}
+use Rattle.basics.specs.Reason.{reasonNone, reasonDolBrokenOrBadLength}
 use Rattle.basics.proofs.Laws.{if-ind, no}
 use Rattle.tlv.specs.Tag.{tagAt, tagSize, tagFirstByte, isTemplate}
 use Rattle.tlv.specs.Length.{lengthAt}
 use Rattle.tlv.specs.Object.{headerOf}
-use Rattle.reading.specs.Answer.{responseBody}
+use Rattle.reading.specs.Answer.{parseResponseBody}
 use Rattle.session_record.specs.declared.AwaitedResponse.{AwaitedResponse}
 use Rattle.session_record.specs.declared.Phase.{Phase}
 use Rattle.session_record.specs.declared.Session.{Session}
 use Rattle.session_record.specs.declared.CallResult.{CallResult}
-use Rattle.session_record.specs.Session.{storeBytes, Stage, fresh, running, ended, stageOf, isRunning, isEnded}
-use Rattle.session_record.specs.Ranges.{freshRanges, gpoRanges, recordRanges, cryptogramRanges, checksumRanges, endedRanges, phaseRanges}
+use Rattle.session_record.specs.Session.{storeBytes, SessionStage, fresh, running, ended, sessionStageOf, isRunning, isEnded}
+use Rattle.session_record.specs.Ranges.{inFreshRanges, inGpoRanges, inRecordRanges, inCryptogramRanges, inChecksumRanges, inEndedRanges, inPhaseRanges}
 use Rattle.session.specs.Answer.{gpoReason}
 use Rattle.session.specs.Calls.{Call, start, answer, link-failed, stop, CallMade, isRefusal, callResult, callRefused}
 use Rattle.session.proofs.Results.{isCommand, isOutcome}
 use Rattle.session_claim.specs.Calls.{callsAccepted, lastElement}
-use Rattle.session_claim.specs.Order.{responseAfl, responseAip, cardBytes, acceptedAfl, CommandKind, cryptogram, lastKindFor, lastKind}
-use Rattle.session_claim.specs.Claim.{stageBy, stageAfter, SessionProper}
+use Rattle.session_claim.specs.Order.{aflInGpoResponse, aipInGpoResponse, cardBytes, aflAcceptedFromGpoAnswer, CommandKind, cryptogram, finalCommandKindForAip, finalCommandKindByGpoAnswer}
+use Rattle.session_claim.specs.Claim.{stageAfterAcceptedResult, stageAfterLastAcceptedCall, CallsAndSessionAfterInPublishedOrder}
 use Rattle.session_claim.specs.ReportedCvm.{choiceMadeIn}
 
 -- ---- the accepted AFL and the last command
 
 abbrev wasAfl : Session → Call → Option (List ℕ)
 wasAfl s (start bytes buf) = none
-wasAfl s (answer card buf) = if (eqb (gpoReason (storeBytes s) card) reasonNone) (responseAfl card) none
+wasAfl s (answer card buf) = if (eqb (gpoReason (storeBytes s) card) reasonNone) (aflInGpoResponse card) none
 wasAfl s (link-failed buf) = none
 wasAfl s (stop buf) = none
 
@@ -44,7 +44,7 @@ wasAccepted (some m) = wasAfl (m .before) (m .call)
 
 abbrev wasKind : Call → CommandKind
 wasKind (start bytes buf) = cryptogram
-wasKind (answer card buf) = lastKindFor (responseAip card)
+wasKind (answer card buf) = finalCommandKindForAip (aipInGpoResponse card)
 wasKind (link-failed buf) = cryptogram
 wasKind (stop buf) = cryptogram
 
@@ -53,32 +53,32 @@ wasLast none = cryptogram
 wasLast (some m) = wasKind (m .call)
 
 -- no card's bytes bring neither
-no-afl : (t : Bool) → none ≡ if t (responseAfl []) none
-unfolding responseAfl responseBody headerOf tagAt tagSize tagFirstByte lengthAt if
+no-afl : (t : Bool) → none ≡ if t (aflInGpoResponse []) none
+unfolding aflInGpoResponse parseResponseBody headerOf tagAt tagSize tagFirstByte lengthAt if
 no-afl true = refl
 no-afl false = refl
 
-no-aip : cryptogram ≡ lastKindFor (responseAip [])
-unfolding lastKindFor responseAip responseBody headerOf tagAt tagSize tagFirstByte lengthAt if
+no-aip : cryptogram ≡ finalCommandKindForAip (aipInGpoResponse [])
+unfolding finalCommandKindForAip aipInGpoResponse parseResponseBody headerOf tagAt tagSize tagFirstByte lengthAt if
 no-aip = refl
 
-call-afl : (s : Session) (c : Call) → wasAfl s c ≡ if (eqb (gpoReason (storeBytes s) (cardBytes c)) reasonNone) (responseAfl (cardBytes c)) none
+call-afl : (s : Session) (c : Call) → wasAfl s c ≡ if (eqb (gpoReason (storeBytes s) (cardBytes c)) reasonNone) (aflInGpoResponse (cardBytes c)) none
 call-afl s (start bytes buf) = no-afl _
 call-afl s (answer card buf) = refl
 call-afl s (link-failed buf) = no-afl _
 call-afl s (stop buf) = no-afl _
 
-call-kind : (c : Call) → wasKind c ≡ lastKindFor (responseAip (cardBytes c))
+call-kind : (c : Call) → wasKind c ≡ finalCommandKindForAip (aipInGpoResponse (cardBytes c))
 call-kind (start bytes buf) = no-aip
 call-kind (answer card buf) = refl
 call-kind (link-failed buf) = no-aip
 call-kind (stop buf) = no-aip
 
-pub afl-agrees : (x : Option CallMade) → wasAccepted x ≡ acceptedAfl x
+pub afl-agrees : (x : Option CallMade) → wasAccepted x ≡ aflAcceptedFromGpoAnswer x
 afl-agrees none = refl
 afl-agrees (some m) = call-afl (m .before) (m .call)
 
-pub kind-agrees : (x : Option CallMade) → wasLast x ≡ lastKind x
+pub kind-agrees : (x : Option CallMade) → wasLast x ≡ finalCommandKindByGpoAnswer x
 kind-agrees none = refl
 kind-agrees (some m) = call-kind (m .call)
 
@@ -123,53 +123,53 @@ last-passed (m ∷ []) a = a .0
 last-passed (m ∷ k ∷ ms) a = last-passed (k ∷ ms) (a .1)
 
 -- a test of a stage that agrees with one of the phase and one of what was returned
-module _ (t : Stage → Bool) (f : Phase → Bool) (g : CallResult → Bool) (of : (p : Phase) → f p ≡ t (stageOf p)) (by : (a : CallResult) → isRefusal a ≡ false → t (stageBy a) ≡ g a) where
+module _ (t : SessionStage → Bool) (f : Phase → Bool) (g : CallResult → Bool) (of : (p : Phase) → f p ≡ t (sessionStageOf p)) (by : (a : CallResult) → isRefusal a ≡ false → t (stageAfterAcceptedResult a) ≡ g a) where
   tested : (p : Phase) (o : Option CallMade) (z : Bool) → Passed o → t fresh ≡ z → (n : Option CallMade → Bool) → n none ≡ z → ((m : CallMade) → n (some m) ≡ g (callResult m))
-      → stageOf p ≡ stageAfter o → f p ≡ n o
+      → sessionStageOf p ≡ stageAfterLastAcceptedCall o → f p ≡ n o
   tested p none z h e n i j q = of p ∙ ap t q ∙ e ∙ sym i
   tested p (some m) z h e n i j q = of p ∙ ap t q ∙ by (callResult m) h ∙ sym (j m)
 
-abbrev isFreshStage : Stage → Bool
-isFreshStage Stage.fresh = true
-isFreshStage Stage.running = false
-isFreshStage Stage.ended = false
+abbrev isFreshStage : SessionStage → Bool
+isFreshStage SessionStage.fresh = true
+isFreshStage SessionStage.running = false
+isFreshStage SessionStage.ended = false
 
-abbrev isRunningStage : Stage → Bool
-isRunningStage Stage.fresh = false
-isRunningStage Stage.running = true
-isRunningStage Stage.ended = false
+abbrev isRunningStage : SessionStage → Bool
+isRunningStage SessionStage.fresh = false
+isRunningStage SessionStage.running = true
+isRunningStage SessionStage.ended = false
 
-abbrev isEndedStage : Stage → Bool
-isEndedStage Stage.fresh = false
-isEndedStage Stage.running = false
-isEndedStage Stage.ended = true
+abbrev isEndedStage : SessionStage → Bool
+isEndedStage SessionStage.fresh = false
+isEndedStage SessionStage.running = false
+isEndedStage SessionStage.ended = true
 
-fresh-of : (p : Phase) → wasFresh p ≡ isFreshStage (stageOf p)
+fresh-of : (p : Phase) → wasFresh p ≡ isFreshStage (sessionStageOf p)
 fresh-of Phase.Fresh = refl
 fresh-of (Phase.Waiting w) = refl
 fresh-of (Phase.Ended e) = refl
 
-running-of : (p : Phase) → isRunning p ≡ isRunningStage (stageOf p)
+running-of : (p : Phase) → isRunning p ≡ isRunningStage (sessionStageOf p)
 running-of Phase.Fresh = refl
 running-of (Phase.Waiting w) = refl
 running-of (Phase.Ended e) = refl
 
-ended-of : (p : Phase) → isEnded p ≡ isEndedStage (stageOf p)
+ended-of : (p : Phase) → isEnded p ≡ isEndedStage (sessionStageOf p)
 ended-of Phase.Fresh = refl
 ended-of (Phase.Waiting w) = refl
 ended-of (Phase.Ended e) = refl
 
-fresh-by : (a : CallResult) → isRefusal a ≡ false → isFreshStage (stageBy a) ≡ false
+fresh-by : (a : CallResult) → isRefusal a ≡ false → isFreshStage (stageAfterAcceptedResult a) ≡ false
 fresh-by (CallResult.Command x) e = refl
 fresh-by (CallResult.Outcome x) e = refl
 fresh-by (CallResult.Refused r) e = no (sym e)
 
-running-by : (a : CallResult) → isRefusal a ≡ false → isRunningStage (stageBy a) ≡ isCommand a
+running-by : (a : CallResult) → isRefusal a ≡ false → isRunningStage (stageAfterAcceptedResult a) ≡ isCommand a
 running-by (CallResult.Command x) e = refl
 running-by (CallResult.Outcome x) e = refl
 running-by (CallResult.Refused r) e = refl
 
-ended-by : (a : CallResult) → isRefusal a ≡ false → isEndedStage (stageBy a) ≡ isOutcome a
+ended-by : (a : CallResult) → isRefusal a ≡ false → isEndedStage (stageAfterAcceptedResult a) ≡ isOutcome a
 ended-by (CallResult.Command x) e = refl
 ended-by (CallResult.Outcome x) e = refl
 ended-by (CallResult.Refused r) e = refl
@@ -180,7 +180,7 @@ pub record WasStage (ms : List CallMade) (s : Session) : Type 0 where
   pub running : isRunning (s .phase) ≡ wasCommand (lastElement (callsAccepted ms))
   pub ended : isEnded (s .phase) ≡ wasOutcome (lastElement (callsAccepted ms))
 
-pub stage-agrees : (ms : List CallMade) (s : Session) → SessionProper ms s → WasStage ms s
+pub stage-agrees : (ms : List CallMade) (s : Session) → CallsAndSessionAfterInPublishedOrder ms s → WasStage ms s
 stage-agrees ms s c =
     record {
       fresh = tested isFreshStage wasFresh (λ a. false) fresh-of fresh-by (s .phase) o true passed refl wasNone refl (λ m. refl) (c .stage);
@@ -197,14 +197,14 @@ stage-agrees ms s c =
 -- ---- the ranges by phase
 
 abbrev wasRanges : Phase → Session → Bool
-wasRanges Phase.Fresh s = freshRanges (s .count) (storeBytes s)
-wasRanges (Phase.Waiting AwaitedResponse.Gpo) s = gpoRanges (s .count) (storeBytes s)
-wasRanges (Phase.Waiting (AwaitedResponse.Record p)) s = recordRanges p (s .count) (storeBytes s)
-wasRanges (Phase.Waiting (AwaitedResponse.Cryptogram a)) s = cryptogramRanges a (s .count) (storeBytes s)
-wasRanges (Phase.Waiting (AwaitedResponse.Checksum c)) s = checksumRanges c (s .count) (storeBytes s)
-wasRanges (Phase.Ended e) s = endedRanges e (s .count)
+wasRanges Phase.Fresh s = inFreshRanges (s .count) (storeBytes s)
+wasRanges (Phase.Waiting AwaitedResponse.Gpo) s = inGpoRanges (s .count) (storeBytes s)
+wasRanges (Phase.Waiting (AwaitedResponse.Record p)) s = inRecordRanges p (s .count) (storeBytes s)
+wasRanges (Phase.Waiting (AwaitedResponse.Cryptogram a)) s = inCryptogramRanges a (s .count) (storeBytes s)
+wasRanges (Phase.Waiting (AwaitedResponse.Checksum c)) s = inChecksumRanges c (s .count) (storeBytes s)
+wasRanges (Phase.Ended e) s = inEndedRanges e (s .count)
 
-pub ranges-agree : (p : Phase) (s : Session) → wasRanges p s ≡ phaseRanges p (s .count) (storeBytes s)
+pub ranges-agree : (p : Phase) (s : Session) → wasRanges p s ≡ inPhaseRanges p (s .count) (storeBytes s)
 ranges-agree Phase.Fresh s = refl
 ranges-agree (Phase.Waiting AwaitedResponse.Gpo) s = refl
 ranges-agree (Phase.Waiting (AwaitedResponse.Record p)) s = refl
@@ -217,7 +217,7 @@ ranges-agree (Phase.Ended e) s = refl
 abbrev wasChoice : Phase → Bool → ℕ → Bool
 wasChoice Phase.Fresh emv reason = false
 wasChoice (Phase.Waiting AwaitedResponse.Gpo) emv reason = false
-wasChoice (Phase.Waiting (AwaitedResponse.Record p)) emv reason = both emv (eqb reason reasonDol)
+wasChoice (Phase.Waiting (AwaitedResponse.Record p)) emv reason = both emv (eqb reason reasonDolBrokenOrBadLength)
 wasChoice (Phase.Waiting (AwaitedResponse.Cryptogram a)) emv reason = true
 wasChoice (Phase.Waiting (AwaitedResponse.Checksum c)) emv reason = false
 wasChoice (Phase.Ended e) emv reason = false

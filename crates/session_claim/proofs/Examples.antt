@@ -6,56 +6,56 @@ use mathlib.Core.List.{List, [], _∷_, map}
 use mathlib.Core.Option.{Option, some, none}
 use Prim.Native.Nat.{ℕ}
 use lib.ListN.{length, replicate}
-use Rattle.basics.specs.Recursion.{recurse, recurseBy}
+use Rattle.basics.specs.Recursion.{recurseWithFuelFromLength, recurseWithFuel}
 use Rattle.basics.specs.Choice.{if, both, either, every}
-use Rattle.basics.specs.Number.{bigEndianFrom, nibbles}
-use Rattle.tlv.specs.Tag.{tagSize, tagSecondByte, tagThirdByte, tagAt, tagFirstByte, isTemplate, isPrivate}
+use Rattle.basics.specs.Number.{appendBigEndianBytes, nibbles}
+use Rattle.tlv.specs.Tag.{tagSize, tagSizeFromSecondByte, tagSizeFromThirdByte, tagAt, tagFirstByte, isTemplate, isPrivate}
 use Rattle.tlv.specs.Length.{lengthAt}
 use Rattle.tlv.specs.Object.{headerOf}
-use Rattle.tlv.specs.Primitives.{objectBefore, primitiveOf, primitiveObjects}
+use Rattle.tlv.specs.Primitives.{prependObject, primitiveAtFront, primitiveObjects}
 use Rattle.tlv.specs.Encoding.{lengthBytes}
-use Rattle.dictionary.specs.Rows.{dictionaryRows, rowPast, findRow}
-use Rattle.dictionary.specs.Named.{rowNumberOf}
-use Rattle.dictionary.specs.Form.{numeric, digitsFit, fitsRow, digitsThenFs, compressed}
+use Rattle.dictionary.specs.Rows.{dictionaryRows, rowFoundShifted, findRow}
+use Rattle.dictionary.specs.Named.{rowNumberOfTagOrZero}
+use Rattle.dictionary.specs.Form.{isNumeric, digitsMatchForm, lengthAndDigitsFitRow, isDigitsThenFs, isCompressedNumeric}
 use Rattle.dictionary.specs.TerminalType.{listedTerminalType}
-use Rattle.store.specs.Place.{rowOffset, rowPlace, placeValue, rowValue, putRow, objectValueIn}
+use Rattle.store.specs.Place.{rowOffset, rowPlaceBytes, valueInPlace, rowValue, putRow, objectValueIn}
 use Rattle.afl.specs.Entry.{validEntry}
-use Rattle.afl.specs.Records.{aflEntries as entriesOf, wholeEntries, consecutiveRecords as runOf, entriesRecords, sumOverEntries, acceptsAfl, nthRecord, kthRecord, aflRecordAt}
-use Rattle.reading.specs.Taking.{allowedInTemplate, allowedInResponse, allowedNow, takeItem, takeNext, takeAll, primitiveItems}
-use Rattle.reading.specs.Answer.{responseBody, gpoParts, primitiveParts, readBody, isRead, isStatus9000, isResponseLength, readAnswer, templateParts}
-use Rattle.dol.specs.Entries.{entriesNext, dolEntries, entryWithLength, dolEntryAt, entryBefore}
-use Rattle.dol.specs.Filling.{dolData, dolDataBy, truncated, paddingByte, padded, fittedTo, dolEntryBytes}
-use Rattle.command.specs.WithList.{gpoCommandOf, getProcessingOptions, carriedIn, generateAc, udolOrDefault, computeCryptographicChecksum}
+use Rattle.afl.specs.Records.{aflEntries as entriesOf, aflLengthIsMultipleOf4, consecutiveRecords as runOf, recordsOfEntries, sumOverEntries, acceptsAfl, recordAtIndex, kthRecordFromOne, kthRecordOfAcceptedAfl}
+use Rattle.reading.specs.Taking.{allowedInTemplate, rowAllowsValueFromCard, rowAllowsValueAndAbsentOrEmpty, storeItem, storeNextItem, storeAllItems, primitiveItems}
+use Rattle.reading.specs.Answer.{parseResponseBody, gpoItemsUnder80, primitiveBodyItems, readBody, isBodyToBeRead, isStatus9000, responseLengthIs2To258, readAnswer, templateBodyItems}
+use Rattle.dol.specs.Entries.{dolEntriesStep, dolEntries, dolEntryWithLength, dolEntryAt, prependDolEntry}
+use Rattle.dol.specs.Filling.{dolData, dolDataIfParsed, truncatedToLength, paddingByte, paddedToLength, fittedToLength, dolEntryBytes}
+use Rattle.command.specs.WithList.{gpoCommandOfFilled, getProcessingOptions, commandIfDataIs1To255Bytes, generateAc, udolOrDefault, computeCryptographicChecksum}
 use Rattle.session_record.specs.declared.AwaitedResponse.{AwaitedResponse}
 use Rattle.session_record.specs.declared.Phase.{Phase}
 use Rattle.session_record.specs.declared.Session.{Session}
-use Rattle.session_record.specs.Numbers.{outcomeOfReason}
-use Rattle.basics.specs.Reason.{reasonLink, reasonMode}
-use Rattle.session_record.specs.Ranges.{isPresentIfRequired, allRequiredPresent, cryptogramDataPresent, trackDataPresent}
+use Rattle.session_record.specs.Numbers.{outcomeOfNonzeroReason}
+use Rattle.basics.specs.Reason.{reasonLink, reasonNoSupportedMode}
+use Rattle.session_record.specs.Ranges.{isPresentIfRequiredAtStart, allRequiredAtStartPresent, expiryPanAndCdol1NonEmpty, track2AndBitmapsNonEmpty}
 use Rattle.session_record.specs.Session.{freshSession, endingOf, outcomeParameters}
 use Rattle.session_record.proofs.Phases.{fresh-keeps}
-use Rattle.start_data.specs.StartData.{terminalTypeListed, settableByStart, setObject, setObjects, loadStart}
-use Rattle.session.specs.Steps.{readThen, withTvr, withFindings}
-use Rattle.session.specs.Start.{askGpo}
-use Rattle.session.specs.MagStripe.{askChecksum, afterRecordsMagStripe, storeWithDigits, afterChecksum, checksumTaken, checksumNext}
-use Rattle.mag_stripe.specs.Track.{nibblesBefore, discretionaryIn}
-use Rattle.mag_stripe.specs.Bitmap.{bitmapPlacesFrom, bitmapPlaces, bitmapWithin, canTakeDigits}
-use Rattle.session.specs.Answer.{afterGpo, gpoNext, recordNext, afterRecord, afterLastRecord, afterRecordsEmv, requestedCryptogram, askCryptogram}
+use Rattle.start_data.specs.StartData.{isListedIfTerminalType, startMaySetObjectInRow, setStartObject, setStartObjects, loadStartBytes}
+use Rattle.session.specs.Steps.{readResponseThen, storeWithTvr, storeWithFindings}
+use Rattle.session.specs.Start.{requestGpo}
+use Rattle.session.specs.MagStripe.{requestChecksum, nextAfterRecordsInMagStripeMode, storeWithTrackDigits, nextAfterChecksumRead, nextIfTrackTakesDigits, nextOnChecksumResponse}
+use Rattle.mag_stripe.specs.Track.{nibblesBefore, discretionaryDataInNibbles}
+use Rattle.mag_stripe.specs.Bitmap.{bitmapPlacesCountedFrom, bitmapPlacesFromOne, bitmapWithin, trackCanTakeDigits}
+use Rattle.session.specs.Answer.{nextAfterGpoRead, nextOnGpoResponse, nextOnRecordResponse, nextAfterRecordRead, nextAfterLastRecord, nextAfterRecordsInEmvMode, requestedCryptogram, requestCryptogram}
 use Rattle.session_claim.specs.Calls.{commandsSent, callsAccepted}
 use Rattle.session.specs.Calls.{Call, start, answer, link-failed, stop, CallMade, playCalls, finalSession, callResult}
-use Rattle.session_claim.specs.Order.{firstIn77, responseAfl, responseAip, firstAnswer, acceptedAfl, gpo, record-command, cryptogram, checksum, lastKindFor, lastKind, publishedOrder}
+use Rattle.session_claim.specs.Order.{firstNonEmptyValueDirectlyInside77, aflInGpoResponse, aipInGpoResponse, firstAnswer, aflAcceptedFromGpoAnswer, gpo, record-command, cryptogram, checksum, finalCommandKindForAip, finalCommandKindByGpoAnswer, publishedOrder}
 use Rattle.basics.specs.Alike.{bytesEqual}
-use Rattle.tlv.specs.Tree.{objectCount, nextOf, withLeaf, withNode, parseTree}
-use Rattle.analysis.specs.Bits.{numberedBit}
-use Rattle.analysis.specs.Value.{firstBytes}
-use Rattle.analysis.specs.Digits.{bcdFrom, yearOf, dateOf, dateLater, amountOf, amountAbove}
-use Rattle.analysis.specs.Restrictions.{versionDiffers, notYetEffective, atAtm, issuerCountryOf, cashbackRequested, aucViolated}
+use Rattle.tlv.specs.Tree.{objectCount, nextInTemplate, prependLeaf, prependNode, parseTree}
+use Rattle.analysis.specs.Bits.{hasBitCountedFromZeroAtByte1B8}
+use Rattle.analysis.specs.Value.{firstBytesZeroPadded}
+use Rattle.analysis.specs.Digits.{appendDecimalDigits, fourDigitYear, dateAsNumber, firstDateIsLater, amountOf, firstAmountIsAbove}
+use Rattle.analysis.specs.Restrictions.{cardVersionPresentAndDiffers, notYetEffective, isAtmTypeWithCashCapability, issuerCountryMatch, cashbackRequested, aucViolated}
 use Rattle.analysis.specs.Tvr.{tvrWithBits}
-use Rattle.analysis.specs.Choice.{stageHoldsBit, lowestFrom, lowestBit, iacCode, stageHolds, onlineCapabilityAt, choiceOf}
+use Rattle.analysis.specs.Choice.{tvrBitIsInEitherActionCode, lowestBitFrom, lowestTvrBitInCodes, iacOrDefault, someTvrBitInCodesOfStage, onlineCapabilityByDigit, terminalActionAnalysis}
 use Rattle.analysis.specs.declared.choice.Choice.{Choice}
 use Rattle.analysis.specs.declared.cvm.Cvm.{Cvm}
-use Rattle.analysis.specs.Cvm.{cvmRulesFrom, cvmRecognised, cvmSupported, cvmConditionMet, cvmSuccessful as takenBy, cvmUnsuccessful, byCvmRules, cvmProcessing, onDeviceCvm, onDeviceResult}
-use Rattle.analysis.specs.Action.{hasOnDeviceCvm, transactionLimit, aboveTransactionLimit, aucViolatedIn, restrictionsByte, tvrOf, sameCurrency, cvmConditionsIn, cvmResultIn, tvrWithCvm, findingsOf, actionCodesOf, choiceFor}
+use Rattle.analysis.specs.Cvm.{cvmRulesFromPairs, cvmRecognised, cvmSupported, cvmConditionMet, cvmResultOfSupported as takenBy, cvmResultOfUnsuccessful, cvmResultByRules, cvmProcessing, aipAndConfigurationSupportOnDeviceCvm, onDeviceCvmResultByAboveLimit}
+use Rattle.analysis.specs.Action.{cardAndKernelSupportOnDeviceCvm, transactionLimit, storedAmountAboveLimit, aucViolatedInStore, restrictionsTvrByte2, tvrBeforeCvm, currenciesPresentAndEqual, cvmConditionsIn, cvmResultIn, tvrWithCvm, findingsOf, actionCodesOf, choiceForTvr}
 use Rattle.session_record.specs.declared.Outcome.{Outcome}
 use Rattle.session_record.specs.declared.CallResult.{CallResult}
 use Rattle.session_claim.proofs.InRanges.{playIn, finalIn, play-in, final-in}
@@ -114,7 +114,7 @@ notEmv = start (startWith 0xA0) lent ∷ answer magStripeAnswer lent ∷ []
 
 -- the AFL that a list of calls accepts
 abbrev accepted : List CallMade → Option (List ℕ)
-accepted ms = acceptedAfl (firstAnswer (callsAccepted ms))
+accepted ms = aflAcceptedFromGpoAnswer (firstAnswer (callsAccepted ms))
 
 pub record Worked : Type 0 where
   begun-sent : commandsSent (playCalls freshSession begun) ≡ gpoCommand ∷ recordCommand ∷ []
@@ -123,17 +123,17 @@ pub record Worked : Type 0 where
   interrupted-taken : length (callsAccepted (playCalls freshSession interrupted)) ≡ 2
   torn-sent : commandsSent (playCalls freshSession torn) ≡ gpoCommand ∷ []
   torn-taken : length (callsAccepted (playCalls freshSession torn)) ≡ 2
-  torn-end : finalSession freshSession torn .phase ≡ Phase.Ended (endingOf (outcomeOfReason reasonLink) reasonLink)
-  not-emv-brought : responseAfl magStripeAnswer ≡ some afl
+  torn-end : finalSession freshSession torn .phase ≡ Phase.Ended (endingOf (outcomeOfNonzeroReason reasonLink) reasonLink)
+  not-emv-brought : aflInGpoResponse magStripeAnswer ≡ some afl
   not-emv-accepted : accepted (playCalls freshSession notEmv) ≡ none
-  not-emv-end : finalSession freshSession notEmv .phase ≡ Phase.Ended (endingOf (outcomeOfReason reasonMode) reasonMode)
+  not-emv-end : finalSession freshSession notEmv .phase ≡ Phase.Ended (endingOf (outcomeOfNonzeroReason reasonNoSupportedMode) reasonNoSupportedMode)
 
 pub worked : Worked
-unfolding commandsSent playIn finalIn callsAccepted firstAnswer responseAfl outcomeOfReason askGpo getProcessingOptions gpoCommandOf dolDataBy dolData dolEntries recurse
-    recurseBy entriesNext lengthBytes gpoNext readThen afterGpo aflRecordAt kthRecord nthRecord acceptsAfl wholeEntries entriesOf validEntry sumOverEntries entriesRecords runOf readAnswer isResponseLength isStatus9000 isRead
-    readBody responseBody primitiveParts gpoParts takeAll takeNext takeItem allowedNow allowedInResponse allowedInTemplate withTvr rowNumberOf loadStart primitiveObjects objectBefore primitiveOf headerOf tagAt tagSize
-    tagSecondByte tagThirdByte lengthAt tagFirstByte isTemplate isPrivate bigEndianFrom if both either every dictionaryRows rowPast findRow settableByStart setObject setObjects fitsRow digitsFit numeric nibbles terminalTypeListed listedTerminalType
-    rowOffset rowPlace placeValue rowValue putRow objectValueIn allRequiredPresent isPresentIfRequired
+unfolding commandsSent playIn finalIn callsAccepted firstAnswer aflInGpoResponse outcomeOfNonzeroReason requestGpo getProcessingOptions gpoCommandOfFilled dolDataIfParsed dolData dolEntries recurseWithFuelFromLength
+    recurseWithFuel dolEntriesStep lengthBytes nextOnGpoResponse readResponseThen nextAfterGpoRead kthRecordOfAcceptedAfl kthRecordFromOne recordAtIndex acceptsAfl aflLengthIsMultipleOf4 entriesOf validEntry sumOverEntries recordsOfEntries runOf readAnswer responseLengthIs2To258 isStatus9000 isBodyToBeRead
+    readBody parseResponseBody primitiveBodyItems gpoItemsUnder80 storeAllItems storeNextItem storeItem rowAllowsValueAndAbsentOrEmpty rowAllowsValueFromCard allowedInTemplate storeWithTvr rowNumberOfTagOrZero loadStartBytes primitiveObjects prependObject primitiveAtFront headerOf tagAt tagSize
+    tagSizeFromSecondByte tagSizeFromThirdByte lengthAt tagFirstByte isTemplate isPrivate appendBigEndianBytes if both either every dictionaryRows rowFoundShifted findRow startMaySetObjectInRow setStartObject setStartObjects lengthAndDigitsFitRow digitsMatchForm isNumeric nibbles isListedIfTerminalType listedTerminalType
+    rowOffset rowPlaceBytes valueInPlace rowValue putRow objectValueIn allRequiredAtStartPresent isPresentIfRequiredAtStart
 worked =
     record {
       begun-sent = ap commandsSent (play-in freshSession fresh-keeps begun);
@@ -152,7 +152,7 @@ worked =
 
 -- GPO, 00 B2 01 0C 00, cryptogram
 pub order : publishedOrder cryptogram (some afl) ≡ gpo ∷ record-command recordCommand ∷ cryptogram ∷ []
-unfolding publishedOrder entriesOf entriesRecords runOf
+unfolding publishedOrder entriesOf recordsOfEntries runOf
 order = refl
 
 -- ---- cardholder verification
@@ -178,27 +178,27 @@ failing aip = start startBytes lent ∷ answer aip lent ∷ answer ruleRecord le
 verified : map callResult (playCalls freshSession (failing verifyingAnswer))
     ≡ CallResult.Command (record { size = 8 }) ∷ CallResult.Command (record { size = 5 }) ∷ CallResult.Command (record { size = 14 })
     ∷ CallResult.Outcome (outcomeParameters (endingOf Outcome.Ended 9) 2) ∷ []
-unfolding commandsSent playIn finalIn callsAccepted outcomeOfReason cryptogramDataPresent askGpo getProcessingOptions gpoCommandOf dolDataBy dolData dolEntries recurse recurseBy entriesNext lengthBytes entryWithLength dolEntryAt
-    entryBefore truncated paddingByte padded fittedTo dolEntryBytes carriedIn generateAc gpoNext readThen afterGpo aflRecordAt kthRecord nthRecord acceptsAfl wholeEntries entriesOf validEntry sumOverEntries entriesRecords runOf
-    readAnswer isResponseLength isStatus9000 isRead readBody responseBody primitiveParts gpoParts templateParts parseTree nextOf withLeaf withNode objectCount primitiveItems takeAll takeNext takeItem allowedNow allowedInResponse
-    allowedInTemplate withTvr withFindings rowNumberOf loadStart primitiveObjects objectBefore primitiveOf headerOf tagAt tagSize tagSecondByte tagThirdByte lengthAt tagFirstByte isTemplate isPrivate bigEndianFrom if both
-    either every dictionaryRows rowPast findRow settableByStart setObject setObjects fitsRow digitsFit numeric nibbles digitsThenFs compressed terminalTypeListed listedTerminalType rowOffset rowPlace placeValue rowValue putRow objectValueIn allRequiredPresent
-    isPresentIfRequired recordNext afterRecord afterLastRecord afterRecordsEmv requestedCryptogram askCryptogram hasOnDeviceCvm transactionLimit aboveTransactionLimit aucViolatedIn restrictionsByte tvrOf sameCurrency cvmConditionsIn cvmResultIn tvrWithCvm
-    findingsOf actionCodesOf choiceFor numberedBit firstBytes bcdFrom yearOf dateOf dateLater amountOf amountAbove versionDiffers notYetEffective atAtm issuerCountryOf cashbackRequested aucViolated tvrWithBits stageHoldsBit
-    lowestFrom lowestBit iacCode stageHolds onlineCapabilityAt choiceOf cvmRulesFrom cvmRecognised cvmSupported cvmConditionMet takenBy cvmUnsuccessful byCvmRules cvmProcessing onDeviceCvm bytesEqual
+unfolding commandsSent playIn finalIn callsAccepted outcomeOfNonzeroReason expiryPanAndCdol1NonEmpty requestGpo getProcessingOptions gpoCommandOfFilled dolDataIfParsed dolData dolEntries recurseWithFuelFromLength recurseWithFuel dolEntriesStep lengthBytes dolEntryWithLength dolEntryAt
+    prependDolEntry truncatedToLength paddingByte paddedToLength fittedToLength dolEntryBytes commandIfDataIs1To255Bytes generateAc nextOnGpoResponse readResponseThen nextAfterGpoRead kthRecordOfAcceptedAfl kthRecordFromOne recordAtIndex acceptsAfl aflLengthIsMultipleOf4 entriesOf validEntry sumOverEntries recordsOfEntries runOf
+    readAnswer responseLengthIs2To258 isStatus9000 isBodyToBeRead readBody parseResponseBody primitiveBodyItems gpoItemsUnder80 templateBodyItems parseTree nextInTemplate prependLeaf prependNode objectCount primitiveItems storeAllItems storeNextItem storeItem rowAllowsValueAndAbsentOrEmpty rowAllowsValueFromCard
+    allowedInTemplate storeWithTvr storeWithFindings rowNumberOfTagOrZero loadStartBytes primitiveObjects prependObject primitiveAtFront headerOf tagAt tagSize tagSizeFromSecondByte tagSizeFromThirdByte lengthAt tagFirstByte isTemplate isPrivate appendBigEndianBytes if both
+    either every dictionaryRows rowFoundShifted findRow startMaySetObjectInRow setStartObject setStartObjects lengthAndDigitsFitRow digitsMatchForm isNumeric nibbles isDigitsThenFs isCompressedNumeric isListedIfTerminalType listedTerminalType rowOffset rowPlaceBytes valueInPlace rowValue putRow objectValueIn allRequiredAtStartPresent
+    isPresentIfRequiredAtStart nextOnRecordResponse nextAfterRecordRead nextAfterLastRecord nextAfterRecordsInEmvMode requestedCryptogram requestCryptogram cardAndKernelSupportOnDeviceCvm transactionLimit storedAmountAboveLimit aucViolatedInStore restrictionsTvrByte2 tvrBeforeCvm currenciesPresentAndEqual cvmConditionsIn cvmResultIn tvrWithCvm
+    findingsOf actionCodesOf choiceForTvr hasBitCountedFromZeroAtByte1B8 firstBytesZeroPadded appendDecimalDigits fourDigitYear dateAsNumber firstDateIsLater amountOf firstAmountIsAbove cardVersionPresentAndDiffers notYetEffective isAtmTypeWithCashCapability issuerCountryMatch cashbackRequested aucViolated tvrWithBits tvrBitIsInEitherActionCode
+    lowestBitFrom lowestTvrBitInCodes iacOrDefault someTvrBitInCodesOfStage onlineCapabilityByDigit terminalActionAnalysis cvmRulesFromPairs cvmRecognised cvmSupported cvmConditionMet takenBy cvmResultOfUnsuccessful cvmResultByRules cvmProcessing aipAndConfigurationSupportOnDeviceCvm bytesEqual
 verified = ap (map callResult) (play-in freshSession fresh-keeps (failing verifyingAnswer))
 
 verified-sent : commandsSent (playCalls freshSession (asking verifyingAnswer))
     ≡ gpoCommand ∷ recordCommand
     ∷ (0x80 ∷ 0xAE ∷ 0x80 ∷ 0x00 ∷ 0x08 ∷ 0x80 ∷ 0x00 ∷ 0x04 ∷ 0x00 ∷ 0x00 ∷ 0x42 ∷ 0x03 ∷ 0x00 ∷ 0x00 ∷ []) ∷ []
-unfolding commandsSent playIn finalIn callsAccepted outcomeOfReason cryptogramDataPresent askGpo getProcessingOptions gpoCommandOf dolDataBy dolData dolEntries recurse recurseBy entriesNext lengthBytes entryWithLength dolEntryAt
-    entryBefore truncated paddingByte padded fittedTo dolEntryBytes carriedIn generateAc gpoNext readThen afterGpo aflRecordAt kthRecord nthRecord acceptsAfl wholeEntries entriesOf validEntry sumOverEntries entriesRecords runOf
-    readAnswer isResponseLength isStatus9000 isRead readBody responseBody primitiveParts gpoParts templateParts parseTree nextOf withLeaf withNode objectCount primitiveItems takeAll takeNext takeItem allowedNow allowedInResponse
-    allowedInTemplate withTvr withFindings rowNumberOf loadStart primitiveObjects objectBefore primitiveOf headerOf tagAt tagSize tagSecondByte tagThirdByte lengthAt tagFirstByte isTemplate isPrivate bigEndianFrom if both
-    either every dictionaryRows rowPast findRow settableByStart setObject setObjects fitsRow digitsFit numeric nibbles digitsThenFs compressed terminalTypeListed listedTerminalType rowOffset rowPlace placeValue rowValue putRow objectValueIn allRequiredPresent
-    isPresentIfRequired recordNext afterRecord afterLastRecord afterRecordsEmv requestedCryptogram askCryptogram hasOnDeviceCvm transactionLimit aboveTransactionLimit aucViolatedIn restrictionsByte tvrOf sameCurrency cvmConditionsIn cvmResultIn tvrWithCvm
-    findingsOf actionCodesOf choiceFor numberedBit firstBytes bcdFrom yearOf dateOf dateLater amountOf amountAbove versionDiffers notYetEffective atAtm issuerCountryOf cashbackRequested aucViolated tvrWithBits stageHoldsBit
-    lowestFrom lowestBit iacCode stageHolds onlineCapabilityAt choiceOf cvmRulesFrom cvmRecognised cvmSupported cvmConditionMet takenBy cvmUnsuccessful byCvmRules cvmProcessing onDeviceCvm bytesEqual
+unfolding commandsSent playIn finalIn callsAccepted outcomeOfNonzeroReason expiryPanAndCdol1NonEmpty requestGpo getProcessingOptions gpoCommandOfFilled dolDataIfParsed dolData dolEntries recurseWithFuelFromLength recurseWithFuel dolEntriesStep lengthBytes dolEntryWithLength dolEntryAt
+    prependDolEntry truncatedToLength paddingByte paddedToLength fittedToLength dolEntryBytes commandIfDataIs1To255Bytes generateAc nextOnGpoResponse readResponseThen nextAfterGpoRead kthRecordOfAcceptedAfl kthRecordFromOne recordAtIndex acceptsAfl aflLengthIsMultipleOf4 entriesOf validEntry sumOverEntries recordsOfEntries runOf
+    readAnswer responseLengthIs2To258 isStatus9000 isBodyToBeRead readBody parseResponseBody primitiveBodyItems gpoItemsUnder80 templateBodyItems parseTree nextInTemplate prependLeaf prependNode objectCount primitiveItems storeAllItems storeNextItem storeItem rowAllowsValueAndAbsentOrEmpty rowAllowsValueFromCard
+    allowedInTemplate storeWithTvr storeWithFindings rowNumberOfTagOrZero loadStartBytes primitiveObjects prependObject primitiveAtFront headerOf tagAt tagSize tagSizeFromSecondByte tagSizeFromThirdByte lengthAt tagFirstByte isTemplate isPrivate appendBigEndianBytes if both
+    either every dictionaryRows rowFoundShifted findRow startMaySetObjectInRow setStartObject setStartObjects lengthAndDigitsFitRow digitsMatchForm isNumeric nibbles isDigitsThenFs isCompressedNumeric isListedIfTerminalType listedTerminalType rowOffset rowPlaceBytes valueInPlace rowValue putRow objectValueIn allRequiredAtStartPresent
+    isPresentIfRequiredAtStart nextOnRecordResponse nextAfterRecordRead nextAfterLastRecord nextAfterRecordsInEmvMode requestedCryptogram requestCryptogram cardAndKernelSupportOnDeviceCvm transactionLimit storedAmountAboveLimit aucViolatedInStore restrictionsTvrByte2 tvrBeforeCvm currenciesPresentAndEqual cvmConditionsIn cvmResultIn tvrWithCvm
+    findingsOf actionCodesOf choiceForTvr hasBitCountedFromZeroAtByte1B8 firstBytesZeroPadded appendDecimalDigits fourDigitYear dateAsNumber firstDateIsLater amountOf firstAmountIsAbove cardVersionPresentAndDiffers notYetEffective isAtmTypeWithCashCapability issuerCountryMatch cashbackRequested aucViolated tvrWithBits tvrBitIsInEitherActionCode
+    lowestBitFrom lowestTvrBitInCodes iacOrDefault someTvrBitInCodesOfStage onlineCapabilityByDigit terminalActionAnalysis cvmRulesFromPairs cvmRecognised cvmSupported cvmConditionMet takenBy cvmResultOfUnsuccessful cvmResultByRules cvmProcessing aipAndConfigurationSupportOnDeviceCvm bytesEqual
 verified-sent = ap commandsSent (play-in freshSession fresh-keeps (asking verifyingAnswer))
 
 -- ---- on-device CVM
@@ -211,39 +211,39 @@ onDeviceAnswer = 0x80 ∷ 0x06 ∷ 0x12 ∷ 0x80 ∷ 0x08 ∷ 0x01 ∷ 0x01 ∷ 
 onDevice : map callResult (playCalls freshSession (failing onDeviceAnswer))
     ≡ CallResult.Command (record { size = 8 }) ∷ CallResult.Command (record { size = 5 }) ∷ CallResult.Command (record { size = 14 })
     ∷ CallResult.Outcome (outcomeParameters (endingOf Outcome.Ended 9) 3) ∷ []
-unfolding commandsSent playIn finalIn callsAccepted outcomeOfReason cryptogramDataPresent askGpo getProcessingOptions gpoCommandOf dolDataBy dolData dolEntries recurse recurseBy entriesNext lengthBytes entryWithLength dolEntryAt
-    entryBefore truncated paddingByte padded fittedTo dolEntryBytes carriedIn generateAc gpoNext readThen afterGpo aflRecordAt kthRecord nthRecord acceptsAfl wholeEntries entriesOf validEntry sumOverEntries entriesRecords runOf
-    readAnswer isResponseLength isStatus9000 isRead readBody responseBody primitiveParts gpoParts templateParts parseTree nextOf withLeaf withNode objectCount primitiveItems takeAll takeNext takeItem allowedNow allowedInResponse
-    allowedInTemplate withTvr withFindings rowNumberOf loadStart primitiveObjects objectBefore primitiveOf headerOf tagAt tagSize tagSecondByte tagThirdByte lengthAt tagFirstByte isTemplate isPrivate bigEndianFrom if both
-    either every dictionaryRows rowPast findRow settableByStart setObject setObjects fitsRow digitsFit numeric nibbles digitsThenFs compressed terminalTypeListed listedTerminalType rowOffset rowPlace placeValue rowValue putRow objectValueIn allRequiredPresent
-    isPresentIfRequired recordNext afterRecord afterLastRecord afterRecordsEmv requestedCryptogram askCryptogram hasOnDeviceCvm transactionLimit aboveTransactionLimit aucViolatedIn restrictionsByte tvrOf sameCurrency cvmConditionsIn cvmResultIn tvrWithCvm
-    findingsOf actionCodesOf choiceFor numberedBit firstBytes bcdFrom yearOf dateOf dateLater amountOf amountAbove versionDiffers notYetEffective atAtm issuerCountryOf cashbackRequested aucViolated tvrWithBits stageHoldsBit
-    lowestFrom lowestBit iacCode stageHolds onlineCapabilityAt choiceOf cvmRulesFrom cvmRecognised cvmSupported cvmConditionMet takenBy cvmUnsuccessful byCvmRules cvmProcessing onDeviceCvm onDeviceResult bytesEqual
+unfolding commandsSent playIn finalIn callsAccepted outcomeOfNonzeroReason expiryPanAndCdol1NonEmpty requestGpo getProcessingOptions gpoCommandOfFilled dolDataIfParsed dolData dolEntries recurseWithFuelFromLength recurseWithFuel dolEntriesStep lengthBytes dolEntryWithLength dolEntryAt
+    prependDolEntry truncatedToLength paddingByte paddedToLength fittedToLength dolEntryBytes commandIfDataIs1To255Bytes generateAc nextOnGpoResponse readResponseThen nextAfterGpoRead kthRecordOfAcceptedAfl kthRecordFromOne recordAtIndex acceptsAfl aflLengthIsMultipleOf4 entriesOf validEntry sumOverEntries recordsOfEntries runOf
+    readAnswer responseLengthIs2To258 isStatus9000 isBodyToBeRead readBody parseResponseBody primitiveBodyItems gpoItemsUnder80 templateBodyItems parseTree nextInTemplate prependLeaf prependNode objectCount primitiveItems storeAllItems storeNextItem storeItem rowAllowsValueAndAbsentOrEmpty rowAllowsValueFromCard
+    allowedInTemplate storeWithTvr storeWithFindings rowNumberOfTagOrZero loadStartBytes primitiveObjects prependObject primitiveAtFront headerOf tagAt tagSize tagSizeFromSecondByte tagSizeFromThirdByte lengthAt tagFirstByte isTemplate isPrivate appendBigEndianBytes if both
+    either every dictionaryRows rowFoundShifted findRow startMaySetObjectInRow setStartObject setStartObjects lengthAndDigitsFitRow digitsMatchForm isNumeric nibbles isDigitsThenFs isCompressedNumeric isListedIfTerminalType listedTerminalType rowOffset rowPlaceBytes valueInPlace rowValue putRow objectValueIn allRequiredAtStartPresent
+    isPresentIfRequiredAtStart nextOnRecordResponse nextAfterRecordRead nextAfterLastRecord nextAfterRecordsInEmvMode requestedCryptogram requestCryptogram cardAndKernelSupportOnDeviceCvm transactionLimit storedAmountAboveLimit aucViolatedInStore restrictionsTvrByte2 tvrBeforeCvm currenciesPresentAndEqual cvmConditionsIn cvmResultIn tvrWithCvm
+    findingsOf actionCodesOf choiceForTvr hasBitCountedFromZeroAtByte1B8 firstBytesZeroPadded appendDecimalDigits fourDigitYear dateAsNumber firstDateIsLater amountOf firstAmountIsAbove cardVersionPresentAndDiffers notYetEffective isAtmTypeWithCashCapability issuerCountryMatch cashbackRequested aucViolated tvrWithBits tvrBitIsInEitherActionCode
+    lowestBitFrom lowestTvrBitInCodes iacOrDefault someTvrBitInCodesOfStage onlineCapabilityByDigit terminalActionAnalysis cvmRulesFromPairs cvmRecognised cvmSupported cvmConditionMet takenBy cvmResultOfUnsuccessful cvmResultByRules cvmProcessing aipAndConfigurationSupportOnDeviceCvm onDeviceCvmResultByAboveLimit bytesEqual
 onDevice = ap (map callResult) (play-in freshSession fresh-keeps (failing onDeviceAnswer))
 
 on-device-held : finalSession freshSession (asking onDeviceAnswer) .phase
     ≡ Phase.Waiting (AwaitedResponse.Cryptogram (record { choice = Choice.Online; cvm = Cvm.ConfirmationCode; limit = 50000 }))
-unfolding commandsSent playIn finalIn callsAccepted outcomeOfReason cryptogramDataPresent askGpo getProcessingOptions gpoCommandOf dolDataBy dolData dolEntries recurse recurseBy entriesNext lengthBytes entryWithLength dolEntryAt
-    entryBefore truncated paddingByte padded fittedTo dolEntryBytes carriedIn generateAc gpoNext readThen afterGpo aflRecordAt kthRecord nthRecord acceptsAfl wholeEntries entriesOf validEntry sumOverEntries entriesRecords runOf
-    readAnswer isResponseLength isStatus9000 isRead readBody responseBody primitiveParts gpoParts templateParts parseTree nextOf withLeaf withNode objectCount primitiveItems takeAll takeNext takeItem allowedNow allowedInResponse
-    allowedInTemplate withTvr withFindings rowNumberOf loadStart primitiveObjects objectBefore primitiveOf headerOf tagAt tagSize tagSecondByte tagThirdByte lengthAt tagFirstByte isTemplate isPrivate bigEndianFrom if both
-    either every dictionaryRows rowPast findRow settableByStart setObject setObjects fitsRow digitsFit numeric nibbles digitsThenFs compressed terminalTypeListed listedTerminalType rowOffset rowPlace placeValue rowValue putRow objectValueIn allRequiredPresent
-    isPresentIfRequired recordNext afterRecord afterLastRecord afterRecordsEmv requestedCryptogram askCryptogram hasOnDeviceCvm transactionLimit aboveTransactionLimit aucViolatedIn restrictionsByte tvrOf sameCurrency cvmConditionsIn cvmResultIn tvrWithCvm
-    findingsOf actionCodesOf choiceFor numberedBit firstBytes bcdFrom yearOf dateOf dateLater amountOf amountAbove versionDiffers notYetEffective atAtm issuerCountryOf cashbackRequested aucViolated tvrWithBits stageHoldsBit
-    lowestFrom lowestBit iacCode stageHolds onlineCapabilityAt choiceOf cvmRulesFrom cvmRecognised cvmSupported cvmConditionMet takenBy cvmUnsuccessful byCvmRules cvmProcessing onDeviceCvm onDeviceResult bytesEqual
+unfolding commandsSent playIn finalIn callsAccepted outcomeOfNonzeroReason expiryPanAndCdol1NonEmpty requestGpo getProcessingOptions gpoCommandOfFilled dolDataIfParsed dolData dolEntries recurseWithFuelFromLength recurseWithFuel dolEntriesStep lengthBytes dolEntryWithLength dolEntryAt
+    prependDolEntry truncatedToLength paddingByte paddedToLength fittedToLength dolEntryBytes commandIfDataIs1To255Bytes generateAc nextOnGpoResponse readResponseThen nextAfterGpoRead kthRecordOfAcceptedAfl kthRecordFromOne recordAtIndex acceptsAfl aflLengthIsMultipleOf4 entriesOf validEntry sumOverEntries recordsOfEntries runOf
+    readAnswer responseLengthIs2To258 isStatus9000 isBodyToBeRead readBody parseResponseBody primitiveBodyItems gpoItemsUnder80 templateBodyItems parseTree nextInTemplate prependLeaf prependNode objectCount primitiveItems storeAllItems storeNextItem storeItem rowAllowsValueAndAbsentOrEmpty rowAllowsValueFromCard
+    allowedInTemplate storeWithTvr storeWithFindings rowNumberOfTagOrZero loadStartBytes primitiveObjects prependObject primitiveAtFront headerOf tagAt tagSize tagSizeFromSecondByte tagSizeFromThirdByte lengthAt tagFirstByte isTemplate isPrivate appendBigEndianBytes if both
+    either every dictionaryRows rowFoundShifted findRow startMaySetObjectInRow setStartObject setStartObjects lengthAndDigitsFitRow digitsMatchForm isNumeric nibbles isDigitsThenFs isCompressedNumeric isListedIfTerminalType listedTerminalType rowOffset rowPlaceBytes valueInPlace rowValue putRow objectValueIn allRequiredAtStartPresent
+    isPresentIfRequiredAtStart nextOnRecordResponse nextAfterRecordRead nextAfterLastRecord nextAfterRecordsInEmvMode requestedCryptogram requestCryptogram cardAndKernelSupportOnDeviceCvm transactionLimit storedAmountAboveLimit aucViolatedInStore restrictionsTvrByte2 tvrBeforeCvm currenciesPresentAndEqual cvmConditionsIn cvmResultIn tvrWithCvm
+    findingsOf actionCodesOf choiceForTvr hasBitCountedFromZeroAtByte1B8 firstBytesZeroPadded appendDecimalDigits fourDigitYear dateAsNumber firstDateIsLater amountOf firstAmountIsAbove cardVersionPresentAndDiffers notYetEffective isAtmTypeWithCashCapability issuerCountryMatch cashbackRequested aucViolated tvrWithBits tvrBitIsInEitherActionCode
+    lowestBitFrom lowestTvrBitInCodes iacOrDefault someTvrBitInCodesOfStage onlineCapabilityByDigit terminalActionAnalysis cvmRulesFromPairs cvmRecognised cvmSupported cvmConditionMet takenBy cvmResultOfUnsuccessful cvmResultByRules cvmProcessing aipAndConfigurationSupportOnDeviceCvm onDeviceCvmResultByAboveLimit bytesEqual
 on-device-held = ap (λ (s : Session). s .phase) (final-in freshSession fresh-keeps (asking onDeviceAnswer))
 
 on-device-sent : commandsSent (playCalls freshSession (asking onDeviceAnswer))
     ≡ gpoCommand ∷ recordCommand
     ∷ (0x80 ∷ 0xAE ∷ 0x80 ∷ 0x00 ∷ 0x08 ∷ 0x80 ∷ 0x00 ∷ 0x00 ∷ 0x00 ∷ 0x00 ∷ 0x01 ∷ 0x00 ∷ 0x02 ∷ 0x00 ∷ []) ∷ []
-unfolding commandsSent playIn finalIn callsAccepted outcomeOfReason cryptogramDataPresent askGpo getProcessingOptions gpoCommandOf dolDataBy dolData dolEntries recurse recurseBy entriesNext lengthBytes entryWithLength dolEntryAt
-    entryBefore truncated paddingByte padded fittedTo dolEntryBytes carriedIn generateAc gpoNext readThen afterGpo aflRecordAt kthRecord nthRecord acceptsAfl wholeEntries entriesOf validEntry sumOverEntries entriesRecords runOf
-    readAnswer isResponseLength isStatus9000 isRead readBody responseBody primitiveParts gpoParts templateParts parseTree nextOf withLeaf withNode objectCount primitiveItems takeAll takeNext takeItem allowedNow allowedInResponse
-    allowedInTemplate withTvr withFindings rowNumberOf loadStart primitiveObjects objectBefore primitiveOf headerOf tagAt tagSize tagSecondByte tagThirdByte lengthAt tagFirstByte isTemplate isPrivate bigEndianFrom if both
-    either every dictionaryRows rowPast findRow settableByStart setObject setObjects fitsRow digitsFit numeric nibbles digitsThenFs compressed terminalTypeListed listedTerminalType rowOffset rowPlace placeValue rowValue putRow objectValueIn allRequiredPresent
-    isPresentIfRequired recordNext afterRecord afterLastRecord afterRecordsEmv requestedCryptogram askCryptogram hasOnDeviceCvm transactionLimit aboveTransactionLimit aucViolatedIn restrictionsByte tvrOf sameCurrency cvmConditionsIn cvmResultIn tvrWithCvm
-    findingsOf actionCodesOf choiceFor numberedBit firstBytes bcdFrom yearOf dateOf dateLater amountOf amountAbove versionDiffers notYetEffective atAtm issuerCountryOf cashbackRequested aucViolated tvrWithBits stageHoldsBit
-    lowestFrom lowestBit iacCode stageHolds onlineCapabilityAt choiceOf cvmRulesFrom cvmRecognised cvmSupported cvmConditionMet takenBy cvmUnsuccessful byCvmRules cvmProcessing onDeviceCvm onDeviceResult bytesEqual
+unfolding commandsSent playIn finalIn callsAccepted outcomeOfNonzeroReason expiryPanAndCdol1NonEmpty requestGpo getProcessingOptions gpoCommandOfFilled dolDataIfParsed dolData dolEntries recurseWithFuelFromLength recurseWithFuel dolEntriesStep lengthBytes dolEntryWithLength dolEntryAt
+    prependDolEntry truncatedToLength paddingByte paddedToLength fittedToLength dolEntryBytes commandIfDataIs1To255Bytes generateAc nextOnGpoResponse readResponseThen nextAfterGpoRead kthRecordOfAcceptedAfl kthRecordFromOne recordAtIndex acceptsAfl aflLengthIsMultipleOf4 entriesOf validEntry sumOverEntries recordsOfEntries runOf
+    readAnswer responseLengthIs2To258 isStatus9000 isBodyToBeRead readBody parseResponseBody primitiveBodyItems gpoItemsUnder80 templateBodyItems parseTree nextInTemplate prependLeaf prependNode objectCount primitiveItems storeAllItems storeNextItem storeItem rowAllowsValueAndAbsentOrEmpty rowAllowsValueFromCard
+    allowedInTemplate storeWithTvr storeWithFindings rowNumberOfTagOrZero loadStartBytes primitiveObjects prependObject primitiveAtFront headerOf tagAt tagSize tagSizeFromSecondByte tagSizeFromThirdByte lengthAt tagFirstByte isTemplate isPrivate appendBigEndianBytes if both
+    either every dictionaryRows rowFoundShifted findRow startMaySetObjectInRow setStartObject setStartObjects lengthAndDigitsFitRow digitsMatchForm isNumeric nibbles isDigitsThenFs isCompressedNumeric isListedIfTerminalType listedTerminalType rowOffset rowPlaceBytes valueInPlace rowValue putRow objectValueIn allRequiredAtStartPresent
+    isPresentIfRequiredAtStart nextOnRecordResponse nextAfterRecordRead nextAfterLastRecord nextAfterRecordsInEmvMode requestedCryptogram requestCryptogram cardAndKernelSupportOnDeviceCvm transactionLimit storedAmountAboveLimit aucViolatedInStore restrictionsTvrByte2 tvrBeforeCvm currenciesPresentAndEqual cvmConditionsIn cvmResultIn tvrWithCvm
+    findingsOf actionCodesOf choiceForTvr hasBitCountedFromZeroAtByte1B8 firstBytesZeroPadded appendDecimalDigits fourDigitYear dateAsNumber firstDateIsLater amountOf firstAmountIsAbove cardVersionPresentAndDiffers notYetEffective isAtmTypeWithCashCapability issuerCountryMatch cashbackRequested aucViolated tvrWithBits tvrBitIsInEitherActionCode
+    lowestBitFrom lowestTvrBitInCodes iacOrDefault someTvrBitInCodesOfStage onlineCapabilityByDigit terminalActionAnalysis cvmRulesFromPairs cvmRecognised cvmSupported cvmConditionMet takenBy cvmResultOfUnsuccessful cvmResultByRules cvmProcessing aipAndConfigurationSupportOnDeviceCvm onDeviceCvmResultByAboveLimit bytesEqual
 on-device-sent = ap commandsSent (play-in freshSession fresh-keeps (asking onDeviceAnswer))
 
 -- ---- mag-stripe mode
@@ -267,35 +267,35 @@ striped = start startBytes lent ∷ answer magStripeAnswer lent ∷ answer track
 striped-said : map callResult (playCalls freshSession striped)
     ≡ CallResult.Command (record { size = 8 }) ∷ CallResult.Command (record { size = 5 }) ∷ CallResult.Command (record { size = 10 })
     ∷ CallResult.Outcome (outcomeParameters (endingOf Outcome.OnlineRequest 0) 15) ∷ []
-unfolding commandsSent playIn finalIn callsAccepted outcomeOfReason cryptogramDataPresent askGpo getProcessingOptions gpoCommandOf dolDataBy dolData dolEntries recurse recurseBy entriesNext lengthBytes entryWithLength dolEntryAt
-    entryBefore truncated paddingByte padded fittedTo dolEntryBytes carriedIn generateAc gpoNext readThen afterGpo aflRecordAt kthRecord nthRecord acceptsAfl wholeEntries entriesOf validEntry sumOverEntries entriesRecords runOf
-    readAnswer isResponseLength isStatus9000 isRead readBody responseBody primitiveParts gpoParts templateParts parseTree nextOf withLeaf withNode objectCount primitiveItems takeAll takeNext takeItem allowedNow allowedInResponse
-    allowedInTemplate withTvr withFindings rowNumberOf loadStart primitiveObjects objectBefore primitiveOf headerOf tagAt tagSize tagSecondByte tagThirdByte lengthAt tagFirstByte isTemplate isPrivate bigEndianFrom if both
-    either every dictionaryRows rowPast findRow settableByStart setObject setObjects fitsRow digitsFit numeric nibbles digitsThenFs compressed terminalTypeListed listedTerminalType rowOffset rowPlace placeValue rowValue putRow objectValueIn allRequiredPresent
-    isPresentIfRequired recordNext afterRecord afterLastRecord afterRecordsEmv requestedCryptogram askCryptogram hasOnDeviceCvm transactionLimit aboveTransactionLimit aucViolatedIn restrictionsByte tvrOf sameCurrency cvmConditionsIn cvmResultIn tvrWithCvm
-    findingsOf actionCodesOf choiceFor numberedBit firstBytes bcdFrom yearOf dateOf dateLater amountOf amountAbove versionDiffers notYetEffective atAtm issuerCountryOf cashbackRequested aucViolated tvrWithBits stageHoldsBit
-    lowestFrom lowestBit iacCode stageHolds onlineCapabilityAt choiceOf cvmRulesFrom cvmRecognised cvmSupported cvmConditionMet takenBy cvmUnsuccessful byCvmRules cvmProcessing onDeviceCvm bytesEqual trackDataPresent
-    udolOrDefault computeCryptographicChecksum askChecksum afterRecordsMagStripe afterChecksum checksumTaken checksumNext nibblesBefore discretionaryIn bitmapPlacesFrom bitmapPlaces bitmapWithin canTakeDigits
+unfolding commandsSent playIn finalIn callsAccepted outcomeOfNonzeroReason expiryPanAndCdol1NonEmpty requestGpo getProcessingOptions gpoCommandOfFilled dolDataIfParsed dolData dolEntries recurseWithFuelFromLength recurseWithFuel dolEntriesStep lengthBytes dolEntryWithLength dolEntryAt
+    prependDolEntry truncatedToLength paddingByte paddedToLength fittedToLength dolEntryBytes commandIfDataIs1To255Bytes generateAc nextOnGpoResponse readResponseThen nextAfterGpoRead kthRecordOfAcceptedAfl kthRecordFromOne recordAtIndex acceptsAfl aflLengthIsMultipleOf4 entriesOf validEntry sumOverEntries recordsOfEntries runOf
+    readAnswer responseLengthIs2To258 isStatus9000 isBodyToBeRead readBody parseResponseBody primitiveBodyItems gpoItemsUnder80 templateBodyItems parseTree nextInTemplate prependLeaf prependNode objectCount primitiveItems storeAllItems storeNextItem storeItem rowAllowsValueAndAbsentOrEmpty rowAllowsValueFromCard
+    allowedInTemplate storeWithTvr storeWithFindings rowNumberOfTagOrZero loadStartBytes primitiveObjects prependObject primitiveAtFront headerOf tagAt tagSize tagSizeFromSecondByte tagSizeFromThirdByte lengthAt tagFirstByte isTemplate isPrivate appendBigEndianBytes if both
+    either every dictionaryRows rowFoundShifted findRow startMaySetObjectInRow setStartObject setStartObjects lengthAndDigitsFitRow digitsMatchForm isNumeric nibbles isDigitsThenFs isCompressedNumeric isListedIfTerminalType listedTerminalType rowOffset rowPlaceBytes valueInPlace rowValue putRow objectValueIn allRequiredAtStartPresent
+    isPresentIfRequiredAtStart nextOnRecordResponse nextAfterRecordRead nextAfterLastRecord nextAfterRecordsInEmvMode requestedCryptogram requestCryptogram cardAndKernelSupportOnDeviceCvm transactionLimit storedAmountAboveLimit aucViolatedInStore restrictionsTvrByte2 tvrBeforeCvm currenciesPresentAndEqual cvmConditionsIn cvmResultIn tvrWithCvm
+    findingsOf actionCodesOf choiceForTvr hasBitCountedFromZeroAtByte1B8 firstBytesZeroPadded appendDecimalDigits fourDigitYear dateAsNumber firstDateIsLater amountOf firstAmountIsAbove cardVersionPresentAndDiffers notYetEffective isAtmTypeWithCashCapability issuerCountryMatch cashbackRequested aucViolated tvrWithBits tvrBitIsInEitherActionCode
+    lowestBitFrom lowestTvrBitInCodes iacOrDefault someTvrBitInCodesOfStage onlineCapabilityByDigit terminalActionAnalysis cvmRulesFromPairs cvmRecognised cvmSupported cvmConditionMet takenBy cvmResultOfUnsuccessful cvmResultByRules cvmProcessing aipAndConfigurationSupportOnDeviceCvm bytesEqual track2AndBitmapsNonEmpty
+    udolOrDefault computeCryptographicChecksum requestChecksum nextAfterRecordsInMagStripeMode nextAfterChecksumRead nextIfTrackTakesDigits nextOnChecksumResponse nibblesBefore discretionaryDataInNibbles bitmapPlacesCountedFrom bitmapPlacesFromOne bitmapWithin trackCanTakeDigits
 striped-said = ap (map callResult) (play-in freshSession fresh-keeps striped)
 
 -- the list is the default one: 9F6A in four bytes
 striped-sent : commandsSent (playCalls freshSession begunMagStripe)
     ≡ gpoCommand ∷ recordCommand ∷ (0x80 ∷ 0x2A ∷ 0x8E ∷ 0x80 ∷ 0x04 ∷ 0x00 ∷ 0x00 ∷ 0x34 ∷ 0x56 ∷ 0x00 ∷ []) ∷ []
-unfolding commandsSent playIn finalIn callsAccepted outcomeOfReason cryptogramDataPresent askGpo getProcessingOptions gpoCommandOf dolDataBy dolData dolEntries recurse recurseBy entriesNext lengthBytes entryWithLength dolEntryAt
-    entryBefore truncated paddingByte padded fittedTo dolEntryBytes carriedIn generateAc gpoNext readThen afterGpo aflRecordAt kthRecord nthRecord acceptsAfl wholeEntries entriesOf validEntry sumOverEntries entriesRecords runOf
-    readAnswer isResponseLength isStatus9000 isRead readBody responseBody primitiveParts gpoParts templateParts parseTree nextOf withLeaf withNode objectCount primitiveItems takeAll takeNext takeItem allowedNow allowedInResponse
-    allowedInTemplate withTvr withFindings rowNumberOf loadStart primitiveObjects objectBefore primitiveOf headerOf tagAt tagSize tagSecondByte tagThirdByte lengthAt tagFirstByte isTemplate isPrivate bigEndianFrom if both
-    either every dictionaryRows rowPast findRow settableByStart setObject setObjects fitsRow digitsFit numeric nibbles digitsThenFs compressed terminalTypeListed listedTerminalType rowOffset rowPlace placeValue rowValue putRow objectValueIn allRequiredPresent
-    isPresentIfRequired recordNext afterRecord afterLastRecord afterRecordsEmv requestedCryptogram askCryptogram hasOnDeviceCvm transactionLimit aboveTransactionLimit aucViolatedIn restrictionsByte tvrOf sameCurrency cvmConditionsIn cvmResultIn tvrWithCvm
-    findingsOf actionCodesOf choiceFor numberedBit firstBytes bcdFrom yearOf dateOf dateLater amountOf amountAbove versionDiffers notYetEffective atAtm issuerCountryOf cashbackRequested aucViolated tvrWithBits stageHoldsBit
-    lowestFrom lowestBit iacCode stageHolds onlineCapabilityAt choiceOf cvmRulesFrom cvmRecognised cvmSupported cvmConditionMet takenBy cvmUnsuccessful byCvmRules cvmProcessing onDeviceCvm bytesEqual trackDataPresent
-    udolOrDefault computeCryptographicChecksum askChecksum afterRecordsMagStripe
+unfolding commandsSent playIn finalIn callsAccepted outcomeOfNonzeroReason expiryPanAndCdol1NonEmpty requestGpo getProcessingOptions gpoCommandOfFilled dolDataIfParsed dolData dolEntries recurseWithFuelFromLength recurseWithFuel dolEntriesStep lengthBytes dolEntryWithLength dolEntryAt
+    prependDolEntry truncatedToLength paddingByte paddedToLength fittedToLength dolEntryBytes commandIfDataIs1To255Bytes generateAc nextOnGpoResponse readResponseThen nextAfterGpoRead kthRecordOfAcceptedAfl kthRecordFromOne recordAtIndex acceptsAfl aflLengthIsMultipleOf4 entriesOf validEntry sumOverEntries recordsOfEntries runOf
+    readAnswer responseLengthIs2To258 isStatus9000 isBodyToBeRead readBody parseResponseBody primitiveBodyItems gpoItemsUnder80 templateBodyItems parseTree nextInTemplate prependLeaf prependNode objectCount primitiveItems storeAllItems storeNextItem storeItem rowAllowsValueAndAbsentOrEmpty rowAllowsValueFromCard
+    allowedInTemplate storeWithTvr storeWithFindings rowNumberOfTagOrZero loadStartBytes primitiveObjects prependObject primitiveAtFront headerOf tagAt tagSize tagSizeFromSecondByte tagSizeFromThirdByte lengthAt tagFirstByte isTemplate isPrivate appendBigEndianBytes if both
+    either every dictionaryRows rowFoundShifted findRow startMaySetObjectInRow setStartObject setStartObjects lengthAndDigitsFitRow digitsMatchForm isNumeric nibbles isDigitsThenFs isCompressedNumeric isListedIfTerminalType listedTerminalType rowOffset rowPlaceBytes valueInPlace rowValue putRow objectValueIn allRequiredAtStartPresent
+    isPresentIfRequiredAtStart nextOnRecordResponse nextAfterRecordRead nextAfterLastRecord nextAfterRecordsInEmvMode requestedCryptogram requestCryptogram cardAndKernelSupportOnDeviceCvm transactionLimit storedAmountAboveLimit aucViolatedInStore restrictionsTvrByte2 tvrBeforeCvm currenciesPresentAndEqual cvmConditionsIn cvmResultIn tvrWithCvm
+    findingsOf actionCodesOf choiceForTvr hasBitCountedFromZeroAtByte1B8 firstBytesZeroPadded appendDecimalDigits fourDigitYear dateAsNumber firstDateIsLater amountOf firstAmountIsAbove cardVersionPresentAndDiffers notYetEffective isAtmTypeWithCashCapability issuerCountryMatch cashbackRequested aucViolated tvrWithBits tvrBitIsInEitherActionCode
+    lowestBitFrom lowestTvrBitInCodes iacOrDefault someTvrBitInCodesOfStage onlineCapabilityByDigit terminalActionAnalysis cvmRulesFromPairs cvmRecognised cvmSupported cvmConditionMet takenBy cvmResultOfUnsuccessful cvmResultByRules cvmProcessing aipAndConfigurationSupportOnDeviceCvm bytesEqual track2AndBitmapsNonEmpty
+    udolOrDefault computeCryptographicChecksum requestChecksum nextAfterRecordsInMagStripeMode
 striped-sent = ap commandsSent (play-in freshSession fresh-keeps begunMagStripe)
 
 -- the published order's last command by the bytes of the first answer, under 80 and in a 77
-last-commands : map (λ a. lastKindFor (responseAip a))
+last-commands : map (λ a. finalCommandKindForAip (aipInGpoResponse a))
     (gpoAnswer ∷ magStripeAnswer
     ∷ (0x77 ∷ 0x0A ∷ 0x82 ∷ 0x02 ∷ 0x00 ∷ 0x7F ∷ 0x94 ∷ 0x04 ∷ 0x08 ∷ 0x01 ∷ 0x01 ∷ 0x00 ∷ 0x90 ∷ 0x00 ∷ []) ∷ [])
     ≡ cryptogram ∷ checksum ∷ checksum ∷ []
-unfolding lastKindFor responseAip firstIn77 responseBody headerOf tagAt tagSize lengthAt tagFirstByte isTemplate bigEndianFrom primitiveItems parseTree nextOf withLeaf withNode recurse recurseBy if both
+unfolding finalCommandKindForAip aipInGpoResponse firstNonEmptyValueDirectlyInside77 parseResponseBody headerOf tagAt tagSize lengthAt tagFirstByte isTemplate appendBigEndianBytes primitiveItems parseTree nextInTemplate prependLeaf prependNode recurseWithFuelFromLength recurseWithFuel if both
 last-commands = refl

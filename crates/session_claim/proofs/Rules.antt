@@ -13,7 +13,7 @@ use lib.Dec.{eqb}
 use Rattle.basics.specs.Choice.{if}
 use Rattle.basics.proofs.Laws.{no, if-ind, if-yes, if-no, bool-cases}
 use Rattle.afl.specs.declared.RecordFound.{RecordFound}
-use Rattle.afl.specs.Records.{aflRecordAt}
+use Rattle.afl.specs.Records.{kthRecordOfAcceptedAfl}
 use Rattle.reading.specs.declared.Awaited.{Awaited}
 use Rattle.reading.specs.Answer as reading
 use Rattle.session_record.specs.declared.AwaitedResponse.{AwaitedResponse}
@@ -22,10 +22,10 @@ use Rattle.session_record.specs.declared.Session.{Session}
 use Rattle.session_record.specs.Session.{storeBytes}
 use Rattle.session_record.specs.Ranges.{storedAfl}
 use Rattle.analysis.specs.Action.{transactionLimit}
-use Rattle.session.specs.Steps.{Next, fail, reasonOf, readThen, Step, stepOn, stepOf, admittedStep, whileRunning, abortStep}
+use Rattle.session.specs.Steps.{NextAction, endForReason, reasonOfNext, readResponseThen, Step, stepOfNext, stepOfEffect, stepIfAdmitted, effectIfRunning, abortStep}
 use Rattle.session.specs.Start.{startStep}
-use Rattle.session.specs.Answer.{askFound, afterGpo, gpoNext, gpoReason, responseNext, answerStep}
-use Rattle.basics.specs.Reason.{reasonAfl, reasonLink, reasonStopped}
+use Rattle.session.specs.Answer.{requestKthRecordIfFound, nextAfterGpoRead, nextOnGpoResponse, gpoReason, nextOnResponse, answerStep}
+use Rattle.basics.specs.Reason.{reasonAflInvalid, reasonLink, reasonStopped}
 use Rattle.step_laws.proofs.Ways as ways
 use Rattle.step_laws.proofs.Ways.{GpoWay, AnswerWay, answer-way, StartWay, start-way, BrokenWay, broken-way}
 use Rattle.session_claim.specs.Calls.{isAnswer, callsAccepted}
@@ -40,50 +40,50 @@ abbrev hands : Step → Bool
 hands st = isCommand (st .reply .answer)
 
 -- a command, or a reason other than none
-abbrev Ruled : ℕ → List ℕ → Next → Type 0
-Ruled n buf x = hands (stepOn n buf x) ≡ eqb (reasonOf x) 0
+abbrev Ruled : ℕ → List ℕ → NextAction → Type 0
+Ruled n buf x = hands (stepOfNext n buf x) ≡ eqb (reasonOfNext x) 0
 
-found-ruled : (n : ℕ) (b buf : List ℕ) (f : RecordFound) → Ruled n buf (askFound (transactionLimit b) 1 b (fail reasonAfl b) f)
+found-ruled : (n : ℕ) (b buf : List ℕ) (f : RecordFound) → Ruled n buf (requestKthRecordIfFound (transactionLimit b) 1 b (endForReason reasonAflInvalid b) f)
 found-ruled n b buf RecordFound.Nothing = refl
 found-ruled n b buf (RecordFound.At r) = refl
 
-read-ruled : (n : ℕ) (b buf : List ℕ) → Ruled n buf (afterGpo b)
-unfolding afterGpo
+read-ruled : (n : ℕ) (b buf : List ℕ) → Ruled n buf (nextAfterGpoRead b)
+unfolding nextAfterGpoRead
 read-ruled n b buf =
     if-ind (Ruled n buf) _ _ _ (λ e. refl)
     (λ e. if-ind (Ruled n buf) _ _ _ (λ m. refl)
-    (λ m. if-ind (Ruled n buf) _ _ _ (λ a. refl) (λ a. found-ruled n b buf (aflRecordAt (storedAfl b) 1))))
+    (λ m. if-ind (Ruled n buf) _ _ _ (λ a. refl) (λ a. found-ruled n b buf (kthRecordOfAcceptedAfl (storedAfl b) 1))))
 
 -- a command comes exactly where the rules give no reason
-pub hands-by-rules : (n : ℕ) (b card buf : List ℕ) → hands (stepOn n buf (gpoNext b card)) ≡ eqb (gpoReason b card) 0
-unfolding gpoNext readThen
+pub hands-by-rules : (n : ℕ) (b card buf : List ℕ) → hands (stepOfNext n buf (nextOnGpoResponse b card)) ≡ eqb (gpoReason b card) 0
+unfolding nextOnGpoResponse readResponseThen
 hands-by-rules n b card buf =
     let o = reading.readAnswer Awaited.Gpo b card in
-    if-ind (Ruled n buf) (eqb (o .reason) 0) (afterGpo (o .store)) (fail (o .reason) b) (λ e. read-ruled n (o .store) buf) (λ e. sym e)
+    if-ind (Ruled n buf) (eqb (o .reason) 0) (nextAfterGpoRead (o .store)) (endForReason (o .reason) b) (λ e. read-ruled n (o .store) buf) (λ e. sym e)
 
 -- ---- the call answer, by the session's phase
 
 module _ (s : Session) (card buf : List ℕ) where
   -- on a session that waits on GPO it returns a command only where the rules give no reason
   pub sent-by-rules : s .phase ≡ Phase.Waiting AwaitedResponse.Gpo → hands (answerStep s card buf) ≡ true → eqb (gpoReason (storeBytes s) card) 0 ≡ true
-  unfolding admittedStep
+  unfolding stepIfAdmitted
   sent-by-rules q =
       if-ind P _ _ _ (λ e h. no h)
       (λ e. if-ind P _ _ _ (λ r h. no h)
-      (λ r. subst (λ (p : Phase). P (stepOf s buf (whileRunning p (responseNext (storeBytes s) card)))) (sym q) (λ h. sym (hands-by-rules (s .count) (storeBytes s) card buf) ∙ h)))
+      (λ r. subst (λ (p : Phase). P (stepOfEffect s buf (effectIfRunning p (nextOnResponse (storeBytes s) card)))) (sym q) (λ h. sym (hands-by-rules (s .count) (storeBytes s) card buf) ∙ h)))
     where
       P : Step → Type 0
       P st = hands st ≡ true → eqb (gpoReason (storeBytes s) card) 0 ≡ true
 
   -- it is refused while the session does not run
   pub answer-off : isRunning (s .phase) ≡ false → isRefusal (answerStep s card buf .reply .answer) ≡ true
-  unfolding admittedStep
+  unfolding stepIfAdmitted
   answer-off n = if-ind P _ _ _ (λ e. refl) (λ e. if-ind P _ _ _ (λ r. refl) (λ r. go (s .phase) n))
     where
       P : Step → Type 0
       P st = isRefusal (st .reply .answer) ≡ true
 
-      go : (p : Phase) → isRunning p ≡ false → P (stepOf s buf (whileRunning p (responseNext (storeBytes s) card)))
+      go : (p : Phase) → isRunning p ≡ false → P (stepOfEffect s buf (effectIfRunning p (nextOnResponse (storeBytes s) card)))
       go Phase.Fresh e = refl
       go (Phase.Waiting w) e = no (sym e)
       go (Phase.Ended x) e = refl

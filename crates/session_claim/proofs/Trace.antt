@@ -14,11 +14,11 @@ use lib.Dec.{eqb}
 use borrow.Author.Tests.{eq-eqb, ne-eqb}
 use Rattle.basics.specs.Choice.{if}
 use Rattle.basics.proofs.Laws.{if-ind, if-yes, if-no, bool-cases, either-left, both-yes, both-no-left, both-no-right}
-use Rattle.store.specs.Place.{bytesOfValue}
+use Rattle.store.specs.Place.{bytesOrEmptyIfAbsent}
 use Rattle.store.specs.Held.{storedBytes}
 use Rattle.afl.specs.declared.CardRecord.{CardRecord}
 use Rattle.afl.specs.declared.RecordFound.{RecordFound}
-use Rattle.afl.specs.Records.{aflRecords, aflRecordCount, acceptsAfl, aflRecordAt}
+use Rattle.afl.specs.Records.{aflRecords, aflRecordCount, acceptsAfl, kthRecordOfAcceptedAfl}
 use Rattle.command.specs.ReadRecord.{readRecordCommand}
 use Rattle.afl.proofs.Laws.{record-split, record-inside, record-there, accepted-length}
 use Rattle.afl.proofs.Records.{records-length}
@@ -34,24 +34,24 @@ use Rattle.session_record.specs.declared.Phase.{Phase}
 use Rattle.session_record.specs.declared.Session.{Session}
 use Rattle.session_record.specs.declared.Reply.{Reply}
 use Rattle.basics.specs.Reason.{reasonLink, reasonStopped}
-use Rattle.session_record.specs.Session.{storeBytes, endingOf, endingBy}
-use Rattle.session_record.specs.Ranges.{emvMode, storedAfl, zeroTvr, inRanges}
+use Rattle.session_record.specs.Session.{storeBytes, endingOf, endingForReason}
+use Rattle.session_record.specs.Ranges.{emvMode, storedAfl, zeroTvr, sessionRecordInRanges}
 use Rattle.session_record.proofs.Phases.{store-size, store-fits, on-fresh, on-gpo, on-record, count-most}
-use Rattle.session.specs.Steps.{end, heldCvm, Step, refusedStep, stepOf, withTvr, withFindings, admittedStep, whileRunning, abortStep}
+use Rattle.session.specs.Steps.{end, heldCvm, Step, refusedStep, stepOfEffect, storeWithTvr, storeWithFindings, stepIfAdmitted, effectIfRunning, abortStep}
 use Rattle.session.specs.Start.{startStep}
-use Rattle.session.specs.Answer.{awaitedRecord, gpoReason, answerStep}
-use Rattle.session.specs.MagStripe.{awaitedChecksum, storeWithDigits}
+use Rattle.session.specs.Answer.{awaitedRecordWithLimit, gpoReason, answerStep}
+use Rattle.session.specs.MagStripe.{awaitedChecksumWithLimit, storeWithTrackDigits}
 use Rattle.step_laws.proofs.Kept.{read-fits, read-mode, mode-bytes, read-afl}
 use Rattle.step_laws.proofs.Ways as ways
 use Rattle.step_laws.proofs.Ways.{withoutCommand, endedReply, commandStep, GpoWay, RecordsWay, MagStripeWay, RecordWay, CryptogramWay, ChecksumWay, AnswerWay, answer-way, StartWay, start-way, analysedSession, askedBy, loadedSession}
 use Rattle.step_laws.proofs.Ranges.{start-keeps, answer-keeps, link-keeps, stop-keeps}
-use Rattle.session_claim.specs.Calls.{commandsSent, callsAccepted, lastElement, isAnswer, hasAnswer, notAnswered, unansweredCommands}
+use Rattle.session_claim.specs.Calls.{commandsSent, callsAccepted, lastElement, isAnswer, hasAnswer, commandsWithNoLaterAnswer, unansweredCommands}
 use Rattle.session.specs.Calls.{Call, start, answer, link-failed, stop, callStep, CallMade, callMade, playCalls, finalSession, isRefusal, callResult, commandSent}
 use Rattle.session.proofs.Results.{isCommand}
-use Rattle.session_claim.specs.Order.{responseAfl, responseAip, firstAnswer, acceptedAfl, CommandKind, gpo, record-command, cryptogram, checksum, commandKind, lastKindFor, lastKind, publishedOrder}
-use Rattle.session_claim.specs.Claim.{SessionProper, stageBy, stageAfter, mostCommandsFor}
+use Rattle.session_claim.specs.Order.{aflInGpoResponse, aipInGpoResponse, firstAnswer, aflAcceptedFromGpoAnswer, CommandKind, gpo, record-command, cryptogram, checksum, commandKind, finalCommandKindForAip, finalCommandKindByGpoAnswer, publishedOrder}
+use Rattle.session_claim.specs.Claim.{CallsAndSessionAfterInPublishedOrder, stageAfterAcceptedResult, stageAfterLastAcceptedCall, mostCommandsForAcceptedAfl}
 use Rattle.basics.specs.Choice.{oneIf}
-use Rattle.session_record.specs.Session.{Stage, fresh, running, ended, stageOf, isRunning, isEnded}
+use Rattle.session_record.specs.Session.{SessionStage, fresh, running, ended, sessionStageOf, isRunning, isEnded}
 use Rattle.session_claim.proofs.Brought.{afl-brought, aip-brought}
 use Rattle.session_claim.proofs.Rules.{sent-by-rules, answer-off}
 use Rattle.basics.proofs.Laws.{no}
@@ -122,19 +122,19 @@ none-left (c ∷ sent) r f = absurd f
 
 -- the last command of a store's mode
 abbrev lastOn : List ℕ → CommandKind
-lastOn b = lastKindFor (some (storedBytes b 0x82))
+lastOn b = finalCommandKindForAip (some (storedBytes b 0x82))
 
 last-emv : (b : List ℕ) → emvMode b ≡ true → lastOn b ≡ cryptogram
-unfolding lastKindFor
+unfolding finalCommandKindForAip
 last-emv b e = if-yes _ _ e
 
 last-mag-stripe : (b : List ℕ) → emvMode b ≡ false → lastOn b ≡ checksum
-unfolding lastKindFor
+unfolding finalCommandKindForAip
 last-mag-stripe b e = if-no _ _ e
 
 -- the order that the first answer gives
 abbrev orderOf : Option CallMade → List CommandKind
-orderOf x = publishedOrder (lastKind x) (acceptedAfl x)
+orderOf x = publishedOrder (finalCommandKindByGpoAnswer x) (aflAcceptedFromGpoAnswer x)
 
 abbrev restOn : AwaitedResponse → List ℕ → Option CallMade → List CommandKind
 restOn AwaitedResponse.Gpo b x = drop 1 (orderOf x)
@@ -152,13 +152,13 @@ unfolding publishedOrder
 published-front k none = refl
 published-front k (some l) = refl
 
-published-length : (k : CommandKind) (a : Option (List ℕ)) → length (publishedOrder k a) ≡ mostCommandsFor a
+published-length : (k : CommandKind) (a : Option (List ℕ)) → length (publishedOrder k a) ≡ mostCommandsForAcceptedAfl a
 unfolding publishedOrder
 published-length k none = refl
 published-length k (some l) = simp (length-append, length-map) (omega (arith, records-length l))
 
 -- the record after the k-th
-next-record : (l : List ℕ) (k : ℕ) (r : CardRecord) → aflRecordAt l (k + 1) ≡ RecordFound.At r → drop k (aflRecords l) ≡ r ∷ drop (k + 1) (aflRecords l)
+next-record : (l : List ℕ) (k : ℕ) (r : CardRecord) → kthRecordOfAcceptedAfl l (k + 1) ≡ RecordFound.At r → drop k (aflRecords l) ≡ r ∷ drop (k + 1) (aflRecords l)
 next-record l k r e =
     ap (drop k) (record-split l (k + 1) r e)
     ∙ drop-at (take (k + 1 - 1) (aflRecords l)) (r ∷ drop (k + 1) (aflRecords l)) k
@@ -168,7 +168,7 @@ empty : (x : List CardRecord) → length x ≡ 0 → x ≡ []
 empty [] e = refl
 empty (r ∷ x) e = absurd (omega arith)
 
-no-record : (l : List ℕ) (k : ℕ) → acceptsAfl l ≡ true → aflRecordAt l (k + 1) ≡ RecordFound.Nothing → drop k (aflRecords l) ≡ []
+no-record : (l : List ℕ) (k : ℕ) → acceptsAfl l ≡ true → kthRecordOfAcceptedAfl l (k + 1) ≡ RecordFound.Nothing → drop k (aflRecords l) ≡ []
 no-record l k a e = empty (drop k (aflRecords l)) (length-drop k (aflRecords l) ∙ omega (arith, records-length l, past))
   where
     past : k + 1 ≤ aflRecordCount l → ⊥
@@ -216,20 +216,20 @@ abbrev OneOut : List (List ℕ) → List (List ℕ) → Type 0
 OneOut sent out = (length out ≡ 1) × (lastElement out ≡ lastElement sent)
 
 abbrev Waits : Bool → List (List ℕ) → List CallMade → Type 0
-Waits true sent tk = (x : List ℕ) → OneOut (x ∷ sent) (if (hasAnswer tk) (notAnswered tk) (x ∷ notAnswered tk))
-Waits false sent tk = OneOut sent (notAnswered tk)
+Waits true sent tk = (x : List ℕ) → OneOut (x ∷ sent) (if (hasAnswer tk) (commandsWithNoLaterAnswer tk) (x ∷ commandsWithNoLaterAnswer tk))
+Waits false sent tk = OneOut sent (commandsWithNoLaterAnswer tk)
 
 -- no call: the command x is out
 no-answer : (b : Bool) → b ≡ true → Waits b [] []
-unfolding hasAnswer notAnswered
+unfolding hasAnswer commandsWithNoLaterAnswer
 no-answer true e = λ x. subst (OneOut (x ∷ [])) (sym (if-no _ _ refl)) (refl, refl)
 no-answer false e = no e
 
 -- a call that hands out the command x leaves it as the one that is out: an answer, or on a session that does not run
 module _ (m : CallMade) (x : List ℕ) (sent : List (List ℕ)) (tk : List CallMade) (e : commandSent (callResult m) (m .step .buffer) ≡ x ∷ []) (w : Waits true sent tk) where
-  out-now : OneOut (x ∷ sent) (notAnswered (m ∷ tk))
-  unfolding notAnswered
-  out-now = subst (λ (c : List (List ℕ)). OneOut (x ∷ sent) (if (hasAnswer tk) (notAnswered tk) (c ++ notAnswered tk))) (sym e) (w x)
+  out-now : OneOut (x ∷ sent) (commandsWithNoLaterAnswer (m ∷ tk))
+  unfolding commandsWithNoLaterAnswer
+  out-now = subst (λ (c : List (List ℕ)). OneOut (x ∷ sent) (if (hasAnswer tk) (commandsWithNoLaterAnswer tk) (c ++ commandsWithNoLaterAnswer tk))) (sym e) (w x)
 
   one-more : (b : Bool) → (b ≡ true → isAnswer (m .call) ≡ true) → Waits b (x ∷ sent) (m ∷ tk)
   unfolding hasAnswer lastElement
@@ -237,20 +237,20 @@ module _ (m : CallMade) (x : List ℕ) (sent : List (List ℕ)) (tk : List CallM
   one-more false a = out-now
 
 -- the stage that a call leaves
-abbrev told : CallMade → Stage
-told m = stageBy (callResult m)
+abbrev told : CallMade → SessionStage
+told m = stageAfterAcceptedResult (callResult m)
 
 -- ---- the claim from a session s on: the commands sent, the calls taken, the session at the end
 
 record Run (s : Session) (sent : List (List ℕ)) (tk : List CallMade) (f : Session) : Type 0 where
   count : f .count ≡ s .count + length sent
-  stage : stageOf (f .phase) ≡ by (stageOf (s .phase)) told (lastElement tk)
+  stage : sessionStageOf (f .phase) ≡ by (sessionStageOf (s .phase)) told (lastElement tk)
   waiting : isRunning (f .phase) ≡ true → Waits (isRunning (s .phase)) sent tk
   calls : length tk + oneIf (isEnded (s .phase)) ≡ length sent + oneIf (isEnded (f .phase))
   order : Front (map commandKind sent) (rest (s .phase) (storeBytes s) (firstAnswer tk))
-  ranges : inRanges f ≡ true
+  ranges : sessionRecordInRanges f ≡ true
 
-no-calls : (s : Session) → inRanges s ≡ true → Run s [] [] s
+no-calls : (s : Session) → sessionRecordInRanges s ≡ true → Run s [] [] s
 unfolding lastElement
 no-calls s i =
     record { count = omega arith; stage = refl; waiting = no-answer (isRunning (s .phase)); calls = omega arith; order = tt; ranges = i }
@@ -269,7 +269,7 @@ goes-ended s c k b o n buf e sent tk f r =
     subst (λ (x : List CallMade). Run s sent x f) (sym (if-no _ _ refl))
     (record {
       count = r .count;
-      stage = r .stage ∙ by-front (stageOf (s .phase)) ended told m tk refl;
+      stage = r .stage ∙ by-front (sessionStageOf (s .phase)) ended told m tk refl;
       waiting = λ q. absurd (omega (arith, r .calls, left .1, ap oneIf (running-is (f .phase) q)));
       calls = omega (arith, r .calls, ap oneIf e);
       order = left .0;
@@ -295,7 +295,7 @@ goes-sent s c b w x buf e z next sent tk f r =
     (subst (λ (y : List ℕ). Run s (y ∷ sent) (m ∷ tk) f) (sym sent-bytes)
     (record {
       count = omega (arith, r .count);
-      stage = r .stage ∙ by-front (stageOf (s .phase)) running told m tk refl;
+      stage = r .stage ∙ by-front (sessionStageOf (s .phase)) running told m tk refl;
       waiting = λ q. one-more m x sent tk (ap (λ (y : List ℕ). y ∷ []) sent-bytes) (r .waiting q) (isRunning (s .phase)) z;
       calls = omega (arith, r .calls, ap oneIf e);
       order = next sent tk (r .order);
@@ -315,14 +315,14 @@ start-goes s bytes buf = go (start-way s bytes buf)
   where
     go : {st : Step} → StartWay s bytes buf st → Goes s (start bytes buf) st
     go (StartWay.refused n l) = goes-refused s (start bytes buf) n buf
-    go (StartWay.unlisted b i q e) = goes-ended s (start bytes buf) _ (withTvr b zeroTvr) _ _ buf (ap isEnded q)
+    go (StartWay.unlisted b i q e) = goes-ended s (start bytes buf) _ (storeWithTvr b zeroTvr) _ _ buf (ap isEnded q)
     go (StartWay.asked b c i q e f) =
-        goes-sent s (start bytes buf) (withTvr b zeroTvr) AwaitedResponse.Gpo c buf (ap isEnded q) (λ w. no (sym (ap isRunning q) ∙ w))
+        goes-sent s (start bytes buf) (storeWithTvr b zeroTvr) AwaitedResponse.Gpo c buf (ap isEnded q) (λ w. no (sym (ap isRunning q) ∙ w))
         (λ sent tk h. let m = callMade s (start bytes buf) (commandStep (s .count) (storeBytes (loadedSession s b)) AwaitedResponse.Gpo c buf) in
         subst (λ (p : Phase). Front (commandKind c ∷ map commandKind sent) (rest p (storeBytes s) (firstAnswer (m ∷ tk)))) (sym q)
         (subst (λ (x : Option CallMade). Front (commandKind c ∷ map commandKind sent) (orderOf x)) (sym (passed-over m tk refl))
         (front-cons (commandKind c) gpo (map commandKind sent) (orderOf (firstAnswer tk)) (drop 1 (orderOf (firstAnswer tk)))
-        (published-front _ (acceptedAfl (firstAnswer tk))) (kind-gpo c (list.gpo-proper (storeBytes (loadedSession s b)) c f)) h)))
+        (published-front _ (aflAcceptedFromGpoAnswer (firstAnswer tk))) (kind-gpo c (list.gpo-proper (storeBytes (loadedSession s b)) c f)) h)))
 
 -- ---- answer
 
@@ -330,17 +330,17 @@ module _ (s : Session) (card buf : List ℕ) where
   abbrev call : Call
   call = answer card buf
 
-  gpo-goes : inRanges s ≡ true → s .phase ≡ Phase.Waiting AwaitedResponse.Gpo → reading.readAnswer Awaited.Gpo (storeBytes s) card .reason ≡ 0
+  gpo-goes : sessionRecordInRanges s ≡ true → s .phase ≡ Phase.Waiting AwaitedResponse.Gpo → reading.readAnswer Awaited.Gpo (storeBytes s) card .reason ≡ 0
       → {st : Step} → GpoWay (ways.taken Awaited.Gpo s card) buf st
       → (isCommand (st .reply .answer) ≡ true → eqb (gpoReason (storeBytes s) card) 0 ≡ true) → Goes s call st
   unfolding publishedOrder
   gpo-goes i q z (GpoWay.failed n r) k = goes-ended s call _ _ _ n buf (ap isEnded q)
   gpo-goes i q z (GpoWay.first r v a e) k =
-      goes-sent s call b (awaitedRecord (transactionLimit b) 1) (readRecordCommand r) buf (ap isEnded q) (λ w. refl)
+      goes-sent s call b (awaitedRecordWithLimit (transactionLimit b) 1) (readRecordCommand r) buf (ap isEnded q) (λ w. refl)
       (λ sent tk h. subst (λ (p : Phase). Front (commandKind (readRecordCommand r) ∷ map commandKind sent) (rest p (storeBytes s) (firstAnswer (m ∷ tk)))) (sym q)
       (subst (λ (x : Option CallMade). Front (commandKind (readRecordCommand r) ∷ map commandKind sent) (drop 1 (orderOf x))) (sym (answer-first m tk refl))
-      (subst (λ (x : Option (List ℕ)). Front (commandKind (readRecordCommand r) ∷ map commandKind sent) (drop 1 (publishedOrder (lastKindFor (responseAip card)) x))) (sym (if-yes _ _ (k refl) ∙ here))
-      (subst (λ (x : Option (List ℕ)). Front (commandKind (readRecordCommand r) ∷ map commandKind sent) (drop 1 (publishedOrder (lastKindFor x) (some l)))) (sym told)
+      (subst (λ (x : Option (List ℕ)). Front (commandKind (readRecordCommand r) ∷ map commandKind sent) (drop 1 (publishedOrder (finalCommandKindForAip (aipInGpoResponse card)) x))) (sym (if-yes _ _ (k refl) ∙ here))
+      (subst (λ (x : Option (List ℕ)). Front (commandKind (readRecordCommand r) ∷ map commandKind sent) (drop 1 (publishedOrder (finalCommandKindForAip x) (some l)))) (sym told)
       (front-cons (commandKind (readRecordCommand r)) (reads r) (map commandKind sent) (drop 1 (publishedOrder (lastOn b) (some l))) (map reads (drop 1 (aflRecords l)) ++ (lastOn b ∷ []))
       (ap (λ (x : List CardRecord). map reads x ++ (lastOn b ∷ [])) (next-record l 0 r e)) (kind-record r) h)))))
     where
@@ -351,36 +351,36 @@ module _ (s : Session) (card buf : List ℕ) where
       l = storedAfl b
 
       m : CallMade
-      m = callMade s call (commandStep (s .count) b (awaitedRecord (transactionLimit b) 1) (readRecordCommand r) buf)
+      m = callMade s call (commandStep (s .count) b (awaitedRecordWithLimit (transactionLimit b) 1) (readRecordCommand r) buf)
 
-      here : responseAfl card ≡ some l
-      here = afl-brought (storeBytes s) card (store-size s i) z (ap bytesOfValue (on-gpo s i q .no-94)) (omega (arith, accepted-length l a .1))
+      here : aflInGpoResponse card ≡ some l
+      here = afl-brought (storeBytes s) card (store-size s i) z (ap bytesOrEmptyIfAbsent (on-gpo s i q .no-94)) (omega (arith, accepted-length l a .1))
 
-      told : responseAip card ≡ some (storedBytes b 0x82)
+      told : aipInGpoResponse card ≡ some (storedBytes b 0x82)
       told =
-          aip-brought (storeBytes s) card (store-size s i) z (ap bytesOfValue (on-gpo s i q .no-82))
+          aip-brought (storeBytes s) card (store-size s i) z (ap bytesOrEmptyIfAbsent (on-gpo s i q .no-82))
           (mode-bytes b (read-fits Awaited.Gpo (storeBytes s) card (store-size s i) (store-fits s i) .1) v)
 
-  module _ (i : inRanges s ≡ true) (p : AwaitedRecord) (q : s .phase ≡ Phase.Waiting (AwaitedResponse.Record p)) (w : Awaited) where
+  module _ (i : sessionRecordInRanges s ≡ true) (p : AwaitedRecord) (q : s .phase ≡ Phase.Waiting (AwaitedResponse.Record p)) (w : Awaited) where
     abbrev b : List ℕ
     b = reading.readAnswer w (storeBytes s) card .store
 
     same : storedAfl b ≡ storedAfl (storeBytes s)
-    same = ap bytesOfValue (read-afl w (storeBytes s) card (store-size s i) (on-record s i p q .afl))
+    same = ap bytesOrEmptyIfAbsent (read-afl w (storeBytes s) card (store-size s i) (on-record s i p q .afl))
 
     same-mode : storedBytes b 0x82 ≡ storedBytes (storeBytes s) 0x82
-    same-mode = ap bytesOfValue (read-mode w (storeBytes s) card (store-size s i) (store-fits s i) (on-record s i p q .mode))
+    same-mode = ap bytesOrEmptyIfAbsent (read-mode w (storeBytes s) card (store-size s i) (store-fits s i) (on-record s i p q .mode))
 
     -- a claim on what is left of the read store's records is one on what is left
     left : (xs : List CommandKind) (x : Option CallMade) → Front xs (restOn (AwaitedResponse.Record p) b x) → Front xs (rest (s .phase) (storeBytes s) x)
     left xs x h =
         subst (λ (y : Phase). Front xs (rest y (storeBytes s) x)) (sym q)
         (subst (λ (l : List ℕ). Front xs (map reads (drop (p .number) (aflRecords l)) ++ (lastOn (storeBytes s) ∷ []))) same
-        (subst (λ (v : List ℕ). Front xs (map reads (drop (p .number) (aflRecords (storedAfl b))) ++ (lastKindFor (some v) ∷ []))) same-mode h))
+        (subst (λ (v : List ℕ). Front xs (map reads (drop (p .number) (aflRecords (storedAfl b))) ++ (finalCommandKindForAip (some v) ∷ []))) same-mode h))
 
     -- the last command y, where no record is left
     last-goes : (d : List ℕ) (f : AwaitedResponse) (c : List ℕ) (y : CommandKind) → ((t : Option CallMade) → restOn f d t ≡ [])
-        → aflRecordAt (storedAfl b) (p .number + 1) ≡ RecordFound.Nothing → lastOn b ≡ y → commandKind c ≡ y → Goes s call (commandStep (s .count) d f c buf)
+        → kthRecordOfAcceptedAfl (storedAfl b) (p .number + 1) ≡ RecordFound.Nothing → lastOn b ≡ y → commandKind c ≡ y → Goes s call (commandStep (s .count) d f c buf)
     last-goes d f c y n e m k =
         goes-sent s call d f c buf (ap isEnded q) (λ w. refl)
         (λ sent tk h. left (commandKind c ∷ map commandKind sent) (firstAnswer (callMade s call (commandStep (s .count) d f c buf) ∷ tk))
@@ -389,22 +389,22 @@ module _ (s : Session) (card buf : List ℕ) where
         ∙ ap (λ (x : CommandKind). x ∷ []) m)
         k (subst (Front (map commandKind sent)) (n (firstAnswer tk)) h)))
 
-    records-goes : aflRecordAt (storedAfl b) (p .number + 1) ≡ RecordFound.Nothing → emvMode b ≡ true → {st : Step} → RecordsWay (p .limit) (ways.taken w s card) buf st → Goes s call st
+    records-goes : kthRecordOfAcceptedAfl (storedAfl b) (p .number + 1) ≡ RecordFound.Nothing → emvMode b ≡ true → {st : Step} → RecordsWay (p .limit) (ways.taken w s card) buf st → Goes s call st
     records-goes e m (RecordsWay.failed n r x) = goes-ended s call _ b _ n buf (ap isEnded q)
     records-goes e m RecordsWay.unlisted = goes-ended s call _ _ _ _ buf (ap isEnded q)
     records-goes e m (RecordsWay.asked c f g) =
-        last-goes (withFindings b (findingsOf b)) (AwaitedResponse.Cryptogram (askedBy (p .limit) (ways.taken w s card))) c cryptogram (λ t. refl) e (last-emv b m)
+        last-goes (storeWithFindings b (findingsOf b)) (AwaitedResponse.Cryptogram (askedBy (p .limit) (ways.taken w s card))) c cryptogram (λ t. refl) e (last-emv b m)
         (kind-cryptogram c (list.cryptogram-proper (storeBytes (analysedSession (ways.taken w s card))) c (generateAcP1 (askedBy (p .limit) (ways.taken w s card) .choice)) g))
 
-    mag-stripe-goes : aflRecordAt (storedAfl b) (p .number + 1) ≡ RecordFound.Nothing → emvMode b ≡ false → {st : Step} → MagStripeWay (p .limit) (ways.taken w s card) buf st → Goes s call st
+    mag-stripe-goes : kthRecordOfAcceptedAfl (storedAfl b) (p .number + 1) ≡ RecordFound.Nothing → emvMode b ≡ false → {st : Step} → MagStripeWay (p .limit) (ways.taken w s card) buf st → Goes s call st
     mag-stripe-goes e m (MagStripeWay.failed n r) = goes-ended s call _ b _ n buf (ap isEnded q)
     mag-stripe-goes e m (MagStripeWay.asked c f g) =
-        last-goes b (awaitedChecksum (p .limit)) c checksum (λ t. refl) e (last-mag-stripe b m) (kind-checksum c (list.checksum-proper b c g))
+        last-goes b (awaitedChecksumWithLimit (p .limit)) c checksum (λ t. refl) e (last-mag-stripe b m) (kind-checksum c (list.checksum-proper b c g))
 
     record-goes : {st : Step} → RecordWay p (ways.taken w s card) buf st → Goes s call st
     record-goes (RecordWay.next r e) =
-        goes-sent s call b (awaitedRecord (p .limit) (p .number + 1)) (readRecordCommand r) buf (ap isEnded q) (λ w. refl)
-        (λ sent tk h. left (commandKind (readRecordCommand r) ∷ map commandKind sent) (firstAnswer (callMade s call (commandStep (s .count) (storeBytes (ways.taken w s card)) (awaitedRecord (p .limit) (p .number + 1)) (readRecordCommand r) buf) ∷ tk))
+        goes-sent s call b (awaitedRecordWithLimit (p .limit) (p .number + 1)) (readRecordCommand r) buf (ap isEnded q) (λ w. refl)
+        (λ sent tk h. left (commandKind (readRecordCommand r) ∷ map commandKind sent) (firstAnswer (callMade s call (commandStep (s .count) (storeBytes (ways.taken w s card)) (awaitedRecordWithLimit (p .limit) (p .number + 1)) (readRecordCommand r) buf) ∷ tk))
         (front-cons (commandKind (readRecordCommand r)) (reads r) (map commandKind sent) (map reads (drop (p .number) (aflRecords (storedAfl b))) ++ (lastOn b ∷ []))
         (map reads (drop (p .number + 1) (aflRecords (storedAfl b))) ++ (lastOn b ∷ []))
         (ap (λ (x : List CardRecord). map reads x ++ (lastOn b ∷ [])) (next-record (storedAfl b) (p .number) r e)) (kind-record r) h))
@@ -439,14 +439,14 @@ module _ (s : Session) (card buf : List ℕ) where
 -- ---- link failed and stop
 
 broken-goes : (s : Session) (c : Call) (n : ℕ) (buf : List ℕ) → Goes s c (abortStep s n buf)
-unfolding admittedStep
+unfolding stepIfAdmitted
 broken-goes s c n buf =
     if-ind P _ _ _ (λ e. goes-refused s c _ buf) (λ e. if-ind P _ _ _ (λ r. goes-refused s c _ buf) (λ r. go (s .phase) refl))
   where
     P : Step → Type 0
     P = Goes s c
 
-    go : (p : Phase) → s .phase ≡ p → P (stepOf s buf (whileRunning p (λ (w : AwaitedResponse). end (endingBy n) (heldCvm w) (storeBytes s))))
+    go : (p : Phase) → s .phase ≡ p → P (stepOfEffect s buf (effectIfRunning p (λ (w : AwaitedResponse). end (endingForReason n) (heldCvm w) (storeBytes s))))
     go Phase.Fresh q = goes-refused s c _ buf
     go (Phase.Waiting w) q = goes-ended s c _ (storeBytes s) _ n buf (ap isEnded q)
     go (Phase.Ended x) q = goes-refused s c _ buf
@@ -459,20 +459,20 @@ call-goes s (answer card buf) = answer-goes s card buf
 call-goes s (link-failed buf) = broken-goes s (link-failed buf) reasonLink buf
 call-goes s (stop buf) = broken-goes s (stop buf) reasonStopped buf
 
-pub call-keeps : (s : Session) (c : Call) → inRanges s ≡ true → inRanges (callStep s c .reply .session) ≡ true
+pub call-keeps : (s : Session) (c : Call) → sessionRecordInRanges s ≡ true → sessionRecordInRanges (callStep s c .reply .session) ≡ true
 call-keeps s (start bytes buf) i = start-keeps s bytes buf i
 call-keeps s (answer card buf) i = answer-keeps s card buf i
 call-keeps s (link-failed buf) i = link-keeps s buf i
 call-keeps s (stop buf) i = stop-keeps s buf i
 
-runs-on : (s : Session) (cs : List Call) → inRanges s ≡ true → Run s (commandsSent (playCalls s cs)) (callsAccepted (playCalls s cs)) (finalSession s cs)
+runs-on : (s : Session) (cs : List Call) → sessionRecordInRanges s ≡ true → Run s (commandsSent (playCalls s cs)) (callsAccepted (playCalls s cs)) (finalSession s cs)
 unfolding playCalls finalSession commandsSent callsAccepted
 runs-on s [] i = no-calls s i
 runs-on s (c ∷ cs) i = call-goes s c _ _ _ (runs-on (callStep s c .reply .session) cs (call-keeps s c i))
 
 -- ---- the claim, from a fresh session
 
-none-yet : (o : Option CallMade) → by fresh told o ≡ stageAfter o
+none-yet : (o : Option CallMade) → by fresh told o ≡ stageAfterLastAcceptedCall o
 none-yet none = refl
 none-yet (some m) = refl
 
@@ -480,15 +480,15 @@ most-one : (x : Bool) → oneIf x ≤ 1
 most-one true = omega arith
 most-one false = omega arith
 
-pub always : (s : Session) (cs : List Call) → s .phase ≡ Phase.Fresh → inRanges s ≡ true → SessionProper (playCalls s cs) (finalSession s cs)
+pub always : (s : Session) (cs : List Call) → s .phase ≡ Phase.Fresh → sessionRecordInRanges s ≡ true → CallsAndSessionAfterInPublishedOrder (playCalls s cs) (finalSession s cs)
 unfolding unansweredCommands
 always s cs q i =
     record {
       order = front-take (map commandKind (commandsSent ms)) (orderOf (firstAnswer (callsAccepted ms))) front ∙ ap (λ (n : ℕ). take n (orderOf (firstAnswer (callsAccepted ms)))) number;
       count = omega (arith, r .count, on-fresh s i q .count);
-      bound = omega (arith, front-length (map commandKind (commandsSent ms)) (orderOf (firstAnswer (callsAccepted ms))) front, number, published-length (lastKind (firstAnswer (callsAccepted ms))) (acceptedAfl (firstAnswer (callsAccepted ms))));
+      bound = omega (arith, front-length (map commandKind (commandsSent ms)) (orderOf (firstAnswer (callsAccepted ms))) front, number, published-length (finalCommandKindByGpoAnswer (firstAnswer (callsAccepted ms))) (aflAcceptedFromGpoAnswer (firstAnswer (callsAccepted ms))));
       never-over = few;
-      stage = r .stage ∙ ap (λ (p : Phase). by (stageOf p) told (lastElement (callsAccepted ms))) q ∙ none-yet (lastElement (callsAccepted ms));
+      stage = r .stage ∙ ap (λ (p : Phase). by (sessionStageOf p) told (lastElement (callsAccepted ms))) q ∙ none-yet (lastElement (callsAccepted ms));
       one-unanswered = λ w. out w .0;
       last-unanswered = λ w. out w .1;
       calls = all;
@@ -510,7 +510,7 @@ always s cs q i =
     few : length (commandsSent ms) ≤ 130
     few = omega (arith, count-most (finalSession s cs) (r .ranges), r .count)
 
-    out : isRunning (finalSession s cs .phase) ≡ true → OneOut (commandsSent ms) (notAnswered (callsAccepted ms))
+    out : isRunning (finalSession s cs .phase) ≡ true → OneOut (commandsSent ms) (commandsWithNoLaterAnswer (callsAccepted ms))
     out w = subst (λ (p : Phase). Waits (isRunning p) (commandsSent ms) (callsAccepted ms)) q (r .waiting w)
 
     all : length (callsAccepted ms) ≡ length (commandsSent ms) + oneIf (isEnded (finalSession s cs .phase))

@@ -42,12 +42,12 @@ hasAnswer [] = false
 hasAnswer (m ∷ ms) = isAnswer (m .call) or hasAnswer ms
 
 -- of calls that were not refused, the commands that no answer comes after
-unfoldable pub notAnswered : List CallMade → List CommandBytes
-notAnswered [] = []
-notAnswered (m ∷ ms) =
-    if hasAnswer ms then notAnswered ms
-    else commandSent (callResult m) (m .step .buffer) ++ notAnswered ms
+unfoldable pub commandsWithNoLaterAnswer : List CallMade → List CommandBytes
+commandsWithNoLaterAnswer [] = []
+commandsWithNoLaterAnswer (m ∷ ms) =
+    if hasAnswer ms then commandsWithNoLaterAnswer ms
+    else commandSent (callResult m) (m .step .buffer) ++ commandsWithNoLaterAnswer ms
 
 -- refused calls answer nothing
 unfoldable pub unansweredCommands : List CallMade → List CommandBytes
-unansweredCommands ms = notAnswered (callsAccepted ms)
+unansweredCommands ms = commandsWithNoLaterAnswer (callsAccepted ms)

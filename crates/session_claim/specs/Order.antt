@@ -14,7 +14,7 @@ use Rattle.analysis.specs.Bits.{valueHasBit}
 use Rattle.command.specs.WithList.{claProprietary, insGpo, insGenerateAc, insComputeChecksum}
 use Rattle.command.specs.ReadRecord.{readRecordCommand}
 use Rattle.reading.specs.Taking.{PrimitiveItem, primitiveItems}
-use Rattle.reading.specs.Answer.{ResponseBody, primitive, template, responseBody}
+use Rattle.reading.specs.Answer.{ResponseBody, primitive, template, parseResponseBody}
 use Rattle.session_record.specs.Session.{storeBytes}
 use Rattle.session.specs.Answer.{gpoReason}
 use Rattle.session_claim.specs.Calls.{callsAccepted, isAnswer}
@@ -23,41 +23,41 @@ use Rattle.session.specs.Calls.{Call, start, answer, link-failed, stop, CallMad
 -- ---- the AFL and the AIP that card bytes bring: read from their objects alone, not from the store
 
 -- an object of a tag that is not empty, directly inside a 77, at any level
-abbrev pub isIn77 : Tag → PrimitiveItem → Bool
-isIn77 tag i =
+abbrev pub isNonEmptyObjectDirectlyInside77 : Tag → PrimitiveItem → Bool
+isNonEmptyObjectDirectlyInside77 tag i =
     i .tag =? tag
     and i .around =? 0x77
     and 0 <? length (i .value)
 
 -- the first such object
-unfoldable pub firstIn77 : Tag → List PrimitiveItem → Option Value
-firstIn77 tag [] = none
-firstIn77 tag (i ∷ is) =
-    if isIn77 tag i then some (i .value)
-    else firstIn77 tag is
+unfoldable pub firstNonEmptyValueDirectlyInside77 : Tag → List PrimitiveItem → Option Value
+firstNonEmptyValueDirectlyInside77 tag [] = none
+firstNonEmptyValueDirectlyInside77 tag (i ∷ is) =
+    if isNonEmptyObjectDirectlyInside77 tag i then some (i .value)
+    else firstNonEmptyValueDirectlyInside77 tag is
 
 -- the AFL: under 80 the bytes after the two of 82, where there are any; in a template the 94 inside a 77
-abbrev pub bodyAfl : Option ResponseBody → Option AflBytes
-bodyAfl none = none
-bodyAfl (some (primitive t v)) =
+abbrev pub aflInGpoBody : Option ResponseBody → Option AflBytes
+aflInGpoBody none = none
+aflInGpoBody (some (primitive t v)) =
     if t =? 0x80 and 2 <? length v then some (drop 2 v)
     else none
-bodyAfl (some (template t f)) = firstIn77 0x94 (primitiveItems t f)
+aflInGpoBody (some (template t f)) = firstNonEmptyValueDirectlyInside77 0x94 (primitiveItems t f)
 
 -- the AIP: under 80 the first two bytes, where there are so many; in a template the 82 inside a 77
-abbrev pub bodyAip : Option ResponseBody → Option Value
-bodyAip none = none
-bodyAip (some (primitive t v)) =
+abbrev pub aipInGpoBody : Option ResponseBody → Option Value
+aipInGpoBody none = none
+aipInGpoBody (some (primitive t v)) =
     if t =? 0x80 and 1 <? length v then some (take 2 v)
     else none
-bodyAip (some (template t f)) = firstIn77 0x82 (primitiveItems t f)
+aipInGpoBody (some (template t f)) = firstNonEmptyValueDirectlyInside77 0x82 (primitiveItems t f)
 
 -- of all card bytes but the last two, which are the status
-unfoldable pub responseAfl : Response → Option AflBytes
-responseAfl card = bodyAfl (responseBody (take (length card - 2) card))
+unfoldable pub aflInGpoResponse : Response → Option AflBytes
+aflInGpoResponse card = aflInGpoBody (parseResponseBody (take (length card - 2) card))
 
-unfoldable pub responseAip : Response → Option Value
-responseAip card = bodyAip (responseBody (take (length card - 2) card))
+unfoldable pub aipInGpoResponse : Response → Option Value
+aipInGpoResponse card = aipInGpoBody (parseResponseBody (take (length card - 2) card))
 
 -- ---- the accepted AFL
 
@@ -78,10 +78,10 @@ cardBytes (stop buf)        = []
 -- by the first answer not refused: the AFL that it brings, where the rules give it no reason on the store of the
 -- session before it; before that answer none is accepted. `gpoReason` is the reason of an answer to GPO: the first
 -- answer taken is always that one (`first-on-gpo` in proofs/Rules).
-abbrev pub acceptedAfl : Option CallMade → Option AflBytes
-acceptedAfl none = none
-acceptedAfl (some m) =
-    if gpoReason (storeBytes (m .before)) (cardBytes (m .call)) =? reasonNone then responseAfl (cardBytes (m .call))
+abbrev pub aflAcceptedFromGpoAnswer : Option CallMade → Option AflBytes
+aflAcceptedFromGpoAnswer none = none
+aflAcceptedFromGpoAnswer (some m) =
+    if gpoReason (storeBytes (m .before)) (cardBytes (m .call)) =? reasonNone then aflInGpoResponse (cardBytes (m .call))
     else none
 
 -- ---- the published order
@@ -94,28 +94,28 @@ pub data CommandKind : Type 0 where
   checksum : CommandKind
 
 -- a command begins with these two bytes
-abbrev pub beginsWith : Byte → Byte → CommandBytes → Bool
-beginsWith a b c = getD c 0 0 =? a and getD c 1 0 =? b
+abbrev pub beginsWithTwoBytes : Byte → Byte → CommandBytes → Bool
+beginsWithTwoBytes a b c = getD c 0 0 =? a and getD c 1 0 =? b
 
 -- by its first two bytes
 unfoldable pub commandKind : CommandBytes → CommandKind
 commandKind c =
-    if beginsWith claProprietary insGpo c then gpo
-    else if beginsWith claProprietary insGenerateAc c then cryptogram
-    else if beginsWith claProprietary insComputeChecksum c then checksum
+    if beginsWithTwoBytes claProprietary insGpo c then gpo
+    else if beginsWithTwoBytes claProprietary insGenerateAc c then cryptogram
+    else if beginsWithTwoBytes claProprietary insComputeChecksum c then checksum
     else record-command c
 
 -- the last command by an AIP: the checksum where byte 2 b8 is clear, else the cryptogram
-unfoldable pub lastKindFor : Option Value → CommandKind
-lastKindFor none = cryptogram
-lastKindFor (some v) =
+unfoldable pub finalCommandKindForAip : Option Value → CommandKind
+finalCommandKindForAip none = cryptogram
+finalCommandKindForAip (some v) =
     if valueHasBit v 2 8 then cryptogram
     else checksum
 
 -- by the first answer not refused: the AIP that it brings
-abbrev pub lastKind : Option CallMade → CommandKind
-lastKind none = cryptogram
-lastKind (some m) = lastKindFor (responseAip (cardBytes (m .call)))
+abbrev pub finalCommandKindByGpoAnswer : Option CallMade → CommandKind
+finalCommandKindByGpoAnswer none = cryptogram
+finalCommandKindByGpoAnswer (some m) = finalCommandKindForAip (aipInGpoResponse (cardBytes (m .call)))
 
 -- without an accepted AFL there is the first command alone; with one, its records' commands follow in their order and
 -- then the last command

@@ -6,17 +6,17 @@ ghost use mathlib.Core.Bool.{true};
 ghost use mathlib.Core.List.{List};
 ghost use Rattle.session_record.specs.declared.Session.{Session};
 ghost use Rattle.session_record.specs.declared.Phase.{Phase};
-ghost use Rattle.session_record.specs.Ranges.{inRanges};
+ghost use Rattle.session_record.specs.Ranges.{sessionRecordInRanges};
 ghost use Rattle.session.specs.Calls.{Call, playCalls, finalSession, callStep};
-ghost use Rattle.session_claim.specs.Claim.{SessionProper};
-ghost use Rattle.session_claim.specs.ReportedCvm.{ReportsCvm};
+ghost use Rattle.session_claim.specs.Claim.{CallsAndSessionAfterInPublishedOrder};
+ghost use Rattle.session_claim.specs.ReportedCvm.{StepOutcomeCvmMatchesSessionBefore};
 
 // The most commands that any list of calls hands out.
-pub fn every_session_is_proper() -> usize
+pub fn every_session_follows_published_order() -> usize
     ensures most { λ r. ⌜ r ≡ 130 ⌝ }
-    ensures claim { λ _. ⌜ ((s : Session) (cs : List Call) → s .phase ≡ Phase.Fresh → inRanges s ≡ true → SessionProper (playCalls s cs) (finalSession s cs)) ⌝ }
-    ensures ranges { λ _. ⌜ ((s : Session) (c : Call) → inRanges s ≡ true → inRanges (callStep s c .reply .session) ≡ true) ⌝ }
-    ensures cvms { λ _. ⌜ ((s : Session) (c : Call) → ReportsCvm s (callStep s c)) ⌝ }
+    ensures claim { λ _. ⌜ ((s : Session) (cs : List Call) → s .phase ≡ Phase.Fresh → sessionRecordInRanges s ≡ true → CallsAndSessionAfterInPublishedOrder (playCalls s cs) (finalSession s cs)) ⌝ }
+    ensures ranges { λ _. ⌜ ((s : Session) (c : Call) → sessionRecordInRanges s ≡ true → sessionRecordInRanges (callStep s c .reply .session) ≡ true) ⌝ }
+    ensures cvms { λ _. ⌜ ((s : Session) (c : Call) → StepOutcomeCvmMatchesSessionBefore s (callStep s c)) ⌝ }
 {
     130
 }

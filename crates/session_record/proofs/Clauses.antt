@@ -6,9 +6,9 @@ use mathlib.Core.Bool.{true}
 use mathlib.Core.List.{List}
 use Prim.Native.Nat.{ℕ, _+_, _≤_, _<_}
 use lib.ListN.{length, replicate}
-use Rattle.dictionary.specs.Rows.{Row, rowAt, rowCount, storeSize, required}
+use Rattle.dictionary.specs.Rows.{Row, rowAt, rowCount, storeSize, requiredAtStart}
 use Rattle.dictionary.specs.TerminalType.{listedTerminalType}
-use Rattle.store.specs.Place.{absent, present, objectValue, rowRoom}
+use Rattle.store.specs.Place.{absent, present, objectValue, rowSizeInStore}
 use Rattle.afl.specs.Records.{acceptsAfl}
 use Rattle.analysis.specs.Action.{transactionLimit}
 use Rattle.session_record.specs.declared.AwaitedRecord.{AwaitedRecord}
@@ -20,14 +20,14 @@ use Rattle.session_record.specs.declared.Phase.{Phase}
 use Rattle.session_record.specs.declared.Session.{Session}
 use Rattle.session_record.specs.Numbers.{reasonMatchesOutcome}
 use Rattle.session_record.specs.Session.{storeBytes}
-use Rattle.store.specs.Held.{hasObject, storedBytes, storedByte, storedLength}
-use Rattle.session_record.specs.Ranges.{valueFits, emvMode, magStripeMode, emvOrMagStripeMode, storedAfl, storedRecordCount}
+use Rattle.store.specs.Held.{hasObject, storedBytes, storedByte, storedLengthPlusOneOrZero}
+use Rattle.session_record.specs.Ranges.{absentOrLengthAndDigitsFitRow, emvMode, magStripeMode, emvOrMagStripeMode, storedAfl, storedAflRecordCount}
 use Rattle.session_record.specs.Ranges.{zeroTvr, mostCommands}
 
 -- the object of a row fits it: its length byte, and its value
 pub record RowObjectFits (b : List ℕ) (r : Row) : Type 0 where
-  pub length-byte : storedLength b (r .tag) ≤ rowRoom r
-  pub value : valueFits r (objectValue b (r .tag)) ≡ true
+  pub length-byte : storedLengthPlusOneOrZero b (r .tag) ≤ rowSizeInStore r
+  pub value : absentOrLengthAndDigitsFitRow r (objectValue b (r .tag)) ≡ true
 
 -- what is stored fits its row
 abbrev pub AllObjectsFit : List ℕ → Type 0
@@ -37,7 +37,7 @@ AllObjectsFit b = (k : ℕ) → k < rowCount → RowObjectFits b (rowAt k)
 -- answer to the last command brings
 pub record RunningClauses (b : List ℕ) : Type 0 where
   pub results : hasObject b 0x95 ≡ true
-  pub brought : (k : ℕ) → k < rowCount → rowAt k .must ≡ required → hasObject b (rowAt k .tag) ≡ true
+  pub brought : (k : ℕ) → k < rowCount → rowAt k .must ≡ requiredAtStart → hasObject b (rowAt k .tag) ≡ true
   pub terminal : listedTerminalType (storedByte b 0x9F35 1) ≡ true
   pub no-9F10 : objectValue b 0x9F10 ≡ absent
   pub no-9F26 : objectValue b 0x9F26 ≡ absent
@@ -66,7 +66,7 @@ pub record RecordClauses (p : AwaitedRecord) (n : ℕ) (b : List ℕ) : Type 0 w
   pub limit : p .limit ≡ transactionLimit b
   pub afl : acceptsAfl (storedAfl b) ≡ true
   pub first : 1 ≤ p .number
-  pub last : p .number ≤ storedRecordCount b
+  pub last : p .number ≤ storedAflRecordCount b
   pub count : n ≡ 1 + p .number
 
 -- waiting on the cryptogram; that one of the three choices was requested, and that a CVM was chosen, is in the
@@ -80,7 +80,7 @@ pub record CryptogramClauses (a : RequestedCryptogram) (n : ℕ) (b : List ℕ) 
   pub some-8C : 0 < length (storedBytes b 0x8C)
   pub verified : hasObject b 0x9F34 ≡ true
   pub limit : a .limit ≡ transactionLimit b
-  pub count : n ≡ 2 + storedRecordCount b
+  pub count : n ≡ 2 + storedAflRecordCount b
 
 -- waiting on the checksum
 pub record ChecksumClauses (c : AwaitedChecksum) (n : ℕ) (b : List ℕ) : Type 0 where
@@ -93,7 +93,7 @@ pub record ChecksumClauses (c : AwaitedChecksum) (n : ℕ) (b : List ℕ) : Type
   pub some-9F66 : 0 < length (storedBytes b 0x9F66)
   pub some-9F67 : 0 < length (storedBytes b 0x9F67)
   pub limit : c .limit ≡ transactionLimit b
-  pub count : n ≡ 2 + storedRecordCount b
+  pub count : n ≡ 2 + storedAflRecordCount b
 
 -- ended
 pub record EndedClauses (e : Ending) (n : ℕ) : Type 0 where

@@ -8,26 +8,26 @@ use Prim.Native.Nat.{ℕ}
 use lib.ListN.{replicate}
 use Rattle.basics.specs.Choice.{if, both, either, every}
 use Rattle.basics.specs.Number.{nibbles}
-use Rattle.dictionary.specs.Rows.{dictionaryRows, rowPast, findRow}
-use Rattle.dictionary.specs.Form.{numeric, digitsThenFs, compressed, digitsFit, fitsRow}
+use Rattle.dictionary.specs.Rows.{dictionaryRows, rowFoundShifted, findRow}
+use Rattle.dictionary.specs.Form.{isNumeric, isDigitsThenFs, isCompressedNumeric, digitsMatchForm, lengthAndDigitsFitRow}
 use Rattle.dictionary.specs.TerminalType.{listedTerminalType}
-use Rattle.store.specs.Place.{rowOffset, rowPlace, placeValue, rowValue, objectValueIn}
+use Rattle.store.specs.Place.{rowOffset, rowPlaceBytes, valueInPlace, rowValue, objectValueIn}
 use Rattle.afl.specs.Entry.{validEntry}
-use Rattle.afl.specs.Records.{aflEntries, wholeEntries, sumOverEntries, acceptsAfl}
-use Rattle.analysis.specs.Action.{hasOnDeviceCvm, transactionLimit}
-use Rattle.analysis.specs.Digits.{bcdFrom, amountOf}
-use Rattle.analysis.specs.Value.{firstBytes}
-use Rattle.analysis.specs.Cvm.{onDeviceCvm}
+use Rattle.afl.specs.Records.{aflEntries, aflLengthIsMultipleOf4, sumOverEntries, acceptsAfl}
+use Rattle.analysis.specs.Action.{cardAndKernelSupportOnDeviceCvm, transactionLimit}
+use Rattle.analysis.specs.Digits.{appendDecimalDigits, amountOf}
+use Rattle.analysis.specs.Value.{firstBytesZeroPadded}
+use Rattle.analysis.specs.Cvm.{aipAndConfigurationSupportOnDeviceCvm}
 use Rattle.analysis.specs.declared.choice.Choice.{Choice}
 use Rattle.analysis.specs.declared.cvm.Cvm.{Cvm}
 use Rattle.session_record.specs.declared.Outcome.{Outcome}
 use Rattle.session_record.specs.declared.AwaitedResponse.{AwaitedResponse}
 use Rattle.session_record.specs.declared.Phase.{Phase}
-use Rattle.session_record.specs.Numbers.{outcomeNumber, reasonMatchesOutcome, outcomeOfReason}
+use Rattle.session_record.specs.Numbers.{outcomeNumber, reasonMatchesOutcome, outcomeOfNonzeroReason}
 use Rattle.session_record.specs.declared.Session.{Session}
-use Rattle.session_record.specs.Inner.{rowPlaceFits}
+use Rattle.session_record.specs.Inner.{placeLengthAndValueFitRow}
 use Rattle.session_record.specs.Session.{sessionOf, endingOf}
-use Rattle.session_record.specs.Ranges.{isPresentIfRequired, allRequiredPresent, lastResponseAbsent, runningRanges, cryptogramDataPresent, trackDataPresent, freshRanges, gpoRanges, recordRanges, cryptogramRanges, checksumRanges, endedRanges, inRanges}
+use Rattle.session_record.specs.Ranges.{isPresentIfRequiredAtStart, allRequiredAtStartPresent, lastResponseObjectsAbsent, inRunningRanges, expiryPanAndCdol1NonEmpty, track2AndBitmapsNonEmpty, inFreshRanges, inGpoRanges, inRecordRanges, inCryptogramRanges, inChecksumRanges, inEndedRanges, sessionRecordInRanges}
 use Rattle.session_record.proofs.Along.{fitAlong, each-along}
 use Rattle.session_record.proofs.Stores.{storing, without}
 
@@ -66,13 +66,13 @@ with-select-next : map (reasonMatchesOutcome Outcome.SelectNext) reasons
 unfolding reasonMatchesOutcome
 with-select-next = refl
 
-outcomes : map outcomeOfReason (5 ∷ 6 ∷ 7 ∷ []) ≡ Outcome.Ended ∷ Outcome.SelectNext ∷ Outcome.Ended ∷ []
-unfolding outcomeOfReason if
+outcomes : map outcomeOfNonzeroReason (5 ∷ 6 ∷ 7 ∷ []) ≡ Outcome.Ended ∷ Outcome.SelectNext ∷ Outcome.Ended ∷ []
+unfolding outcomeOfNonzeroReason if
 outcomes = refl
 
 -- 130 commands and 131
-ended-counts : map (endedRanges (endingOf Outcome.Ended 1)) (0 ∷ 130 ∷ 131 ∷ []) ≡ true ∷ true ∷ false ∷ []
-unfolding endedRanges reasonMatchesOutcome both
+ended-counts : map (inEndedRanges (endingOf Outcome.Ended 1)) (0 ∷ 130 ∷ 131 ∷ []) ≡ true ∷ true ∷ false ∷ []
+unfolding inEndedRanges reasonMatchesOutcome both
 ended-counts = refl
 
 -- ---- stores
@@ -103,8 +103,8 @@ onFresh (n, l) = sessionOf Phase.Fresh n (storing l)
 abbrev freshOnes : List (ℕ × List (ℕ × List ℕ))
 freshOnes = (0, []) ∷ (1, []) ∷ (0, (0x9C, 0x00 ∷ []) ∷ []) ∷ []
 
-fresh-ones : map (λ x. inRanges (onFresh x)) freshOnes ≡ true ∷ false ∷ false ∷ []
-unfolding fitAlong rowPlaceFits fitsRow digitsFit numeric nibbles freshRanges placeValue rowOffset rowPlace rowValue objectValueIn findRow rowPast dictionaryRows every both either if
+fresh-ones : map (λ x. sessionRecordInRanges (onFresh x)) freshOnes ≡ true ∷ false ∷ false ∷ []
+unfolding fitAlong placeLengthAndValueFitRow lengthAndDigitsFitRow digitsMatchForm isNumeric nibbles inFreshRanges valueInPlace rowOffset rowPlaceBytes rowValue objectValueIn findRow rowFoundShifted dictionaryRows every both either if
 fresh-ones = each-along onFresh freshOnes
 
 -- ---- waiting on GPO
@@ -115,9 +115,9 @@ onGpo n b = sessionOf (Phase.Waiting AwaitedResponse.Gpo) n b
 abbrev gpoCounts : List ℕ
 gpoCounts = 0 ∷ 1 ∷ 2 ∷ []
 
-gpo-counts : map (λ n. inRanges (onGpo n (storing started))) gpoCounts ≡ false ∷ true ∷ false ∷ []
-unfolding fitAlong rowPlaceFits fitsRow digitsFit numeric nibbles gpoRanges runningRanges allRequiredPresent isPresentIfRequired lastResponseAbsent listedTerminalType placeValue rowOffset rowPlace rowValue
-    objectValueIn findRow rowPast dictionaryRows every both either if
+gpo-counts : map (λ n. sessionRecordInRanges (onGpo n (storing started))) gpoCounts ≡ false ∷ true ∷ false ∷ []
+unfolding fitAlong placeLengthAndValueFitRow lengthAndDigitsFitRow digitsMatchForm isNumeric nibbles inGpoRanges inRunningRanges allRequiredAtStartPresent isPresentIfRequiredAtStart lastResponseObjectsAbsent listedTerminalType valueInPlace rowOffset rowPlaceBytes rowValue
+    objectValueIn findRow rowFoundShifted dictionaryRows every both either if
 gpo-counts = each-along (λ n. onGpo n (storing started)) gpoCounts
 
 -- each object that a start must bring is required, and so is 95
@@ -125,9 +125,9 @@ abbrev gpoLacking : List ℕ
 gpoLacking =
     0x9A ∷ 0x9C ∷ 0x9F02 ∷ 0x9F09 ∷ 0x9F1A ∷ 0x9F33 ∷ 0x9F35 ∷ 0x9F37 ∷ 0xDF8120 ∷ 0xDF8121 ∷ 0xDF8122 ∷ 0xDF8123 ∷ 0xDF8124 ∷ 0xDF8125 ∷ 0xDF8126 ∷ 0xDF811B ∷ 0x9F6A ∷ 0x95 ∷ []
 
-gpo-lacking : map (λ t. inRanges (onGpo 1 (without t started))) gpoLacking ≡ replicate 18 false
-unfolding fitAlong rowPlaceFits fitsRow digitsFit numeric nibbles gpoRanges runningRanges allRequiredPresent isPresentIfRequired lastResponseAbsent listedTerminalType placeValue rowOffset rowPlace rowValue
-    objectValueIn findRow rowPast dictionaryRows every both either if
+gpo-lacking : map (λ t. sessionRecordInRanges (onGpo 1 (without t started))) gpoLacking ≡ replicate 18 false
+unfolding fitAlong placeLengthAndValueFitRow lengthAndDigitsFitRow digitsMatchForm isNumeric nibbles inGpoRanges inRunningRanges allRequiredAtStartPresent isPresentIfRequiredAtStart lastResponseObjectsAbsent listedTerminalType valueInPlace rowOffset rowPlaceBytes rowValue
+    objectValueIn findRow rowFoundShifted dictionaryRows every both either if
 gpo-lacking = each-along (λ t. onGpo 1 (without t started)) gpoLacking
 
 -- 82; 94; a TVR bit; each object of the last answer; a terminal type that is not listed; a digit that is none; a length
@@ -138,10 +138,10 @@ gpoWith =
     ∷ (0x9F35, 0x17 ∷ []) ∷ (0x9A, 0x25 ∷ 0x12 ∷ 0x3A ∷ []) ∷ (0xDF8124, replicate 7 0) ∷ (0x9F07, 0xFF ∷ []) ∷ (0x8E, replicate 9 0)
     ∷ (0x5A, 0x12 ∷ 0x3F ∷ []) ∷ (0x5A, []) ∷ (0x8E, replicate 10 0) ∷ (0x9F34, 0x3F ∷ 0x00 ∷ 0x00 ∷ []) ∷ []
 
-gpo-with : map (λ x. inRanges (onGpo 1 (storing (x ∷ started)))) gpoWith
+gpo-with : map (λ x. sessionRecordInRanges (onGpo 1 (storing (x ∷ started)))) gpoWith
     ≡ false ∷ false ∷ false ∷ false ∷ false ∷ false ∷ false ∷ false ∷ false ∷ false ∷ false ∷ false ∷ false ∷ true ∷ true ∷ true ∷ true ∷ []
-unfolding fitAlong rowPlaceFits fitsRow digitsFit numeric compressed digitsThenFs nibbles gpoRanges runningRanges allRequiredPresent isPresentIfRequired lastResponseAbsent listedTerminalType placeValue
-    rowOffset rowPlace rowValue objectValueIn findRow rowPast dictionaryRows every both either if
+unfolding fitAlong placeLengthAndValueFitRow lengthAndDigitsFitRow digitsMatchForm isNumeric isCompressedNumeric isDigitsThenFs nibbles inGpoRanges inRunningRanges allRequiredAtStartPresent isPresentIfRequiredAtStart lastResponseObjectsAbsent listedTerminalType valueInPlace
+    rowOffset rowPlaceBytes rowValue objectValueIn findRow rowFoundShifted dictionaryRows every both either if
 gpo-with = each-along (λ x. onGpo 1 (storing (x ∷ started))) gpoWith
 
 -- rows of annex A alone: an object of the session in its length and out of it; one of the card that names no template;
@@ -150,9 +150,9 @@ abbrev gpoRows : List (ℕ × List ℕ)
 gpoRows =
     (0xDF8115, replicate 6 0) ∷ (0xDF8115, replicate 5 0) ∷ (0x80, []) ∷ (0x9F70, replicate 192 0xFF) ∷ (0x9F20, 0x12 ∷ 0x3F ∷ []) ∷ (0x9F20, 0x12 ∷ 0xF3 ∷ []) ∷ []
 
-gpo-rows : map (λ x. inRanges (onGpo 1 (storing (x ∷ started)))) gpoRows ≡ true ∷ false ∷ true ∷ true ∷ true ∷ false ∷ []
-unfolding fitAlong rowPlaceFits fitsRow digitsFit numeric compressed digitsThenFs nibbles gpoRanges runningRanges allRequiredPresent isPresentIfRequired lastResponseAbsent listedTerminalType placeValue
-    rowOffset rowPlace rowValue objectValueIn findRow rowPast dictionaryRows every both either if
+gpo-rows : map (λ x. sessionRecordInRanges (onGpo 1 (storing (x ∷ started)))) gpoRows ≡ true ∷ false ∷ true ∷ true ∷ true ∷ false ∷ []
+unfolding fitAlong placeLengthAndValueFitRow lengthAndDigitsFitRow digitsMatchForm isNumeric isCompressedNumeric isDigitsThenFs nibbles inGpoRanges inRunningRanges allRequiredAtStartPresent isPresentIfRequiredAtStart lastResponseObjectsAbsent listedTerminalType valueInPlace
+    rowOffset rowPlaceBytes rowValue objectValueIn findRow rowFoundShifted dictionaryRows every both either if
 gpo-rows = each-along (λ x. onGpo 1 (storing (x ∷ started))) gpoRows
 
 -- ---- waiting on a record: k from 1 to R, 1 + k commands
@@ -166,18 +166,18 @@ numbered (k, n) = onRecord k 100 n opened
 abbrev recordCounts : List (ℕ × ℕ)
 recordCounts = (0, 1) ∷ (1, 2) ∷ (2, 3) ∷ (3, 4) ∷ (1, 1) ∷ (1, 3) ∷ []
 
-record-counts : map (λ x. inRanges (numbered x)) recordCounts ≡ false ∷ true ∷ true ∷ false ∷ false ∷ false ∷ []
-unfolding fitAlong rowPlaceFits fitsRow digitsFit numeric nibbles recordRanges transactionLimit hasOnDeviceCvm onDeviceCvm amountOf bcdFrom firstBytes runningRanges allRequiredPresent
-    isPresentIfRequired lastResponseAbsent listedTerminalType acceptsAfl wholeEntries aflEntries validEntry sumOverEntries placeValue rowOffset rowPlace rowValue objectValueIn findRow rowPast dictionaryRows every both either if
+record-counts : map (λ x. sessionRecordInRanges (numbered x)) recordCounts ≡ false ∷ true ∷ true ∷ false ∷ false ∷ false ∷ []
+unfolding fitAlong placeLengthAndValueFitRow lengthAndDigitsFitRow digitsMatchForm isNumeric nibbles inRecordRanges transactionLimit cardAndKernelSupportOnDeviceCvm aipAndConfigurationSupportOnDeviceCvm amountOf appendDecimalDigits firstBytesZeroPadded inRunningRanges allRequiredAtStartPresent
+    isPresentIfRequiredAtStart lastResponseObjectsAbsent listedTerminalType acceptsAfl aflLengthIsMultipleOf4 aflEntries validEntry sumOverEntries valueInPlace rowOffset rowPlaceBytes rowValue objectValueIn findRow rowFoundShifted dictionaryRows every both either if
 record-counts = each-along numbered recordCounts
 
 -- EMV mode; a first record of 0 in the AFL; a TVR bit
 abbrev recordWith : List (ℕ × List ℕ)
 recordWith = (0x82, 0x00 ∷ 0x80 ∷ []) ∷ (0x94, 0x08 ∷ 0 ∷ 2 ∷ 0 ∷ []) ∷ (0x95, 0x80 ∷ 0 ∷ 0 ∷ 0 ∷ 0 ∷ []) ∷ []
 
-record-with : map (λ x. inRanges (onRecord 1 100 2 (x ∷ opened))) recordWith ≡ true ∷ false ∷ false ∷ []
-unfolding fitAlong rowPlaceFits fitsRow digitsFit numeric nibbles recordRanges transactionLimit hasOnDeviceCvm onDeviceCvm amountOf bcdFrom firstBytes runningRanges allRequiredPresent
-    isPresentIfRequired lastResponseAbsent listedTerminalType acceptsAfl wholeEntries aflEntries validEntry sumOverEntries placeValue rowOffset rowPlace rowValue objectValueIn findRow rowPast dictionaryRows every both either if
+record-with : map (λ x. sessionRecordInRanges (onRecord 1 100 2 (x ∷ opened))) recordWith ≡ true ∷ false ∷ false ∷ []
+unfolding fitAlong placeLengthAndValueFitRow lengthAndDigitsFitRow digitsMatchForm isNumeric nibbles inRecordRanges transactionLimit cardAndKernelSupportOnDeviceCvm aipAndConfigurationSupportOnDeviceCvm amountOf appendDecimalDigits firstBytesZeroPadded inRunningRanges allRequiredAtStartPresent
+    isPresentIfRequiredAtStart lastResponseObjectsAbsent listedTerminalType acceptsAfl aflLengthIsMultipleOf4 aflEntries validEntry sumOverEntries valueInPlace rowOffset rowPlaceBytes rowValue objectValueIn findRow rowFoundShifted dictionaryRows every both either if
 record-with = each-along (λ x. onRecord 1 100 2 (x ∷ opened)) recordWith
 
 -- byte 2 of 82 and DF811B: b8 set, whatever DF811B says; all but b8 set, with all but b8 of DF811B and with b8 alone
@@ -187,9 +187,9 @@ inMode (aip, configuration) = onRecord 1 100 2 ((0x82, 0 ∷ aip ∷ []) ∷ (0x
 abbrev recordModes : List (ℕ × ℕ)
 recordModes = (0x80, 0xFF) ∷ (0x80, 0x00) ∷ (0x7F, 0x7F) ∷ (0x7F, 0x80) ∷ []
 
-record-modes : map (λ x. inRanges (inMode x)) recordModes ≡ true ∷ true ∷ true ∷ false ∷ []
-unfolding fitAlong rowPlaceFits fitsRow digitsFit numeric nibbles recordRanges transactionLimit hasOnDeviceCvm onDeviceCvm amountOf bcdFrom firstBytes runningRanges allRequiredPresent
-    isPresentIfRequired lastResponseAbsent listedTerminalType acceptsAfl wholeEntries aflEntries validEntry sumOverEntries placeValue rowOffset rowPlace rowValue objectValueIn findRow rowPast dictionaryRows every both either if
+record-modes : map (λ x. sessionRecordInRanges (inMode x)) recordModes ≡ true ∷ true ∷ true ∷ false ∷ []
+unfolding fitAlong placeLengthAndValueFitRow lengthAndDigitsFitRow digitsMatchForm isNumeric nibbles inRecordRanges transactionLimit cardAndKernelSupportOnDeviceCvm aipAndConfigurationSupportOnDeviceCvm amountOf appendDecimalDigits firstBytesZeroPadded inRunningRanges allRequiredAtStartPresent
+    isPresentIfRequiredAtStart lastResponseObjectsAbsent listedTerminalType acceptsAfl aflLengthIsMultipleOf4 aflEntries validEntry sumOverEntries valueInPlace rowOffset rowPlaceBytes rowValue objectValueIn findRow rowFoundShifted dictionaryRows every both either if
 record-modes = each-along inMode recordModes
 
 -- a card with either limit, with none and with one more; on-device CVM with either; and on-device CVM where b6 of
@@ -201,9 +201,9 @@ abbrev recordLimits : List (ℕ × (ℕ × ℕ))
 recordLimits =
     (0xFD, (0xFF, 100)) ∷ (0xFD, (0xFF, 200)) ∷ (0xFD, (0xFF, 0)) ∷ (0xFD, (0xFF, 101)) ∷ (0x02, (0x20, 100)) ∷ (0x02, (0x20, 200)) ∷ (0x02, (0xDF, 100)) ∷ (0x02, (0xDF, 200)) ∷ []
 
-record-limits : map (λ x. inRanges (withLimit x)) recordLimits ≡ true ∷ false ∷ false ∷ false ∷ false ∷ true ∷ true ∷ false ∷ []
-unfolding fitAlong rowPlaceFits fitsRow digitsFit numeric nibbles recordRanges transactionLimit hasOnDeviceCvm onDeviceCvm amountOf bcdFrom firstBytes runningRanges allRequiredPresent
-    isPresentIfRequired lastResponseAbsent listedTerminalType acceptsAfl wholeEntries aflEntries validEntry sumOverEntries placeValue rowOffset rowPlace rowValue objectValueIn findRow rowPast dictionaryRows every both either if
+record-limits : map (λ x. sessionRecordInRanges (withLimit x)) recordLimits ≡ true ∷ false ∷ false ∷ false ∷ false ∷ true ∷ true ∷ false ∷ []
+unfolding fitAlong placeLengthAndValueFitRow lengthAndDigitsFitRow digitsMatchForm isNumeric nibbles inRecordRanges transactionLimit cardAndKernelSupportOnDeviceCvm aipAndConfigurationSupportOnDeviceCvm amountOf appendDecimalDigits firstBytesZeroPadded inRunningRanges allRequiredAtStartPresent
+    isPresentIfRequiredAtStart lastResponseObjectsAbsent listedTerminalType acceptsAfl aflLengthIsMultipleOf4 aflEntries validEntry sumOverEntries valueInPlace rowOffset rowPlaceBytes rowValue objectValueIn findRow rowFoundShifted dictionaryRows every both either if
 record-limits = each-along withLimit recordLimits
 
 -- ---- waiting on the cryptogram: 2 + R commands
@@ -214,30 +214,30 @@ onCryptogram limit n b = sessionOf (Phase.Waiting (AwaitedResponse.Cryptogram (r
 abbrev cryptogramCounts : List ℕ
 cryptogramCounts = 3 ∷ 4 ∷ 5 ∷ []
 
-cryptogram-counts : map (λ n. inRanges (onCryptogram 100 n (storing complete))) cryptogramCounts ≡ false ∷ true ∷ false ∷ []
-unfolding fitAlong rowPlaceFits fitsRow digitsFit numeric compressed digitsThenFs nibbles cryptogramRanges cryptogramDataPresent transactionLimit hasOnDeviceCvm onDeviceCvm amountOf
-    bcdFrom firstBytes runningRanges allRequiredPresent isPresentIfRequired lastResponseAbsent listedTerminalType acceptsAfl wholeEntries aflEntries validEntry sumOverEntries placeValue rowOffset rowPlace rowValue objectValueIn findRow
-    rowPast dictionaryRows every both either if
+cryptogram-counts : map (λ n. sessionRecordInRanges (onCryptogram 100 n (storing complete))) cryptogramCounts ≡ false ∷ true ∷ false ∷ []
+unfolding fitAlong placeLengthAndValueFitRow lengthAndDigitsFitRow digitsMatchForm isNumeric isCompressedNumeric isDigitsThenFs nibbles inCryptogramRanges expiryPanAndCdol1NonEmpty transactionLimit cardAndKernelSupportOnDeviceCvm aipAndConfigurationSupportOnDeviceCvm amountOf
+    appendDecimalDigits firstBytesZeroPadded inRunningRanges allRequiredAtStartPresent isPresentIfRequiredAtStart lastResponseObjectsAbsent listedTerminalType acceptsAfl aflLengthIsMultipleOf4 aflEntries validEntry sumOverEntries valueInPlace rowOffset rowPlaceBytes rowValue objectValueIn findRow
+    rowFoundShifted dictionaryRows every both either if
 cryptogram-counts = each-along (λ n. onCryptogram 100 n (storing complete)) cryptogramCounts
 
 -- each needed object absent, 9F34, and 82 and 94
 abbrev cryptogramLacking : List ℕ
 cryptogramLacking = 0x5F24 ∷ 0x5A ∷ 0x8C ∷ 0x9F34 ∷ 0x82 ∷ 0x94 ∷ 0x95 ∷ []
 
-cryptogram-lacking : map (λ t. inRanges (onCryptogram 100 4 (without t complete))) cryptogramLacking ≡ replicate 7 false
-unfolding fitAlong rowPlaceFits fitsRow digitsFit numeric compressed digitsThenFs nibbles cryptogramRanges cryptogramDataPresent transactionLimit hasOnDeviceCvm onDeviceCvm amountOf
-    bcdFrom firstBytes runningRanges allRequiredPresent isPresentIfRequired lastResponseAbsent listedTerminalType acceptsAfl wholeEntries aflEntries validEntry sumOverEntries placeValue rowOffset rowPlace rowValue objectValueIn findRow
-    rowPast dictionaryRows every both either if
+cryptogram-lacking : map (λ t. sessionRecordInRanges (onCryptogram 100 4 (without t complete))) cryptogramLacking ≡ replicate 7 false
+unfolding fitAlong placeLengthAndValueFitRow lengthAndDigitsFitRow digitsMatchForm isNumeric isCompressedNumeric isDigitsThenFs nibbles inCryptogramRanges expiryPanAndCdol1NonEmpty transactionLimit cardAndKernelSupportOnDeviceCvm aipAndConfigurationSupportOnDeviceCvm amountOf
+    appendDecimalDigits firstBytesZeroPadded inRunningRanges allRequiredAtStartPresent isPresentIfRequiredAtStart lastResponseObjectsAbsent listedTerminalType acceptsAfl aflLengthIsMultipleOf4 aflEntries validEntry sumOverEntries valueInPlace rowOffset rowPlaceBytes rowValue objectValueIn findRow
+    rowFoundShifted dictionaryRows every both either if
 cryptogram-lacking = each-along (λ t. onCryptogram 100 4 (without t complete)) cryptogramLacking
 
 -- any TVR; an empty account number; an empty list; byte 2 b8 of 82 alone clear
 abbrev cryptogramWith : List (ℕ × List ℕ)
 cryptogramWith = (0x95, 0x80 ∷ 0 ∷ 0 ∷ 0 ∷ 0 ∷ []) ∷ (0x5A, []) ∷ (0x8C, []) ∷ (0x82, 0x00 ∷ 0x7F ∷ []) ∷ []
 
-cryptogram-with : map (λ x. inRanges (onCryptogram 100 4 (storing (x ∷ complete)))) cryptogramWith ≡ true ∷ false ∷ false ∷ false ∷ []
-unfolding fitAlong rowPlaceFits fitsRow digitsFit numeric compressed digitsThenFs nibbles cryptogramRanges cryptogramDataPresent transactionLimit hasOnDeviceCvm onDeviceCvm amountOf
-    bcdFrom firstBytes runningRanges allRequiredPresent isPresentIfRequired lastResponseAbsent listedTerminalType acceptsAfl wholeEntries aflEntries validEntry sumOverEntries placeValue rowOffset rowPlace rowValue objectValueIn findRow
-    rowPast dictionaryRows every both either if
+cryptogram-with : map (λ x. sessionRecordInRanges (onCryptogram 100 4 (storing (x ∷ complete)))) cryptogramWith ≡ true ∷ false ∷ false ∷ false ∷ []
+unfolding fitAlong placeLengthAndValueFitRow lengthAndDigitsFitRow digitsMatchForm isNumeric isCompressedNumeric isDigitsThenFs nibbles inCryptogramRanges expiryPanAndCdol1NonEmpty transactionLimit cardAndKernelSupportOnDeviceCvm aipAndConfigurationSupportOnDeviceCvm amountOf
+    appendDecimalDigits firstBytesZeroPadded inRunningRanges allRequiredAtStartPresent isPresentIfRequiredAtStart lastResponseObjectsAbsent listedTerminalType acceptsAfl aflLengthIsMultipleOf4 aflEntries validEntry sumOverEntries valueInPlace rowOffset rowPlaceBytes rowValue objectValueIn findRow
+    rowFoundShifted dictionaryRows every both either if
 cryptogram-with = each-along (λ x. onCryptogram 100 4 (storing (x ∷ complete))) cryptogramWith
 
 -- a card with either limit, on-device CVM with either
@@ -247,10 +247,10 @@ askedOf (aip, limit) = onCryptogram limit 4 (storing ((0x82, aip ∷ 0x80 ∷ []
 abbrev cryptogramLimits : List (ℕ × ℕ)
 cryptogramLimits = (0x00, 100) ∷ (0x00, 200) ∷ (0x02, 100) ∷ (0x02, 200) ∷ []
 
-cryptogram-limits : map (λ x. inRanges (askedOf x)) cryptogramLimits ≡ true ∷ false ∷ false ∷ true ∷ []
-unfolding fitAlong rowPlaceFits fitsRow digitsFit numeric compressed digitsThenFs nibbles cryptogramRanges cryptogramDataPresent transactionLimit hasOnDeviceCvm onDeviceCvm amountOf
-    bcdFrom firstBytes runningRanges allRequiredPresent isPresentIfRequired lastResponseAbsent listedTerminalType acceptsAfl wholeEntries aflEntries validEntry sumOverEntries placeValue rowOffset rowPlace rowValue objectValueIn findRow
-    rowPast dictionaryRows every both either if
+cryptogram-limits : map (λ x. sessionRecordInRanges (askedOf x)) cryptogramLimits ≡ true ∷ false ∷ false ∷ true ∷ []
+unfolding fitAlong placeLengthAndValueFitRow lengthAndDigitsFitRow digitsMatchForm isNumeric isCompressedNumeric isDigitsThenFs nibbles inCryptogramRanges expiryPanAndCdol1NonEmpty transactionLimit cardAndKernelSupportOnDeviceCvm aipAndConfigurationSupportOnDeviceCvm amountOf
+    appendDecimalDigits firstBytesZeroPadded inRunningRanges allRequiredAtStartPresent isPresentIfRequiredAtStart lastResponseObjectsAbsent listedTerminalType acceptsAfl aflLengthIsMultipleOf4 aflEntries validEntry sumOverEntries valueInPlace rowOffset rowPlaceBytes rowValue objectValueIn findRow
+    rowFoundShifted dictionaryRows every both either if
 cryptogram-limits = each-along askedOf cryptogramLimits
 
 -- ---- waiting on the checksum: 2 + R commands; the track need not take the digits
@@ -267,9 +267,9 @@ checkedWith (limit, n) = onChecksum limit n (storing striped)
 abbrev checksumCounts : List (ℕ × ℕ)
 checksumCounts = (100, 3) ∷ (100, 4) ∷ (100, 5) ∷ (200, 4) ∷ []
 
-checksum-counts : map (λ x. inRanges (checkedWith x)) checksumCounts ≡ false ∷ true ∷ false ∷ false ∷ []
-unfolding fitAlong rowPlaceFits fitsRow digitsFit numeric nibbles checksumRanges trackDataPresent transactionLimit hasOnDeviceCvm onDeviceCvm amountOf bcdFrom firstBytes
-    runningRanges allRequiredPresent isPresentIfRequired lastResponseAbsent listedTerminalType acceptsAfl wholeEntries aflEntries validEntry sumOverEntries placeValue rowOffset rowPlace rowValue objectValueIn findRow rowPast dictionaryRows every
+checksum-counts : map (λ x. sessionRecordInRanges (checkedWith x)) checksumCounts ≡ false ∷ true ∷ false ∷ false ∷ []
+unfolding fitAlong placeLengthAndValueFitRow lengthAndDigitsFitRow digitsMatchForm isNumeric nibbles inChecksumRanges track2AndBitmapsNonEmpty transactionLimit cardAndKernelSupportOnDeviceCvm aipAndConfigurationSupportOnDeviceCvm amountOf appendDecimalDigits firstBytesZeroPadded
+    inRunningRanges allRequiredAtStartPresent isPresentIfRequiredAtStart lastResponseObjectsAbsent listedTerminalType acceptsAfl aflLengthIsMultipleOf4 aflEntries validEntry sumOverEntries valueInPlace rowOffset rowPlaceBytes rowValue objectValueIn findRow rowFoundShifted dictionaryRows every
     both either if
 checksum-counts = each-along checkedWith checksumCounts
 
@@ -277,9 +277,9 @@ checksum-counts = each-along checkedWith checksumCounts
 abbrev checksumLacking : List ℕ
 checksumLacking = 0x9F6B ∷ 0x9F65 ∷ 0x9F66 ∷ 0x9F67 ∷ 0x82 ∷ 0x94 ∷ 0x95 ∷ []
 
-checksum-lacking : map (λ t. inRanges (onChecksum 100 4 (without t striped))) checksumLacking ≡ replicate 7 false
-unfolding fitAlong rowPlaceFits fitsRow digitsFit numeric nibbles checksumRanges trackDataPresent transactionLimit hasOnDeviceCvm onDeviceCvm amountOf bcdFrom firstBytes
-    runningRanges allRequiredPresent isPresentIfRequired lastResponseAbsent listedTerminalType acceptsAfl wholeEntries aflEntries validEntry sumOverEntries placeValue rowOffset rowPlace rowValue objectValueIn findRow rowPast dictionaryRows every
+checksum-lacking : map (λ t. sessionRecordInRanges (onChecksum 100 4 (without t striped))) checksumLacking ≡ replicate 7 false
+unfolding fitAlong placeLengthAndValueFitRow lengthAndDigitsFitRow digitsMatchForm isNumeric nibbles inChecksumRanges track2AndBitmapsNonEmpty transactionLimit cardAndKernelSupportOnDeviceCvm aipAndConfigurationSupportOnDeviceCvm amountOf appendDecimalDigits firstBytesZeroPadded
+    inRunningRanges allRequiredAtStartPresent isPresentIfRequiredAtStart lastResponseObjectsAbsent listedTerminalType acceptsAfl aflLengthIsMultipleOf4 aflEntries validEntry sumOverEntries valueInPlace rowOffset rowPlaceBytes rowValue objectValueIn findRow rowFoundShifted dictionaryRows every
     both either if
 checksum-lacking = each-along (λ t. onChecksum 100 4 (without t striped)) checksumLacking
 
@@ -288,9 +288,9 @@ abbrev checksumWith : List (ℕ × List ℕ)
 checksumWith =
     (0x9F6B, []) ∷ (0x82, 0 ∷ 0x80 ∷ []) ∷ (0xDF811B, 0x80 ∷ []) ∷ (0x95, 0 ∷ 0 ∷ 0 ∷ 0 ∷ 1 ∷ []) ∷ (0x9F36, 0 ∷ 1 ∷ []) ∷ (0x9F61, 0 ∷ 1 ∷ []) ∷ (0xDF811B, 0x7F ∷ []) ∷ []
 
-checksum-with : map (λ x. inRanges (onChecksum 100 4 (storing (x ∷ striped)))) checksumWith
+checksum-with : map (λ x. sessionRecordInRanges (onChecksum 100 4 (storing (x ∷ striped)))) checksumWith
     ≡ false ∷ false ∷ false ∷ false ∷ false ∷ false ∷ true ∷ []
-unfolding fitAlong rowPlaceFits fitsRow digitsFit numeric nibbles checksumRanges trackDataPresent transactionLimit hasOnDeviceCvm onDeviceCvm amountOf bcdFrom firstBytes
-    runningRanges allRequiredPresent isPresentIfRequired lastResponseAbsent listedTerminalType acceptsAfl wholeEntries aflEntries validEntry sumOverEntries placeValue rowOffset rowPlace rowValue objectValueIn findRow rowPast dictionaryRows every
+unfolding fitAlong placeLengthAndValueFitRow lengthAndDigitsFitRow digitsMatchForm isNumeric nibbles inChecksumRanges track2AndBitmapsNonEmpty transactionLimit cardAndKernelSupportOnDeviceCvm aipAndConfigurationSupportOnDeviceCvm amountOf appendDecimalDigits firstBytesZeroPadded
+    inRunningRanges allRequiredAtStartPresent isPresentIfRequiredAtStart lastResponseObjectsAbsent listedTerminalType acceptsAfl aflLengthIsMultipleOf4 aflEntries validEntry sumOverEntries valueInPlace rowOffset rowPlaceBytes rowValue objectValueIn findRow rowFoundShifted dictionaryRows every
     both either if
 checksum-with = each-along (λ x. onChecksum 100 4 (storing (x ∷ striped))) checksumWith

@@ -13,7 +13,7 @@ use borrow.Author.Tests.{eq-eqb, ne-eqb, eqb-true, eqb-false, le-leb, leb-true, 
 use Rattle.basics.specs.Choice.{both, every}
 use Rattle.basics.proofs.Laws.{bool-cases, both-yes, both-left, both-right, either-left, either-right, either-false}
 use Rattle.basics.proofs.Table.{at}
-use Rattle.dictionary.specs.Rows.{Row, dictionaryRows, blankRow, rowAt, optional, required, rowCount, storeSize}
+use Rattle.dictionary.specs.Rows.{Row, dictionaryRows, blankRow, rowAt, optionalAtStart, requiredAtStart, rowCount, storeSize}
 use Rattle.analysis.specs.Action.{transactionLimit}
 use Rattle.session_record.specs.declared.AwaitedRecord.{AwaitedRecord}
 use Rattle.session_record.specs.declared.RequestedCryptogram.{RequestedCryptogram}
@@ -24,7 +24,7 @@ use Rattle.session_record.specs.declared.Phase.{Phase}
 use Rattle.session_record.specs.declared.Session.{Session}
 use Rattle.session_record.specs.Session.{storeBytes}
 use Rattle.store.specs.Held.{hasObject}
-use Rattle.session_record.specs.Ranges.{objectFits, allObjectsFit, isPresentIfRequired, allRequiredPresent, lastResponseAbsent, runningRanges, storedRecordCount, cryptogramDataPresent, trackDataPresent, freshRanges, gpoRanges, recordRanges, cryptogramRanges, checksumRanges, mostCommands, endedRanges, waitingRanges, phaseRanges, inRanges}
+use Rattle.session_record.specs.Ranges.{storedObjectAbsentOrFitsRow, allStoredObjectsFitRows, isPresentIfRequiredAtStart, allRequiredAtStartPresent, lastResponseObjectsAbsent, inRunningRanges, storedAflRecordCount, expiryPanAndCdol1NonEmpty, track2AndBitmapsNonEmpty, inFreshRanges, inGpoRanges, inRecordRanges, inCryptogramRanges, inChecksumRanges, mostCommands, inEndedRanges, inWaitingRanges, inPhaseRanges, sessionRecordInRanges}
 use Rattle.session_record.proofs.Clauses.{AllObjectsFit, RunningClauses, FreshClauses, GpoClauses, RecordClauses, CryptogramClauses, ChecksumClauses, EndedClauses, WaitingClauses, PhaseClauses, RangesClauses}
 use Rattle.session_record.proofs.Every.{every-all}
 use Rattle.store.proofs.Rows.{rows-length}
@@ -32,43 +32,43 @@ use Rattle.session_record.proofs.Values.{absent-of, is-lacking, zeros-o
 
 -- ---- every stored object fits
 
-pub all-fits : (b : List ℕ) → allObjectsFit b ≡ true → AllObjectsFit b
-unfolding allObjectsFit objectFits
+pub all-fits : (b : List ℕ) → allStoredObjectsFitRows b ≡ true → AllObjectsFit b
+unfolding allStoredObjectsFitRows storedObjectAbsentOrFitsRow
 all-fits b e k h =
-    let w = at (objectFits b) dictionaryRows blankRow e k (omega (arith, rows-length)) in
+    let w = at (storedObjectAbsentOrFitsRow b) dictionaryRows blankRow e k (omega (arith, rows-length)) in
     record { length-byte = leb-true _ _ (both-left _ _ w); value = both-right _ _ w }
 
-pub fits-all : (b : List ℕ) → AllObjectsFit b → allObjectsFit b ≡ true
-unfolding allObjectsFit objectFits
+pub fits-all : (b : List ℕ) → AllObjectsFit b → allStoredObjectsFitRows b ≡ true
+unfolding allStoredObjectsFitRows storedObjectAbsentOrFitsRow
 fits-all b f =
-    every-all (objectFits b) dictionaryRows blankRow
+    every-all (storedObjectAbsentOrFitsRow b) dictionaryRows blankRow
     (λ k h. let w = f k (omega (arith, rows-length)) in both-yes _ _ (le-leb _ _ (w .length-byte)) (w .value))
 
 -- ---- running
 
 -- a start must bring a row's object or need not
-must-bit : every (λ (r : Row). leb (r .must) required) dictionaryRows ≡ true
+must-bit : every (λ (r : Row). leb (r .must) requiredAtStart) dictionaryRows ≡ true
 unfolding dictionaryRows every both
 must-bit = refl
 
-pub all-brought : (b : List ℕ) → allRequiredPresent b ≡ true → (k : ℕ) → k < rowCount → rowAt k .must ≡ required → hasObject b (rowAt k .tag) ≡ true
-unfolding allRequiredPresent isPresentIfRequired
+pub all-brought : (b : List ℕ) → allRequiredAtStartPresent b ≡ true → (k : ℕ) → k < rowCount → rowAt k .must ≡ requiredAtStart → hasObject b (rowAt k .tag) ≡ true
+unfolding allRequiredAtStartPresent isPresentIfRequiredAtStart
 all-brought b e k h m =
-    sym (either-false _ (ne-eqb (rowAt k .must) 0 (λ z. omega arith))) ∙ at (isPresentIfRequired b) dictionaryRows blankRow e k (omega (arith, rows-length))
+    sym (either-false _ (ne-eqb (rowAt k .must) 0 (λ z. omega arith))) ∙ at (isPresentIfRequiredAtStart b) dictionaryRows blankRow e k (omega (arith, rows-length))
 
-pub brought-all : (b : List ℕ) → ((k : ℕ) → k < rowCount → rowAt k .must ≡ required → hasObject b (rowAt k .tag) ≡ true) → allRequiredPresent b ≡ true
-unfolding allRequiredPresent isPresentIfRequired
-brought-all b f = every-all (isPresentIfRequired b) dictionaryRows blankRow (λ k h. go k h (bool-cases (eqb (rowAt k .must) optional)))
+pub brought-all : (b : List ℕ) → ((k : ℕ) → k < rowCount → rowAt k .must ≡ requiredAtStart → hasObject b (rowAt k .tag) ≡ true) → allRequiredAtStartPresent b ≡ true
+unfolding allRequiredAtStartPresent isPresentIfRequiredAtStart
+brought-all b f = every-all (isPresentIfRequiredAtStart b) dictionaryRows blankRow (λ k h. go k h (bool-cases (eqb (rowAt k .must) optionalAtStart)))
   where
-    go : (k : ℕ) → k < length dictionaryRows → (eqb (rowAt k .must) optional ≡ true) ⊎ (eqb (rowAt k .must) optional ≡ false) → isPresentIfRequired b (rowAt k) ≡ true
+    go : (k : ℕ) → k < length dictionaryRows → (eqb (rowAt k .must) optionalAtStart ≡ true) ⊎ (eqb (rowAt k .must) optionalAtStart ≡ false) → isPresentIfRequiredAtStart b (rowAt k) ≡ true
     go k h (inl y) = either-left _ _ y
     go k h (inr n) =
-        let l : rowAt k .must ≤ 1 = leb-true _ _ (at (λ (r : Row). leb (r .must) required) dictionaryRows blankRow must-bit k h) in
-        let z = eqb-false (rowAt k .must) optional n in
+        let l : rowAt k .must ≤ 1 = leb-true _ _ (at (λ (r : Row). leb (r .must) requiredAtStart) dictionaryRows blankRow must-bit k h) in
+        let z = eqb-false (rowAt k .must) optionalAtStart n in
         either-right _ _ (f k (omega (arith, rows-length)) (omega arith))
 
-pub runs : (b : List ℕ) → runningRanges b ≡ true → RunningClauses b
-unfolding runningRanges lastResponseAbsent every
+pub runs : (b : List ℕ) → inRunningRanges b ≡ true → RunningClauses b
+unfolding inRunningRanges lastResponseObjectsAbsent every
 runs b e =
     let p = both-right _ _ e in
     let q = both-right _ _ p in
@@ -87,8 +87,8 @@ runs b e =
       no-9F61 = absent-of _ (both-left _ _ (both-right _ _ x));
     }
 
-pub running-passes : (b : List ℕ) → RunningClauses b → runningRanges b ≡ true
-unfolding runningRanges lastResponseAbsent every
+pub running-passes : (b : List ℕ) → RunningClauses b → inRunningRanges b ≡ true
+unfolding inRunningRanges lastResponseObjectsAbsent every
 running-passes b r =
     both-yes _ _ (r .results)
     (both-yes _ _ (brought-all b (r .brought))
@@ -101,17 +101,17 @@ running-passes b r =
 
 -- ---- phase by phase
 
-pub fresh-clauses : (n : ℕ) (b : List ℕ) → length b ≡ storeSize → freshRanges n b ≡ true → FreshClauses n b
-unfolding freshRanges
+pub fresh-clauses : (n : ℕ) (b : List ℕ) → length b ≡ storeSize → inFreshRanges n b ≡ true → FreshClauses n b
+unfolding inFreshRanges
 fresh-clauses n b l e =
     record { count = eqb-true n 0 (both-left _ _ e); store = zeros-of b (both-right _ _ e) ∙ ap (λ (m : ℕ). replicate m 0) l }
 
-pub fresh-passes : (n : ℕ) (b : List ℕ) → FreshClauses n b → freshRanges n b ≡ true
-unfolding freshRanges
+pub fresh-passes : (n : ℕ) (b : List ℕ) → FreshClauses n b → inFreshRanges n b ≡ true
+unfolding inFreshRanges
 fresh-passes n b c = both-yes _ _ (eq-eqb n 0 (c .count)) (rw (c .store) (zeros-are storeSize))
 
-pub gpo-clauses : (n : ℕ) (b : List ℕ) → AllObjectsFit b → gpoRanges n b ≡ true → GpoClauses n b
-unfolding gpoRanges
+pub gpo-clauses : (n : ℕ) (b : List ℕ) → AllObjectsFit b → inGpoRanges n b ≡ true → GpoClauses n b
+unfolding inGpoRanges
 gpo-clauses n b f e =
     let p = both-right _ _ e in
     let q = both-right _ _ p in
@@ -125,8 +125,8 @@ gpo-clauses n b f e =
       count = eqb-true n 1 (both-right _ _ u);
     }
 
-pub gpo-passes : (n : ℕ) (b : List ℕ) → GpoClauses n b → gpoRanges n b ≡ true
-unfolding gpoRanges
+pub gpo-passes : (n : ℕ) (b : List ℕ) → GpoClauses n b → inGpoRanges n b ≡ true
+unfolding inGpoRanges
 gpo-passes n b c =
     both-yes _ _ (running-passes b (c .runs))
     (both-yes _ _ (is-lacking b 0x82 (c .no-82))
@@ -134,8 +134,8 @@ gpo-passes n b c =
     (both-yes _ _ (results-zero b (c .zero-95))
     (eq-eqb n 1 (c .count)))))
 
-pub record-clauses : (p : AwaitedRecord) (n : ℕ) (b : List ℕ) → AllObjectsFit b → recordRanges p n b ≡ true → RecordClauses p n b
-unfolding recordRanges
+pub record-clauses : (p : AwaitedRecord) (n : ℕ) (b : List ℕ) → AllObjectsFit b → inRecordRanges p n b ≡ true → RecordClauses p n b
+unfolding inRecordRanges
 record-clauses p n b f e =
     let q = both-right _ _ e in
     let u = both-right _ _ q in
@@ -150,23 +150,23 @@ record-clauses p n b f e =
       limit = eqb-true (p .limit) (transactionLimit b) (both-left _ _ k);
       afl = both-left _ _ v;
       first = leb-true 1 (p .number) (both-left _ _ (both-left _ _ w));
-      last = leb-true (p .number) (storedRecordCount b) (both-right _ _ (both-left _ _ w));
+      last = leb-true (p .number) (storedAflRecordCount b) (both-right _ _ (both-left _ _ w));
       count = eqb-true n (1 + p .number) (both-right _ _ w);
     }
 
-pub record-passes : (p : AwaitedRecord) (n : ℕ) (b : List ℕ) → RecordClauses p n b → recordRanges p n b ≡ true
-unfolding recordRanges
+pub record-passes : (p : AwaitedRecord) (n : ℕ) (b : List ℕ) → RecordClauses p n b → inRecordRanges p n b ≡ true
+unfolding inRecordRanges
 record-passes p n b c =
     both-yes _ _ (running-passes b (c .runs))
     (both-yes _ _ (c .mode)
     (both-yes _ _ (results-zero b (c .zero-95))
     (both-yes _ _ (eq-eqb (p .limit) (transactionLimit b) (c .limit))
     (both-yes _ _ (c .afl)
-    (both-yes _ _ (both-yes _ _ (le-leb 1 (p .number) (c .first)) (le-leb (p .number) (storedRecordCount b) (c .last)))
+    (both-yes _ _ (both-yes _ _ (le-leb 1 (p .number) (c .first)) (le-leb (p .number) (storedAflRecordCount b) (c .last)))
     (eq-eqb n (1 + p .number) (c .count)))))))
 
-pub cryptogram-clauses : (a : RequestedCryptogram) (n : ℕ) (b : List ℕ) → cryptogramRanges a n b ≡ true → CryptogramClauses a n b
-unfolding cryptogramRanges cryptogramDataPresent every
+pub cryptogram-clauses : (a : RequestedCryptogram) (n : ℕ) (b : List ℕ) → inCryptogramRanges a n b ≡ true → CryptogramClauses a n b
+unfolding inCryptogramRanges expiryPanAndCdol1NonEmpty every
 cryptogram-clauses a n b e =
     let p = both-right _ _ e in
     let q = both-right _ _ p in
@@ -183,11 +183,11 @@ cryptogram-clauses a n b e =
       some-5F24 = ltb-true 0 _ (both-left _ _ k);
       some-5A = ltb-true 0 _ (both-left _ _ (both-right _ _ k));
       some-8C = ltb-true 0 _ (both-left _ _ (both-right _ _ (both-right _ _ k)));
-      count = eqb-true n (2 + storedRecordCount b) (both-right _ _ u);
+      count = eqb-true n (2 + storedAflRecordCount b) (both-right _ _ u);
     }
 
-pub cryptogram-passes : (a : RequestedCryptogram) (n : ℕ) (b : List ℕ) → CryptogramClauses a n b → cryptogramRanges a n b ≡ true
-unfolding cryptogramRanges cryptogramDataPresent every
+pub cryptogram-passes : (a : RequestedCryptogram) (n : ℕ) (b : List ℕ) → CryptogramClauses a n b → inCryptogramRanges a n b ≡ true
+unfolding inCryptogramRanges expiryPanAndCdol1NonEmpty every
 cryptogram-passes a n b c =
     both-yes _ _ (running-passes b (c .runs))
     (both-yes _ _ (c .mode)
@@ -195,10 +195,10 @@ cryptogram-passes a n b c =
     (both-yes _ _ (c .verified)
     (both-yes _ _ (eq-eqb (a .limit) (transactionLimit b) (c .limit))
     (both-yes _ _ (c .afl)
-    (eq-eqb n (2 + storedRecordCount b) (c .count)))))))
+    (eq-eqb n (2 + storedAflRecordCount b) (c .count)))))))
 
-pub checksum-clauses : (x : AwaitedChecksum) (n : ℕ) (b : List ℕ) → AllObjectsFit b → checksumRanges x n b ≡ true → ChecksumClauses x n b
-unfolding checksumRanges trackDataPresent every
+pub checksum-clauses : (x : AwaitedChecksum) (n : ℕ) (b : List ℕ) → AllObjectsFit b → inChecksumRanges x n b ≡ true → ChecksumClauses x n b
+unfolding inChecksumRanges track2AndBitmapsNonEmpty every
 checksum-clauses x n b f e =
     let p = both-right _ _ e in
     let z = both-right _ _ p in
@@ -219,11 +219,11 @@ checksum-clauses x n b f e =
       some-9F66 = ltb-true 0 _ (both-left _ _ k3);
       some-9F67 = ltb-true 0 _ (both-left _ _ (both-right _ _ k3));
       limit = eqb-true (x .limit) (transactionLimit b) (both-left _ _ l);
-      count = eqb-true n (2 + storedRecordCount b) (both-right _ _ u);
+      count = eqb-true n (2 + storedAflRecordCount b) (both-right _ _ u);
     }
 
-pub checksum-passes : (x : AwaitedChecksum) (n : ℕ) (b : List ℕ) → ChecksumClauses x n b → checksumRanges x n b ≡ true
-unfolding checksumRanges trackDataPresent every
+pub checksum-passes : (x : AwaitedChecksum) (n : ℕ) (b : List ℕ) → ChecksumClauses x n b → inChecksumRanges x n b ≡ true
+unfolding inChecksumRanges track2AndBitmapsNonEmpty every
 checksum-passes x n b c =
     both-yes _ _ (running-passes b (c .runs))
     (both-yes _ _ (c .mode)
@@ -231,44 +231,44 @@ checksum-passes x n b c =
     (both-yes _ _ (both-yes _ _ (lt-ltb 0 _ (c .some-9F6B)) (both-yes _ _ (lt-ltb 0 _ (c .some-9F65)) (both-yes _ _ (lt-ltb 0 _ (c .some-9F66)) (both-yes _ _ (lt-ltb 0 _ (c .some-9F67)) refl))))
     (both-yes _ _ (eq-eqb (x .limit) (transactionLimit b) (c .limit))
     (both-yes _ _ (c .afl)
-    (eq-eqb n (2 + storedRecordCount b) (c .count)))))))
+    (eq-eqb n (2 + storedAflRecordCount b) (c .count)))))))
 
-pub ended-clauses : (x : Ending) (n : ℕ) → endedRanges x n ≡ true → EndedClauses x n
-unfolding endedRanges
+pub ended-clauses : (x : Ending) (n : ℕ) → inEndedRanges x n ≡ true → EndedClauses x n
+unfolding inEndedRanges
 ended-clauses x n e = record { count = leb-true n mostCommands (both-left _ _ e); reason = both-right _ _ e }
 
-pub ended-passes : (x : Ending) (n : ℕ) → EndedClauses x n → endedRanges x n ≡ true
-unfolding endedRanges
+pub ended-passes : (x : Ending) (n : ℕ) → EndedClauses x n → inEndedRanges x n ≡ true
+unfolding inEndedRanges
 ended-passes x n c = both-yes _ _ (le-leb n mostCommands (c .count)) (c .reason)
 
 -- ---- the whole test
 
 module _ (n : ℕ) (b : List ℕ) where
-  waiting-clauses : (w : AwaitedResponse) → AllObjectsFit b → waitingRanges w n b ≡ true → WaitingClauses w n b
+  waiting-clauses : (w : AwaitedResponse) → AllObjectsFit b → inWaitingRanges w n b ≡ true → WaitingClauses w n b
   waiting-clauses AwaitedResponse.Gpo f e = gpo-clauses n b f e
   waiting-clauses (AwaitedResponse.Record p) f e = record-clauses p n b f e
   waiting-clauses (AwaitedResponse.Cryptogram a) f e = cryptogram-clauses a n b e
   waiting-clauses (AwaitedResponse.Checksum x) f e = checksum-clauses x n b f e
 
-  waiting-passes : (w : AwaitedResponse) → WaitingClauses w n b → waitingRanges w n b ≡ true
+  waiting-passes : (w : AwaitedResponse) → WaitingClauses w n b → inWaitingRanges w n b ≡ true
   waiting-passes AwaitedResponse.Gpo c = gpo-passes n b c
   waiting-passes (AwaitedResponse.Record p) c = record-passes p n b c
   waiting-passes (AwaitedResponse.Cryptogram a) c = cryptogram-passes a n b c
   waiting-passes (AwaitedResponse.Checksum x) c = checksum-passes x n b c
 
-  phase-clauses : (p : Phase) → length b ≡ storeSize → AllObjectsFit b → phaseRanges p n b ≡ true → PhaseClauses p n b
+  phase-clauses : (p : Phase) → length b ≡ storeSize → AllObjectsFit b → inPhaseRanges p n b ≡ true → PhaseClauses p n b
   phase-clauses Phase.Fresh l f e = fresh-clauses n b l e
   phase-clauses (Phase.Waiting w) l f e = waiting-clauses w f e
   phase-clauses (Phase.Ended x) l f e = ended-clauses x n e
 
-  phase-passes : (p : Phase) → PhaseClauses p n b → phaseRanges p n b ≡ true
+  phase-passes : (p : Phase) → PhaseClauses p n b → inPhaseRanges p n b ≡ true
   phase-passes Phase.Fresh c = fresh-passes n b c
   phase-passes (Phase.Waiting w) c = waiting-passes w c
   phase-passes (Phase.Ended x) c = ended-passes x n c
 
 -- a record that passes keeps every clause
-pub clauses : (s : Session) → inRanges s ≡ true → RangesClauses s
-unfolding inRanges
+pub clauses : (s : Session) → sessionRecordInRanges s ≡ true → RangesClauses s
+unfolding sessionRecordInRanges
 clauses s e =
     let p = both-right _ _ e in
     let l = eqb-true (length (storeBytes s)) storeSize (both-left _ _ e) in
@@ -276,8 +276,8 @@ clauses s e =
     record { size = l; fits = f; phase = phase-clauses (s .count) (storeBytes s) (s .phase) l f (both-right _ _ p) }
 
 -- a record that keeps every clause passes
-pub clauses-pass : (s : Session) → RangesClauses s → inRanges s ≡ true
-unfolding inRanges
+pub clauses-pass : (s : Session) → RangesClauses s → sessionRecordInRanges s ≡ true
+unfolding sessionRecordInRanges
 clauses-pass s r =
     both-yes _ _ (eq-eqb (length (storeBytes s)) storeSize (r .size))
     (both-yes _ _ (fits-all (storeBytes s) (r .fits)) (phase-passes (s .count) (storeBytes s) (s .phase) (r .phase)))

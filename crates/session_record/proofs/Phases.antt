@@ -10,7 +10,7 @@ use native.Mathlib.Omega.{arith}
 use lib.ListN.{length, replicate}
 use Rattle.basics.proofs.Laws.{bool-cases, both-left, either-false}
 use Rattle.dictionary.specs.Rows.{storeSize}
-use Rattle.store.specs.Place.{StoredValue, absent, present, bytesOfValue, isPresent, objectValue}
+use Rattle.store.specs.Place.{StoredValue, absent, present, bytesOrEmptyIfAbsent, isPresent, objectValue}
 use Rattle.afl.specs.Records.{acceptsAfl}
 use Rattle.afl.proofs.Laws.{accepted-total, accepted-length}
 use Rattle.analysis.specs.Bits.{valueHasBit}
@@ -22,11 +22,11 @@ use Rattle.session_record.specs.declared.Ending.{Ending}
 use Rattle.session_record.specs.declared.AwaitedResponse.{AwaitedResponse}
 use Rattle.session_record.specs.declared.Phase.{Phase}
 use Rattle.session_record.specs.declared.Session.{Session}
-use Rattle.session_record.specs.Numbers.{reasonMatchesOutcome, outcomeOfReason}
-use Rattle.basics.specs.Reason.{reasonMode}
-use Rattle.session_record.specs.Session.{storeBytes, freshSession, waitingSession, endingOf}
+use Rattle.session_record.specs.Numbers.{reasonMatchesOutcome, outcomeOfNonzeroReason}
+use Rattle.basics.specs.Reason.{reasonNoSupportedMode}
+use Rattle.session_record.specs.Session.{storeBytes, freshSession, sessionInPhaseWithCount, endingOf}
 use Rattle.store.specs.Held.{hasObject}
-use Rattle.session_record.specs.Ranges.{emvMode, magStripeMode, emvOrMagStripeMode, storedAfl, mostCommands, inRanges}
+use Rattle.session_record.specs.Ranges.{emvMode, magStripeMode, emvOrMagStripeMode, storedAfl, mostCommands, sessionRecordInRanges}
 use Rattle.session_record.proofs.Clauses.{AllObjectsFit, FreshClauses, GpoClauses, RecordClauses, CryptogramClauses, ChecksumClauses, EndedClauses, WaitingClauses, PhaseClauses}
 use Rattle.session_record.proofs.Values.{bytes-there}
 use Rattle.session_record.proofs.Laws.{clauses, clauses-pass}
@@ -39,7 +39,7 @@ endedSession s e = record { phase = Phase.Ended e; count = s .count; store = s .
 
 -- ---- from the ranges
 
-module _ (s : Session) (e : inRanges s ≡ true) where
+module _ (s : Session) (e : sessionRecordInRanges s ≡ true) where
   pub store-size : length (storeBytes s) ≡ storeSize
   store-size = clauses s e .size
 
@@ -84,7 +84,7 @@ afl-there b a = bytes-there (objectValue b 0x94) (omega (arith, accepted-length 
 pub mode-there : (b : List ℕ) → emvMode b ≡ true → hasObject b 0x82 ≡ true
 mode-there b e = go (objectValue b 0x82) e
   where
-    go : (x : StoredValue) → valueHasBit (bytesOfValue x) 2 8 ≡ true → isPresent x ≡ true
+    go : (x : StoredValue) → valueHasBit (bytesOrEmptyIfAbsent x) 2 8 ≡ true → isPresent x ≡ true
     go absent m = cc
     go (present v) m = refl
 
@@ -108,26 +108,26 @@ module _ (n : ℕ) (b : List ℕ) where
   phase-most (Phase.Waiting w) c = waiting-most w c
   phase-most (Phase.Ended x) c = c .count
 
-pub count-most : (s : Session) → inRanges s ≡ true → s .count ≤ mostCommands
+pub count-most : (s : Session) → sessionRecordInRanges s ≡ true → s .count ≤ mostCommands
 count-most s e = phase-most (s .count) (storeBytes s) (s .phase) (clauses s e .phase)
 
 -- ---- records built anew
 
-pub fresh-keeps : inRanges freshSession ≡ true
+pub fresh-keeps : sessionRecordInRanges freshSession ≡ true
 fresh-keeps = clauses-pass freshSession (record { size = refl; fits = empty-fits; phase = record { count = refl; store = refl } })
 
 pub waiting-keeps : (s : Session) (p : Phase) (n : ℕ) → length (storeBytes s) ≡ storeSize → AllObjectsFit (storeBytes s) → PhaseClauses p n (storeBytes s)
-    → inRanges (waitingSession s p n) ≡ true
-waiting-keeps s p n l f c = clauses-pass (waitingSession s p n) (record { size = l; fits = f; phase = c })
+    → sessionRecordInRanges (sessionInPhaseWithCount s p n) ≡ true
+waiting-keeps s p n l f c = clauses-pass (sessionInPhaseWithCount s p n) (record { size = l; fits = f; phase = c })
 
 module _ (s : Session) (o : Outcome) (n : ℕ) (g : reasonMatchesOutcome o n ≡ true) where
-  pub ended-keeps : length (storeBytes s) ≡ storeSize → AllObjectsFit (storeBytes s) → s .count ≤ mostCommands → inRanges (endedSession s (endingOf o n)) ≡ true
+  pub ended-keeps : length (storeBytes s) ≡ storeSize → AllObjectsFit (storeBytes s) → s .count ≤ mostCommands → sessionRecordInRanges (endedSession s (endingOf o n)) ≡ true
   ended-keeps l f c = clauses-pass (endedSession s (endingOf o n)) (record { size = l; fits = f; phase = record { count = c; reason = g } })
 
   -- a record that is in its ranges keeps them when it ends
-  pub ends-keeps : inRanges s ≡ true → inRanges (endedSession s (endingOf o n)) ≡ true
+  pub ends-keeps : sessionRecordInRanges s ≡ true → sessionRecordInRanges (endedSession s (endingOf o n)) ≡ true
   ends-keeps e = ended-keeps (store-size s e) (store-fits s e) (count-most s e)
 
 -- and when it ends for a reason other than none
-pub fails-keeps : (s : Session) (n : ℕ) → 1 ≤ n → n ≤ reasonMode → inRanges s ≡ true → inRanges (endedSession s (endingOf (outcomeOfReason n) n)) ≡ true
-fails-keeps s n low high e = ends-keeps s (outcomeOfReason n) n (outcome-goes n low high) e
+pub fails-keeps : (s : Session) (n : ℕ) → 1 ≤ n → n ≤ reasonNoSupportedMode → sessionRecordInRanges s ≡ true → sessionRecordInRanges (endedSession s (endingOf (outcomeOfNonzeroReason n) n)) ≡ true
+fails-keeps s n low high e = ends-keeps s (outcomeOfNonzeroReason n) n (outcome-goes n low high) e

@@ -9,13 +9,13 @@ use native.Mathlib.Omega.{arith}
 use lib.Dec.{eqb}
 use lib.ListN.{length}
 use Rattle.basics.specs.Choice.{if, both, either, every}
-use Rattle.dictionary.specs.Rows.{Row, dictionaryRows, rowIn, optional}
-use Rattle.dictionary.specs.Named.{requiredCount, requiredRows}
+use Rattle.dictionary.specs.Rows.{Row, dictionaryRows, rowIn, optionalAtStart}
+use Rattle.dictionary.specs.Named.{requiredAtStartCount, rowNumbersRequiredAtStart}
 use Rattle.store.specs.Place.{rowValue, isPresent}
 use Rattle.store.specs.Held.{hasObject}
 use Rattle.store.proofs.Rows.{rows-length}
-use Rattle.session_record.specs.Ranges.{isPresentIfRequired, allRequiredPresent}
-use Rattle.session_record.specs.Inner.{requiredFrom, required-numbers}
+use Rattle.session_record.specs.Ranges.{isPresentIfRequiredAtStart, allRequiredAtStartPresent}
+use Rattle.session_record.specs.Inner.{rowNumbersRequiredAtStartFrom, required-numbers}
 use Rattle.session_record.proofs.Tags.{row-found, held-is}
 
 -- row k's object is present
@@ -30,21 +30,21 @@ more f n ns false t u e h = ap₂ both e h
 
 -- the rows of a table whose first row has the number n
 from : (b : List ℕ) (n : ℕ) (table : List Row) → ((k : ℕ) → k < length table → hasObject b (rowIn table k .tag) ≡ thereAt b (n + k))
-    → every (isPresentIfRequired b) table ≡ every (thereAt b) (requiredFrom n table)
-unfolding every isPresentIfRequired requiredFrom
+    → every (isPresentIfRequiredAtStart b) table ≡ every (thereAt b) (rowNumbersRequiredAtStartFrom n table)
+unfolding every isPresentIfRequiredAtStart rowNumbersRequiredAtStartFrom
 from b n [] f = refl
 from b n (r ∷ rs) f =
-    more (thereAt b) n (requiredFrom (suc n) rs) (eqb (r .must) optional) (hasObject b (r .tag)) (every (isPresentIfRequired b) rs)
+    more (thereAt b) n (rowNumbersRequiredAtStartFrom (suc n) rs) (eqb (r .must) optionalAtStart) (hasObject b (r .tag)) (every (isPresentIfRequiredAtStart b) rs)
     (f 0 (omega arith) ∙ ap (thereAt b) (add-zero n))
     (from b (suc n) rs (λ k h. let e : n + suc k ≡ suc n + k = omega arith in f (suc k) (omega arith) ∙ ap (thereAt b) e))
 
 -- the dictionary's
-pub brought-rows : (b : List ℕ) → allRequiredPresent b ≡ every (thereAt b) requiredRows
-unfolding allRequiredPresent
+pub brought-rows : (b : List ℕ) → allRequiredAtStartPresent b ≡ every (thereAt b) rowNumbersRequiredAtStart
+unfolding allRequiredAtStartPresent
 brought-rows b =
     from b 0 dictionaryRows (λ k h. held-is b _ k (row-found k (omega (arith, rows-length))) refl refl ∙ ap (thereAt b) (sym (zero-add k)))
     ∙ ap (every (thereAt b)) required-numbers
 
-pub rows-many : length requiredRows ≡ requiredCount
-unfolding requiredRows
+pub rows-many : length rowNumbersRequiredAtStart ≡ requiredAtStartCount
+unfolding rowNumbersRequiredAtStart
 rows-many = refl

@@ -12,7 +12,7 @@ use lib.Seq.{length-take-le, getD-at}
 use lib.Dec.{eqb}
 use borrow.Author.Tests.{eqb-false, not-true, ne-eqb}
 use Rattle.basics.specs.Choice.{both, either, every}
-use Rattle.basics.specs.Number.{hasBit}
+use Rattle.basics.specs.Number.{hasBitOfWeight}
 use Rattle.basics.proofs.Laws.{both-yes, both-right, either-false}
 use Rattle.basics.proofs.Order.{equal-or-not}
 use Rattle.basics.proofs.Table.{at}
@@ -20,35 +20,35 @@ use Rattle.dictionary.specs.Rows.{Row, dictionaryRows, blankRow, rowAt, rowCoun
 use Rattle.dictionary.specs.Named.{rowTvr}
 use Rattle.dictionary.specs.declared.RowFound.{RowFound}
 use Rattle.dictionary.specs.declared.RowFound.the-variants.{At, Unknown}
-use Rattle.dictionary.specs.Form.{fitsRow}
+use Rattle.dictionary.specs.Form.{lengthAndDigitsFitRow}
 use Rattle.dictionary.specs.TerminalType.{listedTerminalType}
 use Rattle.dictionary.proofs.Find.{found}
 use Rattle.dictionary.proofs.Fit.{fits-length}
-use Rattle.store.specs.Place.{StoredValue, absent, present, bytesOfValue, isPresent, rowOffset, lengthByte, rowValue, objectValue, putRow}
+use Rattle.store.specs.Place.{StoredValue, absent, present, bytesOrEmptyIfAbsent, isPresent, rowOffset, rowLengthPlusOneOrZero, rowValue, objectValue, putRow}
 use Rattle.store.proofs.Laws.{lies, put-length, put-get, put-other, place-other, length-byte-at, by-row, unknown-absent, empty-holds-nothing}
 use Rattle.store.proofs.Rows.{rows-length, fits-row, rows-size}
 use Rattle.store.specs.Held.{hasObject, isZeroByte}
-use Rattle.session_record.specs.Ranges.{valueFits, allObjectsFit, lastResponseTags}
+use Rattle.session_record.specs.Ranges.{absentOrLengthAndDigitsFitRow, allStoredObjectsFitRows, tagsOnlyInLastResponse}
 use Rattle.session_record.proofs.Clauses.{RowObjectFits, AllObjectsFit, RunningClauses}
 use Rattle.session_record.proofs.Tags.{row-found, value-is, length-is}
 use Rattle.session_record.proofs.Values.{zeros-of}
 use Rattle.session_record.proofs.Laws.{fits-all}
 
 -- an object fits by what is in its row's place
-row-fits : (b : List ℕ) (k : ℕ) → k < rowCount → lengthByte dictionaryRows b k ≤ rowAt k .greatest + 1 → valueFits (rowAt k) (rowValue dictionaryRows b k) ≡ true → RowObjectFits b (rowAt k)
+row-fits : (b : List ℕ) (k : ℕ) → k < rowCount → rowLengthPlusOneOrZero dictionaryRows b k ≤ rowAt k .greatest + 1 → absentOrLengthAndDigitsFitRow (rowAt k) (rowValue dictionaryRows b k) ≡ true → RowObjectFits b (rowAt k)
 row-fits b k h l e =
     let f = row-found k h in
     record {
       length-byte = subst (λ (n : ℕ). n ≤ rowAt k .greatest + 1) (length-is b _ k f) l;
-      value = ap (valueFits (rowAt k)) (sym (value-is b _ k f)) ∙ e;
+      value = ap (absentOrLengthAndDigitsFitRow (rowAt k)) (sym (value-is b _ k f)) ∙ e;
     }
 
 -- and back
-fits-row-of : (b : List ℕ) (k : ℕ) → k < rowCount → RowObjectFits b (rowAt k) → (lengthByte dictionaryRows b k ≤ rowAt k .greatest + 1) × (valueFits (rowAt k) (rowValue dictionaryRows b k) ≡ true)
+fits-row-of : (b : List ℕ) (k : ℕ) → k < rowCount → RowObjectFits b (rowAt k) → (rowLengthPlusOneOrZero dictionaryRows b k ≤ rowAt k .greatest + 1) × (absentOrLengthAndDigitsFitRow (rowAt k) (rowValue dictionaryRows b k) ≡ true)
 fits-row-of b k h w =
     let f = row-found k h in (
       subst (λ (n : ℕ). n ≤ rowAt k .greatest + 1) (sym (length-is b _ k f)) (w .length-byte),
-      ap (valueFits (rowAt k)) (value-is b _ k f) ∙ w .value,
+      ap (absentOrLengthAndDigitsFitRow (rowAt k)) (value-is b _ k f) ∙ w .value,
     )
 
 -- ---- the empty store
@@ -64,11 +64,11 @@ empty-value k = rw rows-size at (empty-holds-nothing dictionaryRows k)
 pub empty-fits : AllObjectsFit (replicate storeSize 0)
 empty-fits k h =
     let z = length-byte-at dictionaryRows (replicate storeSize 0) k ∙ zeros-at storeSize (rowOffset dictionaryRows k) in
-    row-fits (replicate storeSize 0) k h (omega arith) (ap (valueFits (rowAt k)) (empty-value k))
+    row-fits (replicate storeSize 0) k h (omega arith) (ap (absentOrLengthAndDigitsFitRow (rowAt k)) (empty-value k))
 
 -- a store of zeros is the empty one
-pub zeros-fit : (b : List ℕ) → length b ≡ storeSize → every isZeroByte b ≡ true → allObjectsFit b ≡ true
-zeros-fit b l e = ap allObjectsFit (zeros-of b e ∙ ap (λ (n : ℕ). replicate n 0) l) ∙ fits-all (replicate storeSize 0) empty-fits
+pub zeros-fit : (b : List ℕ) → length b ≡ storeSize → every isZeroByte b ≡ true → allStoredObjectsFitRows b ≡ true
+zeros-fit b l e = ap allStoredObjectsFitRows (zeros-of b e ∙ ap (λ (n : ℕ). replicate n 0) l) ∙ fits-all (replicate storeSize 0) empty-fits
 
 -- it holds nothing
 pub empty-lacks : (t : ℕ) → objectValue (replicate storeSize 0) t ≡ absent
@@ -109,25 +109,25 @@ module _ (b : List ℕ) (k : ℕ) (v : List ℕ) (l : length b ≡ storeSize) (h
       go (At j) e =
           elim (equal-or-not j k) [ inl q ↦ ap isPresent (put-here t (e ∙ ap At q)) | inr q ↦ ap isPresent (put-named t j e q) ∙ p ]
 
-  put-byte : lengthByte dictionaryRows (putRow dictionaryRows b k v) k ≡ length v + 1
+  put-byte : rowLengthPlusOneOrZero dictionaryRows (putRow dictionaryRows b k v) k ≡ length v + 1
   unfolding putRow
   put-byte =
       let o = rowOffset dictionaryRows k in
       let a : length (take o b) ≡ o = length-take-le o b (omega (arith, lies dictionaryRows b k v (fits-row b k v l h g))) in
       length-byte-at dictionaryRows (putRow dictionaryRows b k v) k ∙ getD-at (take o b) (length v + 1) _ 0 o a
 
-  byte-other : (j : ℕ) → (j ≡ k → ⊥) → lengthByte dictionaryRows (putRow dictionaryRows b k v) j ≡ lengthByte dictionaryRows b j
-  unfolding lengthByte
+  byte-other : (j : ℕ) → (j ≡ k → ⊥) → rowLengthPlusOneOrZero dictionaryRows (putRow dictionaryRows b k v) j ≡ rowLengthPlusOneOrZero dictionaryRows b j
+  unfolding rowLengthPlusOneOrZero
   byte-other j ne = ap (λ (p : List ℕ). getD p 0 0) (place-other dictionaryRows b k v (fits-row b k v l h g) j ne)
 
 -- a put of a value that fits keeps every stored object fitting
-pub fits-kept : (b : List ℕ) (k : ℕ) (v : List ℕ) → length b ≡ storeSize → k < rowCount → fitsRow (rowAt k) v ≡ true → AllObjectsFit b → AllObjectsFit (putRow dictionaryRows b k v)
+pub fits-kept : (b : List ℕ) (k : ℕ) (v : List ℕ) → length b ≡ storeSize → k < rowCount → lengthAndDigitsFitRow (rowAt k) v ≡ true → AllObjectsFit b → AllObjectsFit (putRow dictionaryRows b k v)
 fits-kept b k v l h w f j i =
     elim (equal-or-not j k) [
       | inl q ↦ subst (λ (n : ℕ). RowObjectFits (putRow dictionaryRows b k v) (rowAt n)) (sym q)
-          (row-fits (putRow dictionaryRows b k v) k h (omega (arith, put-byte b k v l h g, g)) (ap (valueFits (rowAt k)) (put-get dictionaryRows b k v (fits-row b k v l h g)) ∙ w))
+          (row-fits (putRow dictionaryRows b k v) k h (omega (arith, put-byte b k v l h g, g)) (ap (absentOrLengthAndDigitsFitRow (rowAt k)) (put-get dictionaryRows b k v (fits-row b k v l h g)) ∙ w))
       | inr q ↦ (let z = fits-row-of b j i (f j i) in
-          row-fits (putRow dictionaryRows b k v) j i (omega (arith, byte-other b k v l h g j q)) (ap (valueFits (rowAt j)) (put-other dictionaryRows b k v (fits-row b k v l h g) j q) ∙ z .1))
+          row-fits (putRow dictionaryRows b k v) j i (omega (arith, byte-other b k v l h g j q)) (ap (absentOrLengthAndDigitsFitRow (rowAt j)) (put-other dictionaryRows b k v (fits-row b k v l h g) j q) ∙ z .1))
     ]
   where
     g : length v ≤ rowAt k .greatest
@@ -155,7 +155,7 @@ put-apart b k v l h g ts a i j = put-away b k v l h g (getD ts i 0) (apart-found
 
 -- what a running session's clauses speak of beyond what is there: the terminal's type and the last answer
 abbrev pub runningTags : List ℕ
-runningTags = 0x9F35 ∷ lastResponseTags
+runningTags = 0x9F35 ∷ tagsOnlyInLastResponse
 
 -- a rule of the dictionary: where the first test passes, so does the second
 implies : (Row → Bool) → (Row → Bool) → Row → Bool
@@ -166,13 +166,13 @@ unfolding implies
 rule f g t k h e = sym (either-false _ (ap not e)) ∙ at (implies f g) dictionaryRows blankRow t k (omega (arith, rows-length))
 
 abbrev startRow : Row → Bool
-startRow r = hasBit (r .setters) setByStart
+startRow r = hasBitOfWeight (r .setters) setByStart
 
 -- the card may set it, and not only in the last answer: in one to GPO or to a record, whose bits are the two lowest
 abbrev cardRow : Row → Bool
-cardRow r = both (hasBit (r .setters) setByCard) (not (eqb (r .answers % 4) 0))
+cardRow r = both (hasBitOfWeight (r .setters) setByCard) (not (eqb (r .answers % 4) 0))
 
-start-test : every (implies startRow (apartFrom (0x82 ∷ 0x94 ∷ 0x95 ∷ lastResponseTags))) dictionaryRows ≡ true
+start-test : every (implies startRow (apartFrom (0x82 ∷ 0x94 ∷ 0x95 ∷ tagsOnlyInLastResponse))) dictionaryRows ≡ true
 unfolding dictionaryRows every both either apartFrom implies
 start-test = refl
 
@@ -181,11 +181,11 @@ unfolding dictionaryRows every both either apartFrom implies
 card-test = refl
 
 -- what a start may set
-pub start-apart : (k : ℕ) → k < rowCount → hasBit (rowAt k .setters) setByStart ≡ true → apartFrom (0x82 ∷ 0x94 ∷ 0x95 ∷ lastResponseTags) (rowAt k) ≡ true
-start-apart = rule startRow (apartFrom (0x82 ∷ 0x94 ∷ 0x95 ∷ lastResponseTags)) start-test
+pub start-apart : (k : ℕ) → k < rowCount → hasBitOfWeight (rowAt k .setters) setByStart ≡ true → apartFrom (0x82 ∷ 0x94 ∷ 0x95 ∷ tagsOnlyInLastResponse) (rowAt k) ≡ true
+start-apart = rule startRow (apartFrom (0x82 ∷ 0x94 ∷ 0x95 ∷ tagsOnlyInLastResponse)) start-test
 
 -- what the card may set before the last answer
-pub card-apart : (k : ℕ) → k < rowCount → hasBit (rowAt k .setters) setByCard ≡ true → (rowAt k .answers % 4 ≡ 0 → ⊥) → apartFrom (0x95 ∷ runningTags) (rowAt k) ≡ true
+pub card-apart : (k : ℕ) → k < rowCount → hasBitOfWeight (rowAt k .setters) setByCard ≡ true → (rowAt k .answers % 4 ≡ 0 → ⊥) → apartFrom (0x95 ∷ runningTags) (rowAt k) ≡ true
 card-apart k h e a = rule cardRow (apartFrom (0x95 ∷ runningTags)) card-test k h (both-yes _ _ e (ap not (ne-eqb _ _ a)))
 
 -- the TVR is the session's own
@@ -202,7 +202,7 @@ runs-kept b d there same r =
     record {
       results = there 0x95 (r .results);
       brought = λ j i m. there (rowAt j .tag) (r .brought j i m);
-      terminal = ap (λ (x : StoredValue). listedTerminalType (getD (bytesOfValue x) 0 0)) (same 0 (omega arith)) ∙ r .terminal;
+      terminal = ap (λ (x : StoredValue). listedTerminalType (getD (bytesOrEmptyIfAbsent x) 0 0)) (same 0 (omega arith)) ∙ r .terminal;
       no-9F10 = same 1 (omega arith) ∙ r .no-9F10;
       no-9F26 = same 2 (omega arith) ∙ r .no-9F26;
       no-9F27 = same 3 (omega arith) ∙ r .no-9F27;

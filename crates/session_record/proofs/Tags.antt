@@ -12,7 +12,7 @@ use Rattle.basics.specs.Choice.{every}
 use Rattle.dictionary.specs.Rows.{dictionaryRows, rowAt, findRow, rowCount}
 use Rattle.dictionary.specs.declared.RowFound.the-variants.{At}
 use Rattle.dictionary.proofs.Rule.{rows-proper, proper-rising, find-row}
-use Rattle.store.specs.Place.{rowValue, objectValue, bytesOfValue, isPresent, lengthByte}
+use Rattle.store.specs.Place.{rowValue, objectValue, bytesOrEmptyIfAbsent, isPresent, rowLengthPlusOneOrZero}
 use Rattle.store.proofs.Laws.{by-row}
 use Rattle.store.proofs.Rows.{rows-length}
 use Rattle.dictionary.specs.Named.{rowAfl}
@@ -21,8 +21,8 @@ use Rattle.afl.specs.declared.AflCheck.{AflCheck}
 use Rattle.afl.specs.declared.AflExtent.{AflExtent}
 use Rattle.afl.specs.Records.{acceptsAfl, aflChecked}
 use Rattle.afl.proofs.Laws.{is-accepted, is-rejected}
-use Rattle.session_record.specs.Ranges.{storedAfl, storedRecordCount}
-use Rattle.store.specs.Held.{hasObject, lacksObject, storedBytes, hasNonEmpty, isZeroByte, isZeroed, lengthFound, storedLength}
+use Rattle.session_record.specs.Ranges.{storedAfl, storedAflRecordCount}
+use Rattle.store.specs.Held.{hasObject, lacksObject, storedBytes, hasNonEmptyObject, isZeroByte, isObjectZeroOrAbsent, lengthPlusOneOrZeroOfRowFound, storedLengthPlusOneOrZero}
 use Rattle.session_record.proofs.Tests.{some-not-none}
 
 -- every row is found by its tag
@@ -33,12 +33,12 @@ module _ (b : List ℕ) (t k : ℕ) (e : findRow dictionaryRows t ≡ At k) wher
   pub value-is : rowValue dictionaryRows b k ≡ objectValue b t
   value-is = sym (by-row dictionaryRows b t k e)
 
-  pub bytes-are : bytesOfValue (rowValue dictionaryRows b k) ≡ storedBytes b t
-  bytes-are = ap bytesOfValue value-is
+  pub bytes-are : bytesOrEmptyIfAbsent (rowValue dictionaryRows b k) ≡ storedBytes b t
+  bytes-are = ap bytesOrEmptyIfAbsent value-is
 
-  pub length-is : lengthByte dictionaryRows b k ≡ storedLength b t
-  unfolding storedLength
-  length-is = sym (ap (lengthFound b) e)
+  pub length-is : rowLengthPlusOneOrZero dictionaryRows b k ≡ storedLengthPlusOneOrZero b t
+  unfolding storedLengthPlusOneOrZero
+  length-is = sym (ap (lengthPlusOneOrZeroOfRowFound b) e)
 
   -- the answer x of a test of the row's place
   pub held-is : {r x : Bool} → r ≡ isPresent (rowValue dictionaryRows b k) → r ≡ x → hasObject b t ≡ x
@@ -48,29 +48,29 @@ module _ (b : List ℕ) (t k : ℕ) (e : findRow dictionaryRows t ≡ At k) wher
   lacks-is p q = ap not (held-is p q)
 
   -- the answer x of a test of the row's value for zeros
-  pub zero-is : {v : List ℕ} {r x : Bool} → v ≡ bytesOfValue (rowValue dictionaryRows b k) → r ≡ every isZeroByte v → r ≡ x → isZeroed b t ≡ x
+  pub zero-is : {v : List ℕ} {r x : Bool} → v ≡ bytesOrEmptyIfAbsent (rowValue dictionaryRows b k) → r ≡ every isZeroByte v → r ≡ x → isObjectZeroOrAbsent b t ≡ x
   zero-is p q h = sym (ap (every isZeroByte) (p ∙ bytes-are)) ∙ sym q ∙ h
 
   -- a part that is the row's value is empty, or not
-  pub size-is : {v : List ℕ} → v ≡ bytesOfValue (rowValue dictionaryRows b k) → not (eqb (length v) 0) ≡ hasNonEmpty b t
+  pub size-is : {v : List ℕ} → v ≡ bytesOrEmptyIfAbsent (rowValue dictionaryRows b k) → not (eqb (length v) 0) ≡ hasNonEmptyObject b t
   size-is {v} p = some-not-none (length v) ∙ ap (λ (l : List ℕ). ltb 0 (length l)) (p ∙ bytes-are)
 
-  pub size-none : {v : List ℕ} → v ≡ bytesOfValue (rowValue dictionaryRows b k) → length v ≡ 0 → hasNonEmpty b t ≡ false
+  pub size-none : {v : List ℕ} → v ≡ bytesOrEmptyIfAbsent (rowValue dictionaryRows b k) → length v ≡ 0 → hasNonEmptyObject b t ≡ false
   size-none {v} p z = sym (size-is p) ∙ ap not (eq-eqb (length v) 0 z)
 
-  pub size-some : {v : List ℕ} → v ≡ bytesOfValue (rowValue dictionaryRows b k) → (length v ≡ 0 → ⊥) → hasNonEmpty b t ≡ true
+  pub size-some : {v : List ℕ} → v ≡ bytesOrEmptyIfAbsent (rowValue dictionaryRows b k) → (length v ≡ 0 → ⊥) → hasNonEmptyObject b t ≡ true
   size-some {v} p z = sym (size-is p) ∙ ap not (ne-eqb (length v) 0 z)
 
 -- ---- the stored AFL, by what a check of the row's value reports
 
-module _ (b : List ℕ) {v : List ℕ} (p : v ≡ bytesOfValue (rowValue dictionaryRows b rowAfl)) where
+module _ (b : List ℕ) {v : List ℕ} (p : v ≡ bytesOrEmptyIfAbsent (rowValue dictionaryRows b rowAfl)) where
   located : v ≡ storedAfl b
   located = p ∙ bytes-are b 0x94 rowAfl at-94
 
   pub located-no : aflChecked v ≡ AflCheck.Rejected → acceptsAfl (storedAfl b) ≡ false
   located-no e = is-rejected _ (ap aflChecked (sym located) ∙ e)
 
-  pub located-yes : {x : AflExtent} → aflChecked v ≡ AflCheck.Accepted x → (acceptsAfl (storedAfl b) ≡ true) × (x .records ≡ storedRecordCount b)
+  pub located-yes : {x : AflExtent} → aflChecked v ≡ AflCheck.Accepted x → (acceptsAfl (storedAfl b) ≡ true) × (x .records ≡ storedAflRecordCount b)
   located-yes {x} e =
       let a = is-accepted _ x (ap aflChecked (sym located) ∙ e) in
       (a .0, ap (λ (y : AflExtent). y .records) (a .1))

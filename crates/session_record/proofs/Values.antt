@@ -9,16 +9,16 @@ use lib.ListN.{length, replicate}
 use borrow.Author.Tests.{eq-eqb, eqb-true}
 use Rattle.basics.specs.Choice.{every}
 use Rattle.basics.proofs.Laws.{both-yes, both-left, both-right}
-use Rattle.dictionary.specs.Rows.{dictionaryRows, rowAt, findRow, required}
+use Rattle.dictionary.specs.Rows.{dictionaryRows, rowAt, findRow, requiredAtStart}
 use Rattle.dictionary.specs.Named.{rowTvr}
 use Rattle.dictionary.specs.declared.RowFound.the-variants.{At}
-use Rattle.dictionary.specs.Form.{fitsRow}
+use Rattle.dictionary.specs.Form.{lengthAndDigitsFitRow}
 use Rattle.dictionary.proofs.Find.{found}
 use Rattle.dictionary.proofs.Fit.{fits-length}
 use Rattle.dictionary.proofs.Named.{at-95}
-use Rattle.store.specs.Place.{StoredValue, absent, present, bytesOfValue, isPresent, objectValue}
-use Rattle.store.specs.Held.{hasObject, lacksObject, storedBytes, isZeroByte, isZeroed}
-use Rattle.session_record.specs.Ranges.{valueFits, zeroTvr}
+use Rattle.store.specs.Place.{StoredValue, absent, present, bytesOrEmptyIfAbsent, isPresent, objectValue}
+use Rattle.store.specs.Held.{hasObject, lacksObject, storedBytes, isZeroByte, isObjectZeroOrAbsent}
+use Rattle.session_record.specs.Ranges.{absentOrLengthAndDigitsFitRow, zeroTvr}
 use Rattle.session_record.proofs.Clauses.{AllObjectsFit, RunningClauses}
 use Rattle.store.proofs.Rows.{rows-length}
 
@@ -28,12 +28,12 @@ pub absent-of : (x : StoredValue) → not (isPresent x) ≡ true → x ≡ absen
 absent-of absent e = refl
 absent-of (present v) e = cc
 
-pub present-of : (x : StoredValue) → isPresent x ≡ true → x ≡ present (bytesOfValue x)
+pub present-of : (x : StoredValue) → isPresent x ≡ true → x ≡ present (bytesOrEmptyIfAbsent x)
 present-of absent e = cc
 present-of (present v) e = refl
 
 -- a value that has bytes is there
-pub bytes-there : (x : StoredValue) → 0 < length (bytesOfValue x) → isPresent x ≡ true
+pub bytes-there : (x : StoredValue) → 0 < length (bytesOrEmptyIfAbsent x) → isPresent x ≡ true
 bytes-there absent h = absurd (omega arith)
 bytes-there (present v) h = refl
 
@@ -58,29 +58,29 @@ zeros-are (suc n) = both-yes _ _ (eq-eqb 0 0 refl) (zeros-are n)
 
 module _ (b : List ℕ) (f : AllObjectsFit b) (t k : ℕ) (e : findRow dictionaryRows t ≡ At k) where
   -- the value of a tag fits its row
-  pub value-fits : valueFits (rowAt k) (objectValue b t) ≡ true
+  pub value-fits : absentOrLengthAndDigitsFitRow (rowAt k) (objectValue b t) ≡ true
   value-fits =
       let w = found dictionaryRows t k e in
-      subst (λ (n : ℕ). valueFits (rowAt k) (objectValue b n) ≡ true) (w .1) (f k (omega (arith, rows-length)) .value)
+      subst (λ (n : ℕ). absentOrLengthAndDigitsFitRow (rowAt k) (objectValue b n) ≡ true) (w .1) (f k (omega (arith, rows-length)) .value)
 
   -- an object that is present has a length that its row allows
   pub held-length : hasObject b t ≡ true → (rowAt k .least ≤ length (storedBytes b t)) × (length (storedBytes b t) ≤ rowAt k .greatest)
   held-length h = go (objectValue b t) h value-fits
     where
-      go : (x : StoredValue) → isPresent x ≡ true → valueFits (rowAt k) x ≡ true → (rowAt k .least ≤ length (bytesOfValue x)) × (length (bytesOfValue x) ≤ rowAt k .greatest)
+      go : (x : StoredValue) → isPresent x ≡ true → absentOrLengthAndDigitsFitRow (rowAt k) x ≡ true → (rowAt k .least ≤ length (bytesOrEmptyIfAbsent x)) × (length (bytesOrEmptyIfAbsent x) ≤ rowAt k .greatest)
       go absent p q = let z : _≡_ {A = ℕ} 0 1 = cc in absurd (omega arith)
       go (present v) p q = fits-length (rowAt k) v q
 
   -- and its bytes fit
-  pub held-fits : hasObject b t ≡ true → fitsRow (rowAt k) (storedBytes b t) ≡ true
+  pub held-fits : hasObject b t ≡ true → lengthAndDigitsFitRow (rowAt k) (storedBytes b t) ≡ true
   held-fits h = go (objectValue b t) h value-fits
     where
-      go : (x : StoredValue) → isPresent x ≡ true → valueFits (rowAt k) x ≡ true → fitsRow (rowAt k) (bytesOfValue x) ≡ true
+      go : (x : StoredValue) → isPresent x ≡ true → absentOrLengthAndDigitsFitRow (rowAt k) x ≡ true → lengthAndDigitsFitRow (rowAt k) (bytesOrEmptyIfAbsent x) ≡ true
       go absent p q = cc
       go (present v) p q = q
 
 -- what a start must bring is present
-pub brought-there : (b : List ℕ) → RunningClauses b → (t k : ℕ) → findRow dictionaryRows t ≡ At k → rowAt k .must ≡ required → hasObject b t ≡ true
+pub brought-there : (b : List ℕ) → RunningClauses b → (t k : ℕ) → findRow dictionaryRows t ≡ At k → rowAt k .must ≡ requiredAtStart → hasObject b t ≡ true
 brought-there b r t k e m =
     let w = found dictionaryRows t k e in
     subst (λ (n : ℕ). hasObject b n ≡ true) (w .1) (r .brought k (omega (arith, rows-length)) m)
@@ -98,10 +98,10 @@ pub results-five : (b : List ℕ) → AllObjectsFit b → hasObject b 0x95 ≡ t
 results-five b f h = omega (arith, held-length b f 0x95 rowTvr at-95 h, results-length, results-most)
 
 -- 95 that is present and zero
-pub zero-results : (b : List ℕ) → AllObjectsFit b → hasObject b 0x95 ≡ true → isZeroed b 0x95 ≡ true → objectValue b 0x95 ≡ present zeroTvr
+pub zero-results : (b : List ℕ) → AllObjectsFit b → hasObject b 0x95 ≡ true → isObjectZeroOrAbsent b 0x95 ≡ true → objectValue b 0x95 ≡ present zeroTvr
 zero-results b f h z =
     present-of (objectValue b 0x95) h
     ∙ ap present (zeros-of (storedBytes b 0x95) z ∙ ap (λ (n : ℕ). replicate n 0) (results-five b f h))
 
-pub results-zero : (b : List ℕ) → objectValue b 0x95 ≡ present zeroTvr → isZeroed b 0x95 ≡ true
-results-zero b e = ap (λ (x : StoredValue). every isZeroByte (bytesOfValue x)) e ∙ zeros-are 5
+pub results-zero : (b : List ℕ) → objectValue b 0x95 ≡ present zeroTvr → isObjectZeroOrAbsent b 0x95 ≡ true
+results-zero b e = ap (λ (x : StoredValue). every isZeroByte (bytesOrEmptyIfAbsent x)) e ∙ zeros-are 5

@@ -15,14 +15,14 @@ use lib.Seq.{drop-cons}
 use Rattle.basics.specs.Choice.{if, both, either, every}
 use Rattle.basics.proofs.Laws.{if-yes, if-no, both-true, both-no-left, either-left, either-right, either-no}
 use Rattle.basics.proofs.Order.{equal-or-not}
-use Rattle.dictionary.specs.Rows.{Row, dictionaryRows, blankRow, rowAt, rowCount, optional}
-use Rattle.dictionary.specs.Named.{requiredCount}
-use Rattle.store.specs.Place.{rowOffset, rowPlace, lengthByte}
+use Rattle.dictionary.specs.Rows.{Row, dictionaryRows, blankRow, rowAt, rowCount, optionalAtStart}
+use Rattle.dictionary.specs.Named.{requiredAtStartCount}
+use Rattle.store.specs.Place.{rowOffset, rowPlaceBytes, rowLengthPlusOneOrZero}
 use Rattle.store.specs.Held.{hasObject}
 use Rattle.store.proofs.Laws.{there-is, length-byte-at}
 use Rattle.store.proofs.Rows.{rows-length}
-use Rattle.session_record.specs.Ranges.{objectFits, allObjectsFit, isPresentIfRequired, allRequiredPresent}
-use Rattle.session_record.specs.Inner.{RowsPassed, requiredIn, required-rows, allRowsFit}
+use Rattle.session_record.specs.Ranges.{storedObjectAbsentOrFitsRow, allStoredObjectsFitRows, isPresentIfRequiredAtStart, allRequiredAtStartPresent}
+use Rattle.session_record.specs.Inner.{AbsentRowsPassed, requiredAtStartCountIn, required-rows, allFitAndRequiredPresentIfAsked}
 use Rattle.session_record.proofs.Every.{every-no, every-yes, every-done}
 use Rattle.session_record.proofs.Tags.{row-found, held-is}
 use Rattle.session_record.proofs.Fit.{place-absent, object-place, Stands}
@@ -40,8 +40,8 @@ part true m = omega arith
 part false m = omega arith
 
 -- at most all of them
-at-most : (b : List ℕ) (table : List Row) → broughtIn b table ≤ requiredIn table
-unfolding broughtIn requiredIn
+at-most : (b : List ℕ) (table : List Row) → broughtIn b table ≤ requiredAtStartCountIn table
+unfolding broughtIn requiredAtStartCountIn
 at-most b [] = omega arith
 at-most b (r ∷ rs) = omega (arith, part (hasObject b (r .tag)) (r .must), at-most b rs)
 
@@ -54,7 +54,7 @@ alike a b c d f g =
     ]
 
 -- one more row, after rows of whose q objects n are there
-one-more : (m : ℕ) (t : Bool) (n q : ℕ) → n ≤ q → both (either (eqb m optional) t) (eqb n q) ≡ eqb (if t m 0 + n) (m + q)
+one-more : (m : ℕ) (t : Bool) (n q : ℕ) → n ≤ q → both (either (eqb m optionalAtStart) t) (eqb n q) ≡ eqb (if t m 0 + n) (m + q)
 unfolding if
 one-more m true n q l = both-true _ (either-right _ _ refl) ∙ alike n q (m + n) (m + q) (λ e. omega arith) (λ e. omega arith)
 one-more m false n q l =
@@ -64,19 +64,19 @@ one-more m false n q l =
     ]
 
 -- all are there exactly when as many are
-counted : (b : List ℕ) (table : List Row) → every (isPresentIfRequired b) table ≡ eqb (broughtIn b table) (requiredIn table)
-unfolding every isPresentIfRequired broughtIn requiredIn
+counted : (b : List ℕ) (table : List Row) → every (isPresentIfRequiredAtStart b) table ≡ eqb (broughtIn b table) (requiredAtStartCountIn table)
+unfolding every isPresentIfRequiredAtStart broughtIn requiredAtStartCountIn
 counted b [] = refl
 counted b (r ∷ rs) =
-    ap (both (either (eqb (r .must) optional) (hasObject b (r .tag)))) (counted b rs)
-    ∙ one-more (r .must) (hasObject b (r .tag)) (broughtIn b rs) (requiredIn rs) (at-most b rs)
+    ap (both (either (eqb (r .must) optionalAtStart) (hasObject b (r .tag)))) (counted b rs)
+    ∙ one-more (r .must) (hasObject b (r .tag)) (broughtIn b rs) (requiredAtStartCountIn rs) (at-most b rs)
 
 -- ---- past objects that are absent
 
-pub passed-none : (b : List ℕ) (k at : ℕ) → k ≤ rowCount → at ≡ rowOffset dictionaryRows k → RowsPassed b k k at
+pub passed-none : (b : List ℕ) (k at : ℕ) → k ≤ rowCount → at ≡ rowOffset dictionaryRows k → AbsentRowsPassed b k k at
 passed-none b k at h e = record { later = omega arith; within = h; place = e; absent = λ j l m. absurd (omega arith) }
 
-pub passed-more : (b : List ℕ) (from k at w : ℕ) → RowsPassed b from k at → k < rowCount → Stands k at w → getD b at 0 ≡ 0 → RowsPassed b from (k + 1) (at + w + 1)
+pub passed-more : (b : List ℕ) (from k at w : ℕ) → AbsentRowsPassed b from k at → k < rowCount → Stands k at w → getD b at 0 ≡ 0 → AbsentRowsPassed b from (k + 1) (at + w + 1)
 passed-more b from k at w p h s z =
     record {
       later = omega (arith, p .later);
@@ -94,14 +94,14 @@ passed-more b from k at w p h s z =
 
 -- it is at row k, and has counted n objects
 pub record Walk (b : List ℕ) (k n : ℕ) : Type 0 where
-  pub fits : allObjectsFit b ≡ every (objectFits b) (drop k dictionaryRows)
+  pub fits : allStoredObjectsFitRows b ≡ every (storedObjectAbsentOrFitsRow b) (drop k dictionaryRows)
   pub count : broughtIn b dictionaryRows ≡ n + broughtIn b (drop k dictionaryRows)
 
 pub walk-start : (b : List ℕ) → Walk b 0 0
-unfolding allObjectsFit
+unfolding allStoredObjectsFitRows
 walk-start b = record { fits = refl; count = omega arith }
 
-pub walk-most : (b : List ℕ) (k n : ℕ) → Walk b k n → n ≤ requiredCount
+pub walk-most : (b : List ℕ) (k n : ℕ) → Walk b k n → n ≤ requiredAtStartCount
 walk-most b k n w = omega (arith, w .count, at-most b dictionaryRows, required-rows)
 
 module _ (b : List ℕ) (k n : ℕ) (w : Walk b k n) (h : k < rowCount) where
@@ -113,29 +113,29 @@ module _ (b : List ℕ) (k n : ℕ) (w : Walk b k n) (h : k < rowCount) where
   unfolding broughtIn
   counted-on = let l : k < length dictionaryRows = omega (arith, rows-length) in rw (add-one, drop-cons dictionaryRows k blankRow)
 
-  fits-on : objectFits b (rowAt k) ≡ true → allObjectsFit b ≡ every (objectFits b) (drop (k + 1) dictionaryRows)
-  fits-on e = w .fits ∙ every-yes (objectFits b) dictionaryRows blankRow k (omega (arith, rows-length)) e
+  fits-on : storedObjectAbsentOrFitsRow b (rowAt k) ≡ true → allStoredObjectsFitRows b ≡ every (storedObjectAbsentOrFitsRow b) (drop (k + 1) dictionaryRows)
+  fits-on e = w .fits ∙ every-yes (storedObjectAbsentOrFitsRow b) dictionaryRows blankRow k (omega (arith, rows-length)) e
 
   -- past a row whose object is absent
   walk-past : getD b (rowOffset dictionaryRows k) 0 ≡ 0 → Walk b (k + 1) n
-  unfolding lengthByte
+  unfolding rowLengthPlusOneOrZero
   walk-past z =
       let i = if-no (rowAt k .must) 0 (there ∙ ap not (eq-eqb _ _ z)) in
       record {
-        fits = fits-on (object-place b k h ∙ place-absent (rowAt k) (rowPlace dictionaryRows b k) (length-byte-at dictionaryRows b k ∙ z));
+        fits = fits-on (object-place b k h ∙ place-absent (rowAt k) (rowPlaceBytes dictionaryRows b k) (length-byte-at dictionaryRows b k ∙ z));
         count = omega (arith, w .count, counted-on);
       }
 
   -- past one whose object is present and fits
-  pub walk-held : (at m : ℕ) → at ≡ rowOffset dictionaryRows k → 0 < getD b at 0 → m ≡ rowAt k .must → objectFits b (rowAt k) ≡ true → Walk b (k + 1) (n + m)
+  pub walk-held : (at m : ℕ) → at ≡ rowOffset dictionaryRows k → 0 < getD b at 0 → m ≡ rowAt k .must → storedObjectAbsentOrFitsRow b (rowAt k) ≡ true → Walk b (k + 1) (n + m)
   walk-held at m p l q e =
       let x = ap (λ (o : ℕ). getD b o 0) p in
       let i = if-yes (rowAt k .must) 0 (there ∙ ap not (ne-eqb (getD b (rowOffset dictionaryRows k) 0) 0 (λ z. omega arith))) in
       record { fits = fits-on e; count = omega (arith, w .count, counted-on) }
 
   -- one that does not fit decides
-  pub walk-no : (asked : Bool) → objectFits b (rowAt k) ≡ false → allRowsFit asked b ≡ false
-  walk-no asked e = both-no-left _ _ (w .fits ∙ every-no (objectFits b) dictionaryRows blankRow k (omega (arith, rows-length)) e)
+  pub walk-no : (asked : Bool) → storedObjectAbsentOrFitsRow b (rowAt k) ≡ false → allFitAndRequiredPresentIfAsked asked b ≡ false
+  walk-no asked e = both-no-left _ _ (w .fits ∙ every-no (storedObjectAbsentOrFitsRow b) dictionaryRows blankRow k (omega (arith, rows-length)) e)
 
 -- past m rows whose objects are absent
 skip : (b : List ℕ) (n m k e : ℕ) → Walk b k n → k + m ≡ e → e ≤ rowCount → ((j : ℕ) → k ≤ j → j < e → getD b (rowOffset dictionaryRows j) 0 ≡ 0) → Walk b e n
@@ -143,15 +143,15 @@ skip b n zero k e w q h p = let i : k ≡ e = omega arith in subst (λ (x : ℕ)
 skip b n (suc m) k e w q h p =
     skip b n m (k + 1) e (walk-past b k n w (omega arith) (p k (omega arith) (omega arith))) (omega arith) h (λ j l. p j (omega arith))
 
-pub walk-on : (b : List ℕ) (k n row at : ℕ) → Walk b k n → RowsPassed b k row at → Walk b row n
+pub walk-on : (b : List ℕ) (k n row at : ℕ) → Walk b k n → AbsentRowsPassed b k row at → Walk b row n
 walk-on b k n row at w p = skip b n (row - k) k row w (omega (arith, p .later)) (p .within) (p .absent)
 
 -- at the end the count decides
-pub walk-end : (asked : Bool) (b : List ℕ) (k n : ℕ) → Walk b k n → rowCount ≤ k → allRowsFit asked b ≡ either (not asked) (eqb n requiredCount)
-unfolding allRequiredPresent broughtIn
+pub walk-end : (asked : Bool) (b : List ℕ) (k n : ℕ) → Walk b k n → rowCount ≤ k → allFitAndRequiredPresentIfAsked asked b ≡ either (not asked) (eqb n requiredAtStartCount)
+unfolding allRequiredAtStartPresent broughtIn
 walk-end asked b k n w h =
     let l : length dictionaryRows ≤ k = omega (arith, rows-length) in
     let z : broughtIn b (drop k dictionaryRows) ≡ 0 = ap (broughtIn b) (drop-of-length-le dictionaryRows l) in
     let c : broughtIn b dictionaryRows ≡ n = omega (arith, w .count) in
-    both-true _ (w .fits ∙ every-done (objectFits b) dictionaryRows blankRow k l)
+    both-true _ (w .fits ∙ every-done (storedObjectAbsentOrFitsRow b) dictionaryRows blankRow k l)
     ∙ ap (either (not asked)) (counted b dictionaryRows ∙ ap₂ eqb c required-rows)

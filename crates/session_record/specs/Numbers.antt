@@ -5,7 +5,7 @@ use mathlib.Core.Bool.{Bool, not}
 use Rattle.basics.specs.Choice.{if_then_else_, _and_, _=?_}
 use Rattle.basics.specs.Number.{between}
 use Rattle.basics.specs.Types.{Byte, Reason}
-use Rattle.basics.specs.Reason.{reasonNone, reasonStatus, reasonAboveLimit, reasonMode}
+use Rattle.basics.specs.Reason.{reasonNone, reasonStatusNot9000, reasonAboveLimit, reasonNoSupportedMode}
 use Rattle.session_record.specs.declared.Outcome.{Outcome}
 
 -- ---- outcomes
@@ -25,11 +25,12 @@ unfoldable pub reasonMatchesOutcome : Outcome → Reason → Bool
 reasonMatchesOutcome Outcome.Approved      n = n =? reasonNone
 reasonMatchesOutcome Outcome.OnlineRequest n = n =? reasonNone
 reasonMatchesOutcome Outcome.Declined      n = n =? reasonNone
-reasonMatchesOutcome Outcome.Ended         n = between reasonStatus n reasonMode and not (n =? reasonAboveLimit)
+reasonMatchesOutcome Outcome.Ended         n =
+    between reasonStatusNot9000 n reasonNoSupportedMode and not (n =? reasonAboveLimit)
 reasonMatchesOutcome Outcome.SelectNext    n = n =? reasonAboveLimit
 
 -- the outcome of a reason other than none
-unfoldable pub outcomeOfReason : Reason → Outcome
-outcomeOfReason n =
+unfoldable pub outcomeOfNonzeroReason : Reason → Outcome
+outcomeOfNonzeroReason n =
     if n =? reasonAboveLimit then Outcome.SelectNext
     else Outcome.Ended

@@ -15,7 +15,7 @@ use Rattle.session_record.specs.declared.Session.{Session}
 use Rattle.session_record.specs.declared.CallResult.{CallResult}
 use Rattle.session_record.specs.declared.Reply.{Reply}
 use Rattle.session_record.specs.declared.Transition.{Transition}
-use Rattle.session_record.specs.Numbers.{outcomeOfReason}
+use Rattle.session_record.specs.Numbers.{outcomeOfNonzeroReason}
 
 -- ---- records
 
@@ -36,22 +36,22 @@ abbrev pub freshSession : Session
 freshSession = record { phase = Phase.Fresh; count = 0; store = emptyStore }
 
 -- the session in a phase, with a count
-abbrev pub waitingSession : Session → Phase → Count → Session
-waitingSession s p n = record { phase = p; count = n; store = s .store }
+abbrev pub sessionInPhaseWithCount : Session → Phase → Count → Session
+sessionInPhaseWithCount s p n = record { phase = p; count = n; store = s .store }
 
 -- ---- the stage of a session
 
 -- fresh: no call was taken yet; running: a response is awaited; ended: there is an outcome
-pub data Stage : Type 0 where
-  fresh : Stage
-  running : Stage
-  ended : Stage
+pub data SessionStage : Type 0 where
+  fresh : SessionStage
+  running : SessionStage
+  ended : SessionStage
 
 -- by the phase
-abbrev pub stageOf : Phase → Stage
-stageOf Phase.Fresh       = fresh
-stageOf (Phase.Waiting w) = running
-stageOf (Phase.Ended e)   = ended
+abbrev pub sessionStageOf : Phase → SessionStage
+sessionStageOf Phase.Fresh       = fresh
+sessionStageOf (Phase.Waiting w) = running
+sessionStageOf (Phase.Ended e)   = ended
 
 -- it runs
 abbrev pub isRunning : Phase → Bool
@@ -72,8 +72,8 @@ abbrev pub endingOf : Outcome → Reason → Ending
 endingOf o n = record { outcome = o; reason = n }
 
 -- a reason other than 0, with its outcome
-abbrev pub endingBy : Reason → Ending
-endingBy n = endingOf (outcomeOfReason n) n
+abbrev pub endingForReason : Reason → Ending
+endingForReason n = endingOf (outcomeOfNonzeroReason n) n
 
 -- what an outcome reports: the outcome with its reason, and the CVM's number (document 02, Item 5)
 abbrev pub outcomeParameters : Ending → CvmNumber → OutcomeParameters
@@ -100,7 +100,7 @@ endingTransition m k e =
 
 -- the session ends for a reason other than 0
 abbrev pub failingTransition : CvmNumber → Count → Reason → Transition
-failingTransition m k n = endingTransition m k (endingBy n)
+failingTransition m k n = endingTransition m k (endingForReason n)
 
 -- a command of n bytes is handed out, and the session waits for the response to it
 abbrev pub commandTransition : AwaitedResponse → Count → Length → Transition

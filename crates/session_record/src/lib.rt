@@ -1,13 +1,13 @@
 // The session record by value: its phase, its count of commands handed out and its store; the reply of a call; and the
-// ranges that a record passed in must be in (`in_ranges`, `parts_in_ranges`).
+// ranges that a record passed in must be in (`session_record_in_ranges`, `session_parts_in_ranges`).
 //
 // Inside a call the store is borrowed, and a transition stands for the reply without it. A record is built anew only by
-// `fresh_session`, `waiting_session` and `reply_of`, and a transition only by `refuse_call`, `end_session`,
+// `fresh_session`, `session_in_phase_with_count` and `reply_of`, and a transition only by `refuse_call`, `end_session`,
 // `fail_session` and `issue_command`: a new field is added there.
 use analysis::choice::Choice;
 use analysis::cvm::Cvm;
 use dictionary::{
-    Attributes, ROWS, REQUIRED, REQUIRED_ROWS, ROW_PAN, ROW_EXPIRATION_DATE, ROW_AIP, ROW_CDOL1, ROW_AFL, ROW_TVR,
+    RowAttributes, ROWS, REQUIRED, REQUIRED_ROWS, ROW_PAN, ROW_EXPIRATION_DATE, ROW_AIP, ROW_CDOL1, ROW_AFL, ROW_TVR,
     ROW_IAD, ROW_AC, ROW_CID, ROW_CVM_RESULTS, ROW_TERMINAL_TYPE, ROW_ATC, ROW_CVC3_TRACK2, ROW_PCVC3_TRACK2,
     ROW_PUNATC_TRACK2, ROW_NATC_TRACK2, ROW_TRACK2_DATA, ROW_KERNEL_CONFIGURATION, SIZE,
 };
@@ -20,16 +20,16 @@ ghost use lib.Dec.{eqb};
 ghost use lib.ListN.{length, getD};
 ghost use Rattle.basics.specs.Choice.{both, either, every};
 ghost use Rattle.dictionary.specs.Rows.{dictionaryRows, rowCount, storeSize};
-ghost use Rattle.dictionary.specs.Named.{requiredCount};
-ghost use Rattle.dictionary.specs.Packing.{rowWithAttributes};
-ghost use Rattle.dictionary.specs.Tables.{packedRows};
-ghost use Rattle.store.specs.Place.{rowRoom, rowOffset};
-ghost use Rattle.session_record.specs.Numbers.{outcomeNumber, reasonMatchesOutcome, outcomeOfReason};
-ghost use Rattle.session_record.specs.Session.{sessionOf, freshSession, waitingSession, endingOf, replyOf, refusedTransition, endingTransition, failingTransition, commandTransition};
+ghost use Rattle.dictionary.specs.Named.{requiredAtStartCount};
+ghost use Rattle.dictionary.specs.Packing.{rowWithAttributesAndTagZero};
+ghost use Rattle.dictionary.specs.Tables.{packedAttributesOfRows};
+ghost use Rattle.store.specs.Place.{rowSizeInStore, rowOffset};
+ghost use Rattle.session_record.specs.Numbers.{outcomeNumber, reasonMatchesOutcome, outcomeOfNonzeroReason};
+ghost use Rattle.session_record.specs.Session.{sessionOf, freshSession, sessionInPhaseWithCount, endingOf, replyOf, refusedTransition, endingTransition, failingTransition, commandTransition};
 ghost use Rattle.store.specs.Held.{isZeroByte};
-ghost use Rattle.session_record.specs.Ranges.{allObjectsFit, allRequiredPresent, lastResponseAbsent, emvMode, magStripeMode, emvOrMagStripeMode, cryptogramDataPresent, trackDataPresent, runningRanges};
-ghost use Rattle.session_record.specs.Ranges.{freshRanges, waitingRanges, gpoRanges, recordRanges, cryptogramRanges, checksumRanges, endedRanges, inRanges};
-ghost use Rattle.session_record.specs.Inner.{rowPlaceFits, NextPresent, allRowsFit};
+ghost use Rattle.session_record.specs.Ranges.{allStoredObjectsFitRows, allRequiredAtStartPresent, lastResponseObjectsAbsent, emvMode, magStripeMode, emvOrMagStripeMode, expiryPanAndCdol1NonEmpty, track2AndBitmapsNonEmpty, inRunningRanges};
+ghost use Rattle.session_record.specs.Ranges.{inFreshRanges, inWaitingRanges, inGpoRanges, inRecordRanges, inCryptogramRanges, inChecksumRanges, inEndedRanges, sessionRecordInRanges};
+ghost use Rattle.session_record.specs.Inner.{placeLengthAndValueFitRow, NextPresentRow, allFitAndRequiredPresentIfAsked};
 
 // How a session ends.
 pub enum Outcome {
@@ -114,7 +114,7 @@ pub struct Reply {
 }
 
 // The position of a walk over the store: at a row, and at the byte where its place starts.
-pub struct RowSpot {
+pub struct RowPosition {
     pub row: usize,
     pub at: usize,
 }
@@ -143,8 +143,8 @@ pub fn outcome_number(outcome: Outcome) -> u8
 }
 
 // The outcome that goes with a reason other than 0.
-pub fn outcome_for(reason: u8) -> Outcome
-    ensures { λ r. ⌜ r ≡ outcomeOfReason reason ⌝ }
+pub fn outcome_of_nonzero_reason(reason: u8) -> Outcome
+    ensures { λ r. ⌜ r ≡ outcomeOfNonzeroReason reason ⌝ }
 {
     if reason == basics::REASON_ABOVE_LIMIT {
         return Outcome::SelectNext;
@@ -153,7 +153,7 @@ pub fn outcome_for(reason: u8) -> Outcome
 }
 
 // How many commands the session has handed out.
-pub fn count(session: Session) -> u8
+pub fn command_count(session: Session) -> u8
     ensures { λ r. ⌜ r ≡ session .count ⌝ }
 {
     session.count
@@ -172,8 +172,8 @@ pub fn fresh_session() -> Session
 }
 
 // The session in another phase, with another count.
-pub fn waiting_session(session: Session, phase: Phase, count: u8) -> Session
-    ensures { λ r. ⌜ r ≡ waitingSession session phase count ⌝ }
+pub fn session_in_phase_with_count(session: Session, phase: Phase, count: u8) -> Session
+    ensures { λ r. ⌜ r ≡ sessionInPhaseWithCount session phase count ⌝ }
 {
     let store = session.store;
     Session {
@@ -209,7 +209,7 @@ pub fn end_session(count: u8, outcome: Outcome, reason: u8, cvm: u8) -> Transiti
 pub fn fail_session(count: u8, reason: u8, cvm: u8) -> Transition
     ensures { λ r. ⌜ r ≡ failingTransition cvm count reason ⌝ }
 {
-    end_session(count, outcome_for(reason), reason, cvm)
+    end_session(count, outcome_of_nonzero_reason(reason), reason, cvm)
 }
 
 // The session waits for the response to a command of so many bytes.
@@ -241,17 +241,17 @@ pub fn reply_of(transition: Transition, store: Store) -> Reply
 }
 
 // Whether a session record is in its ranges.
-pub fn in_ranges(session: Session) -> bool
-    ensures { λ r. ⌜ r ≡ inRanges session ⌝ }
+pub fn session_record_in_ranges(session: Session) -> bool
+    ensures { λ r. ⌜ r ≡ sessionRecordInRanges session ⌝ }
 {
     let phase = session.phase;
     let store = session.store;
-    parts_in_ranges(phase, session.count, &store.bytes)
+    session_parts_in_ranges(phase, session.count, &store.bytes)
 }
 
 // The same of a session's parts, with the store's bytes shared.
-pub fn parts_in_ranges(phase: Phase, count: u8, bytes: &[u8]) -> bool
-    ensures { λ r. ⌜ r ≡ inRanges (sessionOf phase count (now (bytes .entry))) ⌝ }
+pub fn session_parts_in_ranges(phase: Phase, count: u8, bytes: &[u8]) -> bool
+    ensures { λ r. ⌜ r ≡ sessionRecordInRanges (sessionOf phase count (now (bytes .entry))) ⌝ }
 {
     if bytes.len() != SIZE {
         return false;
@@ -266,7 +266,7 @@ pub fn parts_in_ranges(phase: Phase, count: u8, bytes: &[u8]) -> bool
 // Fresh: no command was handed out and the store is all zeros, so that every object fits.
 fn fresh_in_ranges(count: u8, bytes: &[u8]) -> bool
     requires { ⌜ length (now bytes) ≡ storeSize ⌝ }
-    ensures { λ r. ⌜ r ≡ both (allObjectsFit (now (bytes .entry))) (freshRanges count (now (bytes .entry))) ⌝ }
+    ensures { λ r. ⌜ r ≡ both (allStoredObjectsFitRows (now (bytes .entry))) (inFreshRanges count (now (bytes .entry))) ⌝ }
 {
     if count != 0 {
         return false;
@@ -277,7 +277,7 @@ fn fresh_in_ranges(count: u8, bytes: &[u8]) -> bool
 // Running: what the awaited response asks of the count and of the store.
 fn waiting_in_ranges(awaited: AwaitedResponse, count: u8, bytes: &[u8]) -> bool
     requires { ⌜ length (now bytes) ≡ storeSize ⌝ }
-    ensures { λ r. ⌜ r ≡ both (allObjectsFit (now (bytes .entry))) (waitingRanges awaited count (now (bytes .entry))) ⌝ }
+    ensures { λ r. ⌜ r ≡ both (allStoredObjectsFitRows (now (bytes .entry))) (inWaitingRanges awaited count (now (bytes .entry))) ⌝ }
 {
     match awaited {
         AwaitedResponse::Gpo => gpo_in_ranges(count, bytes),
@@ -290,15 +290,15 @@ fn waiting_in_ranges(awaited: AwaitedResponse, count: u8, bytes: &[u8]) -> bool
 // Waiting on GPO: nothing of its answer is present yet.
 fn gpo_in_ranges(count: u8, bytes: &[u8]) -> bool
     requires { ⌜ length (now bytes) ≡ storeSize ⌝ }
-    ensures { λ r. ⌜ r ≡ both (allObjectsFit (now (bytes .entry))) (gpoRanges count (now (bytes .entry))) ⌝ }
+    ensures { λ r. ⌜ r ≡ both (allStoredObjectsFitRows (now (bytes .entry))) (inGpoRanges count (now (bytes .entry))) ⌝ }
 {
     if !is_running(bytes) {
         return false;
     }
-    if store::is_there(bytes, ROW_AIP) {
+    if store::is_present(bytes, ROW_AIP) {
         return false;
     }
-    if store::is_there(bytes, ROW_AFL) {
+    if store::is_present(bytes, ROW_AFL) {
         return false;
     }
     if !all_zero(store::value(bytes, ROW_TVR)) {
@@ -310,12 +310,12 @@ fn gpo_in_ranges(count: u8, bytes: &[u8]) -> bool
 // Waiting on a record that the stored AFL names, with the limit that the store gives.
 fn record_in_ranges(place: AwaitedRecord, count: u8, bytes: &[u8]) -> bool
     requires { ⌜ length (now bytes) ≡ storeSize ⌝ }
-    ensures { λ r. ⌜ r ≡ both (allObjectsFit (now (bytes .entry))) (recordRanges place count (now (bytes .entry))) ⌝ }
+    ensures { λ r. ⌜ r ≡ both (allStoredObjectsFitRows (now (bytes .entry))) (inRecordRanges place count (now (bytes .entry))) ⌝ }
 {
     if !is_running(bytes) {
         return false;
     }
-    if !is_either(bytes) {
+    if !is_emv_or_mag_stripe_mode(bytes) {
         return false;
     }
     let results = store::value(bytes, ROW_TVR);
@@ -343,18 +343,18 @@ fn record_in_ranges(place: AwaitedRecord, count: u8, bytes: &[u8]) -> bool
 // the store's.
 fn cryptogram_in_ranges(asked: RequestedCryptogram, count: u8, bytes: &[u8]) -> bool
     requires { ⌜ length (now bytes) ≡ storeSize ⌝ }
-    ensures { λ r. ⌜ r ≡ both (allObjectsFit (now (bytes .entry))) (cryptogramRanges asked count (now (bytes .entry))) ⌝ }
+    ensures { λ r. ⌜ r ≡ both (allStoredObjectsFitRows (now (bytes .entry))) (inCryptogramRanges asked count (now (bytes .entry))) ⌝ }
 {
     if !is_running(bytes) {
         return false;
     }
-    if !is_emv(bytes) {
+    if !is_emv_mode(bytes) {
         return false;
     }
-    if !is_complete(bytes) {
+    if !expiry_pan_and_cdol1_non_empty(bytes) {
         return false;
     }
-    if !store::is_there(bytes, ROW_CVM_RESULTS) {
+    if !store::is_present(bytes, ROW_CVM_RESULTS) {
         return false;
     }
     if asked.limit != analysis::action::transaction_limit(bytes) {
@@ -374,18 +374,18 @@ fn cryptogram_in_ranges(asked: RequestedCryptogram, count: u8, bytes: &[u8]) -> 
 // Waiting on the checksum: every record was requested, and what the digits need is present; the limit is the store's.
 fn checksum_in_ranges(checksum: AwaitedChecksum, count: u8, bytes: &[u8]) -> bool
     requires { ⌜ length (now bytes) ≡ storeSize ⌝ }
-    ensures { λ r. ⌜ r ≡ both (allObjectsFit (now (bytes .entry))) (checksumRanges checksum count (now (bytes .entry))) ⌝ }
+    ensures { λ r. ⌜ r ≡ both (allStoredObjectsFitRows (now (bytes .entry))) (inChecksumRanges checksum count (now (bytes .entry))) ⌝ }
 {
     if !is_running(bytes) {
         return false;
     }
-    if !is_mag_stripe(bytes) {
+    if !is_mag_stripe_mode(bytes) {
         return false;
     }
     if !all_zero(store::value(bytes, ROW_TVR)) {
         return false;
     }
-    if !is_track_complete(bytes) {
+    if !track2_and_bitmaps_non_empty(bytes) {
         return false;
     }
     if checksum.limit != analysis::action::transaction_limit(bytes) {
@@ -405,7 +405,7 @@ fn checksum_in_ranges(checksum: AwaitedChecksum, count: u8, bytes: &[u8]) -> boo
 // Ended: a count that a session can reach, and a reason with its outcome.
 fn ended_in_ranges(end: Ending, count: u8, bytes: &[u8]) -> bool
     requires { ⌜ length (now bytes) ≡ storeSize ⌝ }
-    ensures { λ r. ⌜ r ≡ both (allObjectsFit (now (bytes .entry))) (endedRanges end count) ⌝ }
+    ensures { λ r. ⌜ r ≡ both (allStoredObjectsFitRows (now (bytes .entry))) (inEndedRanges end count) ⌝ }
 {
     if !all_rows_fit(bytes, false) {
         return false;
@@ -446,15 +446,15 @@ fn ends_session(reason: u8) -> bool
 // What every running session holds and lacks; every object fits.
 fn is_running(bytes: &[u8]) -> bool
     requires { ⌜ length (now bytes) ≡ storeSize ⌝ }
-    ensures { λ r. ⌜ r ≡ both (allObjectsFit (now (bytes .entry))) (runningRanges (now (bytes .entry))) ⌝ }
+    ensures { λ r. ⌜ r ≡ both (allStoredObjectsFitRows (now (bytes .entry))) (inRunningRanges (now (bytes .entry))) ⌝ }
 {
     if !all_rows_fit(bytes, true) {
         return false;
     }
-    if !store::is_there(bytes, ROW_TVR) {
+    if !store::is_present(bytes, ROW_TVR) {
         return false;
     }
-    if !dictionary::is_terminal_type(basics::byte_at(store::value(bytes, ROW_TERMINAL_TYPE), 0)) {
+    if !dictionary::is_listed_terminal_type(basics::byte_at(store::value(bytes, ROW_TERMINAL_TYPE), 0)) {
         return false;
     }
     is_last_absent(bytes)
@@ -462,56 +462,56 @@ fn is_running(bytes: &[u8]) -> bool
 
 // Nothing that only the answer to the cryptogram or to the checksum brings is present.
 fn is_last_absent(bytes: &[u8]) -> bool
-    ensures { λ r. ⌜ r ≡ lastResponseAbsent (now (bytes .entry)) ⌝ }
+    ensures { λ r. ⌜ r ≡ lastResponseObjectsAbsent (now (bytes .entry)) ⌝ }
 {
-    if store::is_there(bytes, ROW_IAD) {
+    if store::is_present(bytes, ROW_IAD) {
         return false;
     }
-    if store::is_there(bytes, ROW_AC) {
+    if store::is_present(bytes, ROW_AC) {
         return false;
     }
-    if store::is_there(bytes, ROW_CID) {
+    if store::is_present(bytes, ROW_CID) {
         return false;
     }
-    if store::is_there(bytes, ROW_ATC) {
+    if store::is_present(bytes, ROW_ATC) {
         return false;
     }
-    !store::is_there(bytes, ROW_CVC3_TRACK2)
+    !store::is_present(bytes, ROW_CVC3_TRACK2)
 }
 
 // The AIP indicates EMV mode.
-pub fn is_emv(bytes: &[u8]) -> bool
+pub fn is_emv_mode(bytes: &[u8]) -> bool
     ensures { λ r. ⌜ r ≡ emvMode (now (bytes .entry)) ⌝ }
 {
     basics::byte_at(store::value(bytes, ROW_AIP), 1) / 128 % 2 == 1
 }
 
 // The AIP indicates no EMV mode, and mag-stripe mode is not off.
-pub fn is_mag_stripe(bytes: &[u8]) -> bool
+pub fn is_mag_stripe_mode(bytes: &[u8]) -> bool
     ensures { λ r. ⌜ r ≡ magStripeMode (now (bytes .entry)) ⌝ }
 {
-    if !store::is_there(bytes, ROW_AIP) {
+    if !store::is_present(bytes, ROW_AIP) {
         return false;
     }
-    if is_emv(bytes) {
+    if is_emv_mode(bytes) {
         return false;
     }
     basics::byte_at(store::value(bytes, ROW_KERNEL_CONFIGURATION), 0) / 128 % 2 != 1
 }
 
 // One of the two modes.
-pub fn is_either(bytes: &[u8]) -> bool
+pub fn is_emv_or_mag_stripe_mode(bytes: &[u8]) -> bool
     ensures { λ r. ⌜ r ≡ emvOrMagStripeMode (now (bytes .entry)) ⌝ }
 {
-    if is_emv(bytes) {
+    if is_emv_mode(bytes) {
         return true;
     }
-    is_mag_stripe(bytes)
+    is_mag_stripe_mode(bytes)
 }
 
 // The track, the two bitmaps and the counter's digits are present, none empty.
-pub fn is_track_complete(bytes: &[u8]) -> bool
-    ensures { λ r. ⌜ r ≡ trackDataPresent (now (bytes .entry)) ⌝ }
+pub fn track2_and_bitmaps_non_empty(bytes: &[u8]) -> bool
+    ensures { λ r. ⌜ r ≡ track2AndBitmapsNonEmpty (now (bytes .entry)) ⌝ }
 {
     if store::value(bytes, ROW_TRACK2_DATA).len() == 0 {
         return false;
@@ -526,8 +526,8 @@ pub fn is_track_complete(bytes: &[u8]) -> bool
 }
 
 // The expiry date, the account number and CDOL1 are present, none empty.
-pub fn is_complete(bytes: &[u8]) -> bool
-    ensures { λ r. ⌜ r ≡ cryptogramDataPresent (now (bytes .entry)) ⌝ }
+pub fn expiry_pan_and_cdol1_non_empty(bytes: &[u8]) -> bool
+    ensures { λ r. ⌜ r ≡ expiryPanAndCdol1NonEmpty (now (bytes .entry)) ⌝ }
 {
     if store::value(bytes, ROW_EXPIRATION_DATE).len() == 0 {
         return false;
@@ -542,9 +542,9 @@ pub fn is_complete(bytes: &[u8]) -> bool
 // object that is present to the next; it counts those that a start must bring.
 fn all_rows_fit(bytes: &[u8], asked: bool) -> bool
     requires { ⌜ length (now bytes) ≡ storeSize ⌝ }
-    ensures { λ r. ⌜ r ≡ allRowsFit asked (now (bytes .entry)) ⌝ }
+    ensures { λ r. ⌜ r ≡ allFitAndRequiredPresentIfAsked asked (now (bytes .entry)) ⌝ }
 {
-    let codes = dictionary::codes();
+    let codes = dictionary::packed_row_attributes();
     let mut row = 0;
     let mut at = 0;
     let mut brought = 0;
@@ -555,7 +555,7 @@ fn all_rows_fit(bytes: &[u8], asked: bool) -> bool
         if k == ROWS {
             return is_enough(asked, brought);
         }
-        let a = dictionary::unpacked(codes[k]);
+        let a = dictionary::unpack_row_attributes(codes[k]);
         let next = first + a.greatest + 1;
         if !row_fits(&bytes[first..next], a) {
             return false;
@@ -567,27 +567,27 @@ fn all_rows_fit(bytes: &[u8], asked: bool) -> bool
 }
 
 // The first row from a row on whose object is present, and where its place starts; the end where there is none.
-fn next_held(bytes: &[u8], codes: &[u32; ROWS], from: usize, start: usize) -> RowSpot
+fn next_held(bytes: &[u8], codes: &[u32; ROWS], from: usize, start: usize) -> RowPosition
     requires { ⌜ length (now bytes) ≡ storeSize ⌝ }
-    requires { ⌜ now codes ≡ packedRows dictionaryRows ⌝ }
+    requires { ⌜ now codes ≡ packedAttributesOfRows dictionaryRows ⌝ }
     requires { ⌜ (from ≤ rowCount) × (start ≡ rowOffset dictionaryRows from) ⌝ }
-    ensures { λ r. ⌜ NextPresent (now (bytes .entry)) from r ⌝ }
+    ensures { λ r. ⌜ NextPresentRow (now (bytes .entry)) from r ⌝ }
 {
     let mut row = from;
     let mut at = start;
     while row < ROWS {
         if bytes[at] != 0 {
-            return RowSpot { row, at };
+            return RowPosition { row, at };
         }
-        at = at + dictionary::unpacked(codes[row]).greatest + 1;
+        at = at + dictionary::unpack_row_attributes(codes[row]).greatest + 1;
         row += 1;
     }
-    RowSpot { row, at }
+    RowPosition { row, at }
 }
 
 // Whether so many objects that a start must bring are all of them, where that is required.
 fn is_enough(asked: bool, brought: usize) -> bool
-    ensures { λ r. ⌜ r ≡ either (not asked) (eqb brought requiredCount) ⌝ }
+    ensures { λ r. ⌜ r ≡ either (not asked) (eqb brought requiredAtStartCount) ⌝ }
 {
     if asked {
         return brought == REQUIRED;
@@ -597,10 +597,10 @@ fn is_enough(asked: bool, brought: usize) -> bool
 
 // Whether the place of an object that is there is in order: a length byte in its room, a value that is long enough and
 // digits that fit.
-fn row_fits(place: &[u8], a: Attributes) -> bool
-    requires { ⌜ length (now place) ≡ rowRoom (rowWithAttributes a) ⌝ }
+fn row_fits(place: &[u8], a: RowAttributes) -> bool
+    requires { ⌜ length (now place) ≡ rowSizeInStore (rowWithAttributesAndTagZero a) ⌝ }
     requires { ⌜ 0 < getD (now place) 0 0 ⌝ }
-    ensures { λ r. ⌜ r ≡ rowPlaceFits (rowWithAttributes a) (now (place .entry)) ⌝ }
+    ensures { λ r. ⌜ r ≡ placeLengthAndValueFitRow (rowWithAttributesAndTagZero a) (now (place .entry)) ⌝ }
 {
     let stored = basics::widen(place[0]);
     if place.len() < stored {
@@ -609,18 +609,18 @@ fn row_fits(place: &[u8], a: Attributes) -> bool
     if stored - 1 < a.least {
         return false;
     }
-    dictionary::digits_fit(a.form, &place[1..stored])
+    dictionary::digits_match_form(a.form, &place[1..stored])
 }
 
 // Every object that a start must bring is present. The rows are bound before the loop, and its bound is a constant: the
 // compiler makes a test of one byte for each, and no table.
-pub fn all_required_present(bytes: &[u8]) -> bool
-    ensures { λ r. ⌜ r ≡ allRequiredPresent (now (bytes .entry)) ⌝ }
+pub fn all_required_at_start_present(bytes: &[u8]) -> bool
+    ensures { λ r. ⌜ r ≡ allRequiredAtStartPresent (now (bytes .entry)) ⌝ }
 {
     let rows = REQUIRED_ROWS;
     let mut i = 0;
     while i < REQUIRED {
-        if !store::is_there(bytes, rows[i]) {
+        if !store::is_present(bytes, rows[i]) {
             return false;
         }
         i += 1;

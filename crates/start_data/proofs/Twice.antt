@@ -15,7 +15,7 @@ use Rattle.dictionary.specs.declared.RowFound.the-variants.{At}
 use Rattle.dictionary.specs.Rows.{dictionaryRows, findRow, storeSize}
 use Rattle.store.specs.Place.{isPresent, rowValue, putRow}
 use Rattle.store.proofs.Laws.{put-length, put-get, put-other}
-use Rattle.start_data.specs.StartData.{settableByStart, setObject, thenSet, setObjects}
+use Rattle.start_data.specs.StartData.{startMaySetObjectInRow, setStartObject, continueSetting, setStartObjects}
 use Rattle.start_data.proofs.Setting.{set-taken, set-refused}
 use Rattle.start_data.proofs.Laws.{Put, put-of, put-place, none-after}
 
@@ -30,17 +30,17 @@ put-there b j o l p k x = elim (equal-or-not k j) [
 ]
 
 -- an object whose row is there is refused
-there-refused : (b : List ℕ) (o : Object) (k : ℕ) → findRow dictionaryRows (o .tag) ≡ At k → There k b → setObject b o ≡ none
-unfolding settableByStart
+there-refused : (b : List ℕ) (o : Object) (k : ℕ) → findRow dictionaryRows (o .tag) ≡ At k → There k b → setStartObject b o ≡ none
+unfolding startMaySetObjectInRow
 there-refused b o k e t =
     set-refused b o (findRow dictionaryRows (o .tag)) refl k e (both-no-right _ _ (both-no-right _ _ (both-no-left _ _ (ap not t))))
 
 -- once an object of a known tag is set, its row is there
 set-there : (b : List ℕ) (o : Object) (k : ℕ) → length b ≡ storeSize → findRow dictionaryRows (o .tag) ≡ At k
-    → (x : Option (List ℕ)) → setObject b o ≡ x → (rest : List ℕ → Option (List ℕ))
-    → ((d : List ℕ) → (length d ≡ storeSize) × There k d → rest d ≡ none) → thenSet x rest ≡ none
+    → (x : Option (List ℕ)) → setStartObject b o ≡ x → (rest : List ℕ → Option (List ℕ))
+    → ((d : List ℕ) → (length d ≡ storeSize) × There k d → rest d ≡ none) → continueSetting x rest ≡ none
 set-there b o k l e none q rest h = refl
-set-there b o k l e (some d) q rest h = elim (bool-cases (settableByStart b k o)) [
+set-there b o k l e (some d) q rest h = elim (bool-cases (startMaySetObjectInRow b k o)) [
   | inl s ↦ (let p = put-of b o k e s in
       let z : putRow dictionaryRows b k (o .value) ≡ d = (let w = set-taken b o (findRow dictionaryRows (o .tag)) refl k e s in cc) in
       h d (subst (λ (y : List ℕ). (length y ≡ storeSize) × There k y) z (put-length dictionaryRows b k (o .value) (put-place b k o l p) ∙ l, put-there b k o l p k (inr refl))))
@@ -49,14 +49,14 @@ set-there b o k l e (some d) q rest h = elim (bool-cases (settableByStart b k o)
 
 -- two objects of a known tag, whatever is around them, are refused, empty ones too
 pub twice-refused : (b : List ℕ) (xs ys zs : List Object) (o p : Object) (k : ℕ) → length b ≡ storeSize
-    → findRow dictionaryRows (o .tag) ≡ At k → o .tag ≡ p .tag → setObjects b (xs ++ (o ∷ (ys ++ (p ∷ zs)))) ≡ none
-unfolding setObjects
+    → findRow dictionaryRows (o .tag) ≡ At k → o .tag ≡ p .tag → setStartObjects b (xs ++ (o ∷ (ys ++ (p ∷ zs)))) ≡ none
+unfolding setStartObjects
 twice-refused b xs ys zs o p k l e q = none-after (λ d. Unit {0}) (λ d j r m w t. tt) (o ∷ (ys ++ (p ∷ zs))) first xs b (l, tt)
   where
-    second : (d : List ℕ) → (length d ≡ storeSize) × There k d → setObjects d (p ∷ zs) ≡ none
-    second d h = ap (λ (x : Option (List ℕ)). thenSet x (λ c. setObjects c zs)) (there-refused d p k (ap (findRow dictionaryRows) (sym q) ∙ e) (h .1))
+    second : (d : List ℕ) → (length d ≡ storeSize) × There k d → setStartObjects d (p ∷ zs) ≡ none
+    second d h = ap (λ (x : Option (List ℕ)). continueSetting x (λ c. setStartObjects c zs)) (there-refused d p k (ap (findRow dictionaryRows) (sym q) ∙ e) (h .1))
 
-    first : (c : List ℕ) → (length c ≡ storeSize) × Unit {0} → setObjects c (o ∷ (ys ++ (p ∷ zs))) ≡ none
+    first : (c : List ℕ) → (length c ≡ storeSize) × Unit {0} → setStartObjects c (o ∷ (ys ++ (p ∷ zs))) ≡ none
     first c h =
-        set-there c o k (h .0) e (setObject c o) refl (λ d. setObjects d (ys ++ (p ∷ zs)))
+        set-there c o k (h .0) e (setStartObject c o) refl (λ d. setStartObjects d (ys ++ (p ∷ zs)))
         (none-after (There k) (λ d j r m w t. put-there d j r m w k (inl t)) (p ∷ zs) second ys)

@@ -11,9 +11,9 @@ ghost use mathlib.Core.Path.{_≡_};
 ghost use Prim.Native.Nat.{_<_};
 ghost use lib.ListN.{length, replicate};
 ghost use Rattle.dictionary.specs.Rows.{dictionaryRows, rowCount, storeSize};
-ghost use Rattle.dictionary.specs.Tables.{TablesGiven, packedRows};
+ghost use Rattle.dictionary.specs.Tables.{AreDictionaryTables, packedAttributesOfRows};
 ghost use Rattle.tlv.specs.Primitives.{tlvObject, primitiveObjects};
-ghost use Rattle.start_data.specs.StartData.{terminalTypeListed, settableByStart, setObject, setParsed, SetsObjects, loadStart as loadOf, LoadsStart};
+ghost use Rattle.start_data.specs.StartData.{isListedIfTerminalType, startMaySetObjectInRow, setStartObject, setParsedStartObjects, ReportsWhetherObjectsSet, loadStartBytes as loadOf, LoadResultAndStoreMatchLoaded};
 
 // What a loading reports of the start bytes.
 pub enum LoadResult {
@@ -27,7 +27,7 @@ const MOST: usize = 1024;
 // The start bytes into an empty store.
 pub fn load(store: &mut [u8], terminal: &[u8]) -> LoadResult
     requires { ⌜ now store ≡ replicate storeSize 0 ⌝ }
-    ensures given { λ r. ⌜ LoadsStart r (now (store .exit)) (now (store .entry)) (loadOf (now (store .entry)) (now (terminal .entry))) ⌝ }
+    ensures given { λ r. ⌜ LoadResultAndStoreMatchLoaded r (now (store .exit)) (now (store .entry)) (loadOf (now (store .entry)) (now (terminal .entry))) ⌝ }
     ensures sized { λ _. ⌜ length (now (store .exit)) ≡ storeSize ⌝ }
 {
     if MOST < terminal.len() {
@@ -36,12 +36,12 @@ pub fn load(store: &mut [u8], terminal: &[u8]) -> LoadResult
     if !tlv::is_primitive_list(terminal) {
         return refused(basics::REFUSED_BYTES);
     }
-    let tags = dictionary::tags();
-    let codes = dictionary::codes();
+    let tags = dictionary::dictionary_tags();
+    let codes = dictionary::packed_row_attributes();
     if !set_objects(terminal, store, &tags, &codes) {
         return cleared(store, basics::REFUSED_OBJECT);
     }
-    if !session_record::all_required_present(&store[..]) {
+    if !session_record::all_required_at_start_present(&store[..]) {
         return cleared(store, basics::REFUSED_ABSENT);
     }
     LoadResult::Loaded
@@ -71,13 +71,13 @@ fn set_objects(
     codes: &[u32; ROWS],
 ) -> bool
     requires { ⌜ length (now store) ≡ storeSize ⌝ }
-    requires { ⌜ TablesGiven (now tags) (now codes) ⌝ }
-    ensures set { λ r. ⌜ SetsObjects r (now (store .exit)) (setParsed (now (store .entry)) (primitiveObjects (now (terminal .entry)))) ⌝ }
+    requires { ⌜ AreDictionaryTables (now tags) (now codes) ⌝ }
+    ensures set { λ r. ⌜ ReportsWhetherObjectsSet r (now (store .exit)) (setParsedStartObjects (now (store .entry)) (primitiveObjects (now (terminal .entry)))) ⌝ }
     ensures sized { λ _. ⌜ length (now (store .exit)) ≡ storeSize ⌝ }
 {
     let mut s = terminal;
     while s.len() != 0 {
-        let front = tlv::primitive(s);
+        let front = tlv::primitive_at_front(s);
         let ObjectFront::Object(h) = front else {
             return false;
         };
@@ -102,11 +102,11 @@ fn set_object(
     codes: &[u32; ROWS],
 ) -> bool
     requires { ⌜ length (now store) ≡ storeSize ⌝ }
-    requires { ⌜ TablesGiven (now tags) (now codes) ⌝ }
-    ensures set { λ r. ⌜ SetsObjects r (now (store .exit)) (setObject (now (store .entry)) (tlvObject tag (now (v .entry)))) ⌝ }
+    requires { ⌜ AreDictionaryTables (now tags) (now codes) ⌝ }
+    ensures set { λ r. ⌜ ReportsWhetherObjectsSet r (now (store .exit)) (setStartObject (now (store .entry)) (tlvObject tag (now (v .entry)))) ⌝ }
     ensures sized { λ _. ⌜ length (now (store .exit)) ≡ storeSize ⌝ }
 {
-    let found = dictionary::search(tags, tag).found;
+    let found = dictionary::search_tags(tags, tag).found;
     let RowFound::At(row) = found else {
         return true;
     };
@@ -120,17 +120,17 @@ fn set_object(
 
 // Whether a start may set a row's object, with this value.
 fn is_settable(bytes: &[u8], row: usize, tag: u32, v: &[u8], codes: &[u32; ROWS]) -> bool
-    requires { ⌜ (row < rowCount) × (now codes ≡ packedRows dictionaryRows) ⌝ }
-    ensures { λ r. ⌜ r ≡ settableByStart (now (bytes .entry)) row (tlvObject tag (now (v .entry))) ⌝ }
+    requires { ⌜ (row < rowCount) × (now codes ≡ packedAttributesOfRows dictionaryRows) ⌝ }
+    ensures { λ r. ⌜ r ≡ startMaySetObjectInRow (now (bytes .entry)) row (tlvObject tag (now (v .entry))) ⌝ }
 {
-    let attributes = dictionary::unpacked(codes[row]);
+    let attributes = dictionary::unpack_row_attributes(codes[row]);
     if attributes.setters / dictionary::START % 2 != 1 {
         return false;
     }
-    if !dictionary::fits(attributes, v) {
+    if !dictionary::length_and_digits_fit_row(attributes, v) {
         return false;
     }
-    if store::is_there(bytes, row) {
+    if store::is_present(bytes, row) {
         return false;
     }
     is_type_listed(tag, v)
@@ -138,10 +138,10 @@ fn is_settable(bytes: &[u8], row: usize, tag: u32, v: &[u8], codes: &[u32; ROWS]
 
 // Whether a terminal type is listed; nothing is required of other objects.
 fn is_type_listed(tag: u32, v: &[u8]) -> bool
-    ensures { λ r. ⌜ r ≡ terminalTypeListed tag (now (v .entry)) ⌝ }
+    ensures { λ r. ⌜ r ≡ isListedIfTerminalType tag (now (v .entry)) ⌝ }
 {
     if tag != 0x9F35 {
         return true;
     }
-    dictionary::is_terminal_type(basics::byte_at(v, 0))
+    dictionary::is_listed_terminal_type(basics::byte_at(v, 0))
 }

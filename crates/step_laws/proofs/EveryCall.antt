@@ -12,14 +12,14 @@ use lib.Seq.{drop-at}
 use Rattle.dictionary.specs.Named.{rowAfl, rowTrack2Data}
 use Rattle.dictionary.specs.Rows.{storeSize}
 use Rattle.dictionary.proofs.Named.{at-94}
-use Rattle.store.specs.Place.{StoredValue, bytesOfValue, objectValue}
+use Rattle.store.specs.Place.{StoredValue, bytesOrEmptyIfAbsent, objectValue}
 use Rattle.afl.specs.Records.{acceptsAfl}
 use Rattle.command.specs.ReadRecord.{readRecordCommand}
 use Rattle.afl.proofs.Laws.{accepted-length}
 use Rattle.reading.specs.declared.Awaited.{Awaited}
 use Rattle.command.proofs.Commands.{gpo-proper, cryptogram-proper, checksum-proper}
 use Rattle.analysis.specs.Action.{findingsOf}
-use Rattle.analysis.specs.Cvm.{cvmNotApplicable}
+use Rattle.analysis.specs.Cvm.{cvmNumberNotApplicable}
 use Rattle.analysis.specs.Choice.{generateAcP1}
 use Rattle.analysis.proofs.Laws.{found-length, bits-length}
 use Rattle.session_record.specs.declared.Outcome.{Outcome}
@@ -32,8 +32,8 @@ use Rattle.session_record.specs.declared.Refusal.{Refusal}
 use Rattle.session_record.specs.declared.CallResult.{CallResult}
 use Rattle.session_record.specs.declared.Session.{Session}
 use Rattle.session_record.specs.declared.Reply.{Reply}
-use Rattle.basics.specs.Reason.{reasonDol, reasonLink, reasonStopped}
-use Rattle.session_record.specs.Session.{storeBytes, endingOf, endingBy, outcomeParameters}
+use Rattle.basics.specs.Reason.{reasonDolBrokenOrBadLength, reasonLink, reasonStopped}
+use Rattle.session_record.specs.Session.{storeBytes, endingOf, endingForReason, outcomeParameters}
 use Rattle.session_record.specs.Ranges.{storedAfl}
 use Rattle.session_record.proofs.Stored.{empty-lacks}
 use Rattle.session_record.proofs.Phases.{store-size, store-fits, on-fresh}
@@ -209,7 +209,7 @@ module _ (s : Session) (card buf : List ℕ) (n : length (storedAfl (storeBytes 
   -- a start meets none
   never-fresh : Admitted s (length buf) → s .phase ≡ Phase.Fresh → ⊥
   never-fresh i q =
-      n (ap (λ (x : StoredValue). length (bytesOfValue x)) (ap (λ (d : List ℕ). objectValue d 0x94) (on-fresh s (i .ranges) q .store) ∙ empty-lacks 0x94))
+      n (ap (λ (x : StoredValue). length (bytesOrEmptyIfAbsent x)) (ap (λ (d : List ℕ). objectValue d 0x94) (on-fresh s (i .ranges) q .store) ∙ empty-lacks 0x94))
 
   same-start : {st : Step} → StartWay s card buf st → Same st
   same-start (StartWay.refused m l) = refl
@@ -240,11 +240,11 @@ accepted-bytes s a z = omega (arith, accepted-length (storedAfl (storeBytes s)) 
 -- ---- a start that ends the session: its list gives no command (7), and none was handed out
 
 pub start-ended : (s : Session) (bytes buf : List ℕ) (e : OutcomeParameters) → startStep s bytes buf .reply .answer ≡ CallResult.Outcome e
-    → (e ≡ outcomeParameters (endingBy reasonDol) cvmNotApplicable) × (startStep s bytes buf .reply .session .count ≡ 0)
+    → (e ≡ outcomeParameters (endingForReason reasonDolBrokenOrBadLength) cvmNumberNotApplicable) × (startStep s bytes buf .reply .session .count ≡ 0)
 start-ended s bytes buf e = go (start-way s bytes buf)
   where
     go : {st : Step} → StartWay s bytes buf st → st .reply .answer ≡ CallResult.Outcome e
-        → (e ≡ outcomeParameters (endingBy reasonDol) cvmNotApplicable) × (st .reply .session .count ≡ 0)
+        → (e ≡ outcomeParameters (endingForReason reasonDolBrokenOrBadLength) cvmNumberNotApplicable) × (st .reply .session .count ≡ 0)
     go (StartWay.refused n l) p = let z : _≡_ {A = ℕ} 0 1 = cc in absurd (omega arith)
     go (StartWay.unlisted b i q l) p = (cc, on-fresh s (i .ranges) q .count)
     go (StartWay.asked b c i q l f) p = let z : _≡_ {A = ℕ} 0 1 = cc in absurd (omega arith)

@@ -5,11 +5,11 @@ use mathlib.Core.List.{[], _∷_}
 use Prim.Native.Nat.{ℕ, zero, suc, _≤_}
 use native.Mathlib.Omega.{arith}
 use types.Run.{OneOf}
-use Rattle.store.specs.Place.{packedPlace}
+use Rattle.store.specs.Place.{packedRowOffsetAndMaxLength}
 
 -- in the case of a row the number is that row's
-pub at : {k x : ℕ} → OneOf (k ∷ []) x → packedPlace k ≡ packedPlace x
-at h = ap packedPlace (sym h)
+pub at : {k x : ℕ} → OneOf (k ∷ []) x → packedRowOffsetAndMaxLength k ≡ packedRowOffsetAndMaxLength x
+at h = ap packedRowOffsetAndMaxLength (sym h)
 
 -- none of the first n cases fits
 abbrev pub NoneOf : ℕ → ℕ → Type 0

@@ -19,7 +19,7 @@ use Rattle.basics.proofs.Laws.{if-yes, if-no}
 use Rattle.basics.proofs.Order.{le-or-gt, sides}
 use Rattle.dictionary.specs.Rows.{Row, rowIn, findRow}
 use Rattle.dictionary.specs.declared.RowFound.the-variants.{At, Unknown}
-use Rattle.store.specs.Place.{StoredValue, absent, present, bytesOfValue, isPresent, rowRoom, rowOffset, storeSizeOf, rowPlace, placeValue, rowValue, lengthByte, withValueAt, putRow, foundValue, objectValueIn}
+use Rattle.store.specs.Place.{StoredValue, absent, present, bytesOrEmptyIfAbsent, isPresent, rowSizeInStore, rowOffset, storeSizeOf, rowPlaceBytes, valueInPlace, rowValue, rowLengthPlusOneOrZero, lengthAndValueWrittenAt, putRow, valueOfRowFound, objectValueIn}
 use Rattle.store.proofs.Places.{inside, ends, apart}
 
 take-min : (m n : ℕ) (l : List ℕ) → take m (take n l) ≡ take (min m n) l
@@ -36,10 +36,10 @@ take-min m n l = go (le-or-gt m n)
 
 -- how many bytes row k's value may have by its length byte: at most the greatest length
 unfoldable pub storedLength : List Row → List ℕ → ℕ → ℕ
-storedLength table b k = min (lengthByte table b k - 1) (rowIn table k .greatest)
+storedLength table b k = min (rowLengthPlusOneOrZero table b k - 1) (rowIn table k .greatest)
 
-pub byte-there : (p : List ℕ) → isPresent (placeValue p) ≡ not (eqb (getD p 0 0) 0)
-unfolding placeValue
+pub byte-there : (p : List ℕ) → isPresent (valueInPlace p) ≡ not (eqb (getD p 0 0) 0)
+unfolding valueInPlace
 byte-there [] = refl
 byte-there (n ∷ v) = go (eqb n 0) refl
   where
@@ -47,52 +47,52 @@ byte-there (n ∷ v) = go (eqb n 0) refl
     go true e = ap isPresent (if-yes _ _ e) ∙ ap not (sym e)
     go false e = ap isPresent (if-no _ _ e) ∙ ap not (sym e)
 
-pub zero-absent : (p : List ℕ) → getD p 0 0 ≡ 0 → placeValue p ≡ absent
-unfolding placeValue
+pub zero-absent : (p : List ℕ) → getD p 0 0 ≡ 0 → valueInPlace p ≡ absent
+unfolding valueInPlace
 zero-absent [] e = refl
 zero-absent (n ∷ v) e = if-yes _ _ (eq-eqb n 0 e)
 
-pub held-bytes : (n : ℕ) (v : List ℕ) → (n ≡ 0 → ⊥) → placeValue (n ∷ v) ≡ present (take (n - 1) v)
-unfolding placeValue
+pub held-bytes : (n : ℕ) (v : List ℕ) → (n ≡ 0 → ⊥) → valueInPlace (n ∷ v) ≡ present (take (n - 1) v)
+unfolding valueInPlace
 held-bytes n v e = if-no _ _ (ne-eqb n 0 e)
 
 module _ (table : List Row) (b : List ℕ) (k : ℕ) where
   -- the length byte is the store's byte at the place's start
-  pub length-byte-at : lengthByte table b k ≡ getD b (rowOffset table k) 0
-  unfolding lengthByte rowPlace
-  length-byte-at = getD-take (rowRoom (rowIn table k)) _ 0 0 (omega arith) ∙ getD-drop (rowOffset table k) b 0 0 ∙ rw add-zero
+  pub length-byte-at : rowLengthPlusOneOrZero table b k ≡ getD b (rowOffset table k) 0
+  unfolding rowLengthPlusOneOrZero rowPlaceBytes
+  length-byte-at = getD-take (rowSizeInStore (rowIn table k)) _ 0 0 (omega arith) ∙ getD-drop (rowOffset table k) b 0 0 ∙ rw add-zero
 
-  pub there-is : isPresent (rowValue table b k) ≡ not (eqb (lengthByte table b k) 0)
-  unfolding rowValue lengthByte
-  there-is = byte-there (rowPlace table b k)
+  pub there-is : isPresent (rowValue table b k) ≡ not (eqb (rowLengthPlusOneOrZero table b k) 0)
+  unfolding rowValue rowLengthPlusOneOrZero
+  there-is = byte-there (rowPlaceBytes table b k)
 
-  pub absent-is : lengthByte table b k ≡ 0 → rowValue table b k ≡ absent
-  unfolding rowValue lengthByte
-  absent-is e = zero-absent (rowPlace table b k) e
+  pub absent-is : rowLengthPlusOneOrZero table b k ≡ 0 → rowValue table b k ≡ absent
+  unfolding rowValue rowLengthPlusOneOrZero
+  absent-is e = zero-absent (rowPlaceBytes table b k) e
 
   -- a length byte that is not 0 gives that many bytes less one, and at most the greatest length
-  pub present-is : rowOffset table k < length b → (lengthByte table b k ≡ 0 → ⊥)
-      → rowValue table b k ≡ present (take (lengthByte table b k - 1) (take (rowIn table k .greatest) (drop (rowOffset table k + 1) b)))
-  unfolding rowValue rowPlace
+  pub present-is : rowOffset table k < length b → (rowLengthPlusOneOrZero table b k ≡ 0 → ⊥)
+      → rowValue table b k ≡ present (take (rowLengthPlusOneOrZero table b k - 1) (take (rowIn table k .greatest) (drop (rowOffset table k + 1) b)))
+  unfolding rowValue rowPlaceBytes
   present-is h e =
       let n = getD b (rowOffset table k) 0 in
       let g = rowIn table k .greatest in
-      ap placeValue (ap (take (g + 1)) (drop-cons b (rowOffset table k) 0 h) ∙ ap (λ (m : ℕ). take m (n ∷ drop (suc (rowOffset table k)) b)) (add-one g))
+      ap valueInPlace (ap (take (g + 1)) (drop-cons b (rowOffset table k) 0 h) ∙ ap (λ (m : ℕ). take m (n ∷ drop (suc (rowOffset table k)) b)) (add-one g))
       ∙ held-bytes n _ (λ z. e (length-byte-at ∙ z))
       ∙ ap₂ (λ (m : ℕ) (l : List ℕ). present (take (m - 1) (take g l))) (sym length-byte-at) (ap (λ (m : ℕ). drop m b) (sym (add-one (rowOffset table k))))
 
   -- the value's bytes, by its stored length
   pub value-bytes : rowOffset table k < length b
-      → bytesOfValue (rowValue table b k) ≡ take (storedLength table b k) (drop (rowOffset table k + 1) b)
+      → bytesOrEmptyIfAbsent (rowValue table b k) ≡ take (storedLength table b k) (drop (rowOffset table k + 1) b)
   unfolding storedLength
-  value-bytes h = go (lengthByte table b k) refl
+  value-bytes h = go (rowLengthPlusOneOrZero table b k) refl
     where
-      go : (n : ℕ) → lengthByte table b k ≡ n → bytesOfValue (rowValue table b k) ≡ take (min (lengthByte table b k - 1) (rowIn table k .greatest)) (drop (rowOffset table k + 1) b)
+      go : (n : ℕ) → rowLengthPlusOneOrZero table b k ≡ n → bytesOrEmptyIfAbsent (rowValue table b k) ≡ take (min (rowLengthPlusOneOrZero table b k - 1) (rowIn table k .greatest)) (drop (rowOffset table k + 1) b)
       go zero e =
-          let z : min (lengthByte table b k - 1) (rowIn table k .greatest) ≡ 0 = omega arith in
-          ap bytesOfValue (absent-is e) ∙ ap (λ (m : ℕ). take m (drop (rowOffset table k + 1) b)) (sym z)
+          let z : min (rowLengthPlusOneOrZero table b k - 1) (rowIn table k .greatest) ≡ 0 = omega arith in
+          ap bytesOrEmptyIfAbsent (absent-is e) ∙ ap (λ (m : ℕ). take m (drop (rowOffset table k + 1) b)) (sym z)
       go (suc n) e =
-          ap bytesOfValue (present-is h (λ z. omega arith)) ∙ take-min (lengthByte table b k - 1) (rowIn table k .greatest) (drop (rowOffset table k + 1) b)
+          ap bytesOrEmptyIfAbsent (present-is h (λ z. omega arith)) ∙ take-min (rowLengthPlusOneOrZero table b k - 1) (rowIn table k .greatest) (drop (rowOffset table k + 1) b)
 
   -- where the store ends before the place there is no value
   pub no-place : length b ≤ rowOffset table k → rowValue table b k ≡ absent
@@ -134,7 +134,7 @@ sets-sets (y ∷ ws) vs l i j h =
 -- ---- a put is such a run
 
 -- the length byte stored, and then the value copied after it
-pub paste-written : (b : List ℕ) (o : ℕ) (v : List ℕ) → o + 1 + length v ≤ length b → paste (set b o (length v + 1)) (o + 1) v (length v) ≡ withValueAt b o v
+pub paste-written : (b : List ℕ) (o : ℕ) (v : List ℕ) → o + 1 + length v ≤ length b → paste (set b o (length v + 1)) (o + 1) v (length v) ≡ lengthAndValueWrittenAt b o v
 paste-written b o v f =
     let h : o < length b = omega arith in
     let q : o < suc o + length v = omega arith in
@@ -165,31 +165,31 @@ module _ (table : List Row) (b : List ℕ) (k : ℕ) (v : List ℕ) (f : Fits ta
 
   -- its own row holds the value
   pub put-get : rowValue table (putRow table b k v) k ≡ present v
-  unfolding rowValue rowPlace putRow
+  unfolding rowValue rowPlaceBytes putRow
   put-get =
       let g = rowIn table k .greatest in
       let o = rowOffset table k in
       let rest = drop (o + 1 + length v) b in
       let z : length v + 1 - 1 ≡ length v = omega arith in
-      ap (λ (l : List ℕ). placeValue (take (g + 1) l)) (drop-at (take o b) _ o (length-take-le o b (omega (arith, lies))))
-      ∙ ap (λ (m : ℕ). placeValue (take m ((length v + 1) ∷ (v ++ rest)))) (add-one g)
+      ap (λ (l : List ℕ). valueInPlace (take (g + 1) l)) (drop-at (take o b) _ o (length-take-le o b (omega (arith, lies))))
+      ∙ ap (λ (m : ℕ). valueInPlace (take m ((length v + 1) ∷ (v ++ rest)))) (add-one g)
       ∙ held-bytes (length v + 1) _ (λ e. omega arith)
       ∙ ap present (ap (λ (m : ℕ). take m (take g (v ++ rest))) z ∙ take-take (length v) g (v ++ rest) (f .value) ∙ take-at v rest (length v) refl)
 
   -- every other place is untouched
-  pub place-other : (j : ℕ) → (j ≡ k → ⊥) → rowPlace table (putRow table b k v) j ≡ rowPlace table b j
-  unfolding rowPlace
-  place-other j ne = ap (λ (l : List ℕ). take (rowRoom (rowIn table j)) (drop (rowOffset table j) l)) put-sets ∙ go (sides j k ne)
+  pub place-other : (j : ℕ) → (j ≡ k → ⊥) → rowPlaceBytes table (putRow table b k v) j ≡ rowPlaceBytes table b j
+  unfolding rowPlaceBytes
+  place-other j ne = ap (λ (l : List ℕ). take (rowSizeInStore (rowIn table j)) (drop (rowOffset table j) l)) put-sets ∙ go (sides j k ne)
     where
-      go : (j < k) ⊎ (k < j) → take (rowRoom (rowIn table j)) (drop (rowOffset table j) (sets b (rowOffset table k) ((length v + 1) ∷ v))) ≡ take (rowRoom (rowIn table j)) (drop (rowOffset table j) b)
+      go : (j < k) ⊎ (k < j) → take (rowSizeInStore (rowIn table j)) (drop (rowOffset table j) (sets b (rowOffset table k) ((length v + 1) ∷ v))) ≡ take (rowSizeInStore (rowIn table j)) (drop (rowOffset table j) b)
       go (inl h) = part-before ((length v + 1) ∷ v) b _ _ _ (apart table j k h (omega (arith, f .row)))
       go (inr h) =
           let behind : rowOffset table k + suc (length v) ≤ rowOffset table j = omega (arith, apart table k j h (f .row), f .value) in
-          ap (take (rowRoom (rowIn table j))) (part-behind ((length v + 1) ∷ v) b (rowOffset table k) (rowOffset table j) behind)
+          ap (take (rowSizeInStore (rowIn table j))) (part-behind ((length v + 1) ∷ v) b (rowOffset table k) (rowOffset table j) behind)
 
   pub put-other : (j : ℕ) → (j ≡ k → ⊥) → rowValue table (putRow table b k v) j ≡ rowValue table b j
   unfolding rowValue
-  put-other j ne = ap placeValue (place-other j ne)
+  put-other j ne = ap valueInPlace (place-other j ne)
 
 -- puts of two rows commute
 pub put-put : (table : List Row) (b : List ℕ) (j k : ℕ) (v w : List ℕ) → (j ≡ k → ⊥) → Fits table b j v → Fits table b k w
@@ -270,11 +270,11 @@ module _ (table : List Row) where
 
 pub by-row : (table : List Row) (b : List ℕ) (t k : ℕ) → findRow table t ≡ At k → objectValueIn table b t ≡ rowValue table b k
 unfolding objectValueIn
-by-row table b t k e = ap (foundValue table b) e
+by-row table b t k e = ap (valueOfRowFound table b) e
 
 pub unknown-absent : (table : List Row) (b : List ℕ) (t : ℕ) → findRow table t ≡ Unknown → objectValueIn table b t ≡ absent
 unfolding objectValueIn
-unknown-absent table b t e = ap (foundValue table b) e
+unknown-absent table b t e = ap (valueOfRowFound table b) e
 
 -- ---- a store copied whole
 

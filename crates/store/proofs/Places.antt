@@ -11,10 +11,10 @@ use borrow.Author.Tests.{leb-true}
 use Rattle.basics.specs.Choice.{every}
 use Rattle.basics.proofs.Table.{at}
 use Rattle.dictionary.specs.Rows.{Row, dictionaryRows, blankRow, rowIn}
-use Rattle.store.specs.Place.{rowRoom, rowOffset, storeSizeOf}
+use Rattle.store.specs.Place.{rowSizeInStore, rowOffset, storeSizeOf}
 
 -- a row's place lies inside the store
-pub inside : (table : List Row) (k : ℕ) → k < length table → rowOffset table k + rowRoom (rowIn table k) ≤ storeSizeOf table
+pub inside : (table : List Row) (k : ℕ) → k < length table → rowOffset table k + rowSizeInStore (rowIn table k) ≤ storeSizeOf table
 unfolding rowOffset storeSizeOf
 inside [] k h = absurd (omega arith)
 inside (r ∷ rs) zero h = omega arith
@@ -25,10 +25,10 @@ pub ends : (table : List Row) (k : ℕ) → length table ≤ k → rowOffset tab
 unfolding rowOffset storeSizeOf
 ends [] k h = refl
 ends (r ∷ rs) zero h = absurd (omega arith)
-ends (r ∷ rs) (suc k) h = ap (λ (n : ℕ). rowRoom r + n) (ends rs k (omega arith))
+ends (r ∷ rs) (suc k) h = ap (λ (n : ℕ). rowSizeInStore r + n) (ends rs k (omega arith))
 
 -- the next row's place starts after a row's place
-pub offset-next : (table : List Row) (k : ℕ) → k < length table → rowOffset table (suc k) ≡ rowOffset table k + rowRoom (rowIn table k)
+pub offset-next : (table : List Row) (k : ℕ) → k < length table → rowOffset table (suc k) ≡ rowOffset table k + rowSizeInStore (rowIn table k)
 unfolding rowOffset
 offset-next [] k h = absurd (omega arith)
 offset-next (r ∷ []) zero h = omega arith
@@ -36,7 +36,7 @@ offset-next (r ∷ s ∷ rs) zero h = omega arith
 offset-next (r ∷ rs) (suc k) h = let ih = offset-next rs k (omega arith) in omega arith
 
 -- of two rows, the later one's place lies after the earlier one's
-pub apart : (table : List Row) (j k : ℕ) → j < k → j < length table → rowOffset table j + rowRoom (rowIn table j) ≤ rowOffset table k
+pub apart : (table : List Row) (j k : ℕ) → j < k → j < length table → rowOffset table j + rowSizeInStore (rowIn table j) ≤ rowOffset table k
 unfolding rowOffset
 apart [] j k h i = absurd (omega arith)
 apart (r ∷ rs) zero zero h i = absurd (omega arith)

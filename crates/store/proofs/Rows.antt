@@ -14,8 +14,8 @@ use Rattle.basics.proofs.Table.{at}
 use Rattle.basics.proofs.Order.{le-or-gt}
 use Rattle.dictionary.specs.Rows.{dictionaryRows, blankRow, rowAt, rowCount, storeSize}
 use Rattle.dictionary.proofs.Table.{beyond}
-use Rattle.store.specs.declared.RowSpan.{RowSpan}
-use Rattle.store.specs.Place.{rowOffset, storeSizeOf, packedPlace, rowSpan, unpackedPlace, bytesOfValue, rowValue, isFree}
+use Rattle.store.specs.declared.RowOffsetAndMaxLength.{RowOffsetAndMaxLength}
+use Rattle.store.specs.Place.{rowOffset, storeSizeOf, packedRowOffsetAndMaxLength, rowOffsetAndMaxLength, unpackedRowOffsetAndMaxLength, bytesOrEmptyIfAbsent, rowValue, isRowAbsentOrEmpty}
 use Rattle.store.proofs.Places.{inside, ends, storable, short}
 use Rattle.store.proofs.Laws.{Fits, storedLength, value-bytes, length-byte-at}
 
@@ -40,7 +40,7 @@ row-inside k h =
 pub rows-end : (k : ℕ) → rowCount ≤ k → rowOffset dictionaryRows k ≡ storeSize
 rows-end k h = omega (arith, ends dictionaryRows k (omega (arith, rows-length)), rows-size)
 
-span : {a b c d : ℕ} → a ≡ c → b ≡ d → _≡_ {A = RowSpan} (record { at = a; most = b }) (record { at = c; most = d })
+span : {a b c d : ℕ} → a ≡ c → b ≡ d → _≡_ {A = RowOffsetAndMaxLength} (record { at = a; most = b }) (record { at = c; most = d })
 span p q = rw (p, q)
 
 -- a row's place starts inside the store, or at its end, and its greatest length fits a byte
@@ -52,15 +52,15 @@ place-range k =
     ]
 
 -- a row's number taken apart: its place
-pub row-placed : (k n : ℕ) (s : RowSpan) → n ≡ packedPlace k → s ≡ unpackedPlace n → (s ≡ rowSpan k) × (s .at ≤ storeSize)
+pub row-placed : (k n : ℕ) (s : RowOffsetAndMaxLength) → n ≡ packedRowOffsetAndMaxLength k → s ≡ unpackedRowOffsetAndMaxLength n → (s ≡ rowOffsetAndMaxLength k) × (s .at ≤ storeSize)
 row-placed k n s e u =
     let i = place-range k in
-    let w : s ≡ rowSpan k = u ∙ span (omega arith) (omega arith) in
-    let o = ap (λ (p : RowSpan). p .at) w in
+    let w : s ≡ rowOffsetAndMaxLength k = u ∙ span (omega arith) (omega arith) in
+    let o = ap (λ (p : RowOffsetAndMaxLength). p .at) w in
     (w, omega arith)
 
 -- past the last row it is the store's end
-pub past-last : (k : ℕ) → rowCount ≤ k → storeSize * 256 ≡ packedPlace k
+pub past-last : (k : ℕ) → rowCount ≤ k → storeSize * 256 ≡ packedRowOffsetAndMaxLength k
 past-last k h = omega (arith, rows-end k h, beyond (λ r. r .greatest) k h)
 
 -- a value that fits its row, in a store of the dictionary's size
@@ -74,7 +74,7 @@ unfolding dictionaryRows every both
 rows-roomy = refl
 
 module _ (b : List ℕ) (k : ℕ) (s : length b ≡ storeSize) (h : k < rowCount) where
-  value-length : length (bytesOfValue (rowValue dictionaryRows b k)) ≡ min (getD b (rowOffset dictionaryRows k) 0 - 1) (rowAt k .greatest)
+  value-length : length (bytesOrEmptyIfAbsent (rowValue dictionaryRows b k)) ≡ min (getD b (rowOffset dictionaryRows k) 0 - 1) (rowAt k .greatest)
   unfolding storedLength
   value-length =
       let i = row-inside k h in
@@ -83,10 +83,10 @@ module _ (b : List ℕ) (k : ℕ) (s : length b ≡ storeSize) (h : k < rowCount
       ap length (value-bytes dictionaryRows b k (omega arith)) ∙ ap (λ (m : ℕ). length (take (min (m - 1) (rowAt k .greatest)) (drop (rowOffset dictionaryRows k + 1) b))) (length-byte-at dictionaryRows b k)
       ∙ length-take-le n (drop (rowOffset dictionaryRows k + 1) b) fit
 
-  pub free-yes : getD b (rowOffset dictionaryRows k) 0 ≤ 1 → isFree dictionaryRows b k ≡ true
+  pub free-yes : getD b (rowOffset dictionaryRows k) 0 ≤ 1 → isRowAbsentOrEmpty dictionaryRows b k ≡ true
   free-yes e = eq-eqb _ _ (value-length ∙ omega arith)
 
-  pub free-no : 1 < getD b (rowOffset dictionaryRows k) 0 → isFree dictionaryRows b k ≡ false
+  pub free-no : 1 < getD b (rowOffset dictionaryRows k) 0 → isRowAbsentOrEmpty dictionaryRows b k ≡ false
   free-no e =
       let g : 1 ≤ rowAt k .greatest = leb-true _ _ (at (λ r. leb 1 (r .greatest)) dictionaryRows blankRow rows-roomy k (omega (arith, rows-length))) in
-      ne-eqb _ _ (λ (z : length (bytesOfValue (rowValue dictionaryRows b k)) ≡ 0). omega (arith, value-length))
+      ne-eqb _ _ (λ (z : length (bytesOrEmptyIfAbsent (rowValue dictionaryRows b k)) ≡ 0). omega (arith, value-length))

@@ -8,7 +8,7 @@ use Rattle.basics.specs.Choice.{_<?_, _=?_, every}
 use Rattle.basics.specs.Types.{StoreBytes, Value, Byte, Tag}
 use Rattle.dictionary.specs.Rows.{dictionaryRows, findRow}
 use Rattle.dictionary.specs.declared.RowFound.{RowFound}
-use Rattle.store.specs.Place.{objectValue, bytesOfValue, isPresent, lengthByte}
+use Rattle.store.specs.Place.{objectValue, bytesOrEmptyIfAbsent, isPresent, rowLengthPlusOneOrZero}
 
 -- the object is present, empty or not
 abbrev pub hasObject : StoreBytes → Tag → Bool
@@ -20,11 +20,11 @@ lacksObject b t = not (hasObject b t)
 
 -- its bytes; none where it is absent
 abbrev pub storedBytes : StoreBytes → Tag → Value
-storedBytes b t = bytesOfValue (objectValue b t)
+storedBytes b t = bytesOrEmptyIfAbsent (objectValue b t)
 
 -- it is present and not empty
-abbrev pub hasNonEmpty : StoreBytes → Tag → Bool
-hasNonEmpty b t = 0 <? length (storedBytes b t)
+abbrev pub hasNonEmptyObject : StoreBytes → Tag → Bool
+hasNonEmptyObject b t = 0 <? length (storedBytes b t)
 
 -- its byte n, the first is byte 1; 0 past the end
 abbrev pub storedByte : StoreBytes → Tag → ℕ → Byte
@@ -35,14 +35,14 @@ abbrev pub isZeroByte : Byte → Bool
 isZeroByte x = x =? 0
 
 -- all its bytes are zero; so they are where it is absent
-abbrev pub isZeroed : StoreBytes → Tag → Bool
-isZeroed b t = every isZeroByte (storedBytes b t)
+abbrev pub isObjectZeroOrAbsent : StoreBytes → Tag → Bool
+isObjectZeroOrAbsent b t = every isZeroByte (storedBytes b t)
 
 -- the length byte of its place as it is: the length + 1, 0 where it is absent
-abbrev pub lengthFound : StoreBytes → RowFound → Byte
-lengthFound b RowFound.Unknown = 0
-lengthFound b (RowFound.At k) = lengthByte dictionaryRows b k
+abbrev pub lengthPlusOneOrZeroOfRowFound : StoreBytes → RowFound → Byte
+lengthPlusOneOrZeroOfRowFound b RowFound.Unknown = 0
+lengthPlusOneOrZeroOfRowFound b (RowFound.At k) = rowLengthPlusOneOrZero dictionaryRows b k
 
 -- by its row; 0 for an unknown tag
-unfoldable pub storedLength : StoreBytes → Tag → Byte
-storedLength b t = lengthFound b (findRow dictionaryRows t)
+unfoldable pub storedLengthPlusOneOrZero : StoreBytes → Tag → Byte
+storedLengthPlusOneOrZero b t = lengthPlusOneOrZeroOfRowFound b (findRow dictionaryRows t)

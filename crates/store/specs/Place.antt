@@ -8,7 +8,7 @@ use lib.ListN.{length, getD, take, drop}
 use Rattle.basics.specs.Choice.{if_then_else_, _=?_}
 use Rattle.basics.specs.Types.{Bytes, StoreBytes, Value, Byte, Tag, Length, Offset, RowNumber}
 use Rattle.dictionary.specs.Rows.{Row, dictionaryRows, rowIn, rowAt, findRow}
-use Rattle.store.specs.declared.RowSpan.{RowSpan}
+use Rattle.store.specs.declared.RowOffsetAndMaxLength.{RowOffsetAndMaxLength}
 use Rattle.dictionary.specs.declared.RowFound.{RowFound}
 use Rattle.dictionary.specs.declared.RowFound.the-variants.{At, Unknown}
 
@@ -18,9 +18,9 @@ pub data StoredValue : Type 0 where
   present : Value → StoredValue
 
 -- its bytes, none where it is absent
-abbrev pub bytesOfValue : StoredValue → Value
-bytesOfValue absent = []
-bytesOfValue (present v) = v
+abbrev pub bytesOrEmptyIfAbsent : StoredValue → Value
+bytesOrEmptyIfAbsent absent = []
+bytesOrEmptyIfAbsent (present v) = v
 
 -- it is present, empty or not
 abbrev pub isPresent : StoredValue → Bool
@@ -30,73 +30,73 @@ isPresent (present v) = true
 -- ---- places
 
 -- the room of a row: a byte for the length, and the greatest length
-abbrev pub rowRoom : Row → Length
-rowRoom r = r .greatest + 1
+abbrev pub rowSizeInStore : Row → Length
+rowSizeInStore r = r .greatest + 1
 
 -- where row k's place starts: after the places of the rows before it
 unfoldable pub rowOffset : List Row → RowNumber → Offset
 rowOffset [] k = 0
 rowOffset (r ∷ rs) zero = 0
-rowOffset (r ∷ rs) (suc k) = rowRoom r + rowOffset rs k
+rowOffset (r ∷ rs) (suc k) = rowSizeInStore r + rowOffset rs k
 
 -- the store's size: room for every row at its greatest length at once
 unfoldable pub storeSizeOf : List Row → Length
 storeSizeOf [] = 0
-storeSizeOf (r ∷ rs) = rowRoom r + storeSizeOf rs
+storeSizeOf (r ∷ rs) = rowSizeInStore r + storeSizeOf rs
 
 -- row k's place
-unfoldable pub rowPlace : List Row → StoreBytes → RowNumber → Bytes
-rowPlace table b k = take (rowRoom (rowIn table k)) (drop (rowOffset table k) b)
+unfoldable pub rowPlaceBytes : List Row → StoreBytes → RowNumber → Bytes
+rowPlaceBytes table b k = take (rowSizeInStore (rowIn table k)) (drop (rowOffset table k) b)
 
 -- what a place holds: its first byte is 0 where the object is absent, else the length + 1
-unfoldable pub placeValue : Bytes → StoredValue
-placeValue [] = absent
-placeValue (n ∷ v) =
+unfoldable pub valueInPlace : Bytes → StoredValue
+valueInPlace [] = absent
+valueInPlace (n ∷ v) =
     if n =? 0 then absent
     else present (take (n - 1) v)
 
 -- the value of row k
 unfoldable pub rowValue : List Row → StoreBytes → RowNumber → StoredValue
-rowValue table b k = placeValue (rowPlace table b k)
+rowValue table b k = valueInPlace (rowPlaceBytes table b k)
 
 -- row k's length byte as it is
-unfoldable pub lengthByte : List Row → StoreBytes → RowNumber → Byte
-lengthByte table b k = getD (rowPlace table b k) 0 0
+unfoldable pub rowLengthPlusOneOrZero : List Row → StoreBytes → RowNumber → Byte
+rowLengthPlusOneOrZero table b k = getD (rowPlaceBytes table b k) 0 0
 
 -- row k holds no bytes: absent, or present and empty
-abbrev pub isFree : List Row → StoreBytes → RowNumber → Bool
-isFree table b k = length (bytesOfValue (rowValue table b k)) =? 0
+abbrev pub isRowAbsentOrEmpty : List Row → StoreBytes → RowNumber → Bool
+isRowAbsentOrEmpty table b k = length (bytesOrEmptyIfAbsent (rowValue table b k)) =? 0
 
 -- the bytes with a length byte and the value v at the place o; bytes after v stay
-abbrev pub withValueAt : StoreBytes → Offset → Value → StoreBytes
-withValueAt b o v = take o b ++ ((length v + 1) ∷ (v ++ drop (o + 1 + length v) b))
+abbrev pub lengthAndValueWrittenAt : StoreBytes → Offset → Value → StoreBytes
+lengthAndValueWrittenAt b o v = take o b ++ ((length v + 1) ∷ (v ++ drop (o + 1 + length v) b))
 
 -- the store with the value v in row k's place
 unfoldable pub putRow : List Row → StoreBytes → RowNumber → Value → StoreBytes
-putRow table b k v = withValueAt b (rowOffset table k) v
+putRow table b k v = lengthAndValueWrittenAt b (rowOffset table k) v
 
 -- a row's place in the dictionary's store, and the greatest length of its value
-abbrev pub rowSpan : RowNumber → RowSpan
-rowSpan k = record { at = rowOffset dictionaryRows k; most = rowAt k .greatest }
+abbrev pub rowOffsetAndMaxLength : RowNumber → RowOffsetAndMaxLength
+rowOffsetAndMaxLength k = record { at = rowOffset dictionaryRows k; most = rowAt k .greatest }
 
 -- a row's place in one number, as the source has it: 256 times where it starts, and the greatest length of its value
-abbrev pub packedPlace : RowNumber → ℕ
-packedPlace k = rowOffset dictionaryRows k * 256 + rowAt k .greatest
+abbrev pub packedRowOffsetAndMaxLength : RowNumber → ℕ
+packedRowOffsetAndMaxLength k = rowOffset dictionaryRows k * 256 + rowAt k .greatest
 
 -- such a number taken apart
-abbrev pub unpackedPlace : ℕ → RowSpan
-unpackedPlace n = record { at = n / 256; most = n % 256 }
+abbrev pub unpackedRowOffsetAndMaxLength : ℕ → RowOffsetAndMaxLength
+unpackedRowOffsetAndMaxLength n = record { at = n / 256; most = n % 256 }
 
 -- ---- by tag
 
 -- the value of the row that a lookup found
-abbrev pub foundValue : List Row → StoreBytes → RowFound → StoredValue
-foundValue table b Unknown = absent
-foundValue table b (At k) = rowValue table b k
+abbrev pub valueOfRowFound : List Row → StoreBytes → RowFound → StoredValue
+valueOfRowFound table b Unknown = absent
+valueOfRowFound table b (At k) = rowValue table b k
 
 -- the value of a tag: absent where the tag is unknown
 unfoldable pub objectValueIn : List Row → StoreBytes → Tag → StoredValue
-objectValueIn table b t = foundValue table b (findRow table t)
+objectValueIn table b t = valueOfRowFound table b (findRow table t)
 
 -- the same in the dictionary
 abbrev pub objectValue : StoreBytes → Tag → StoredValue

@@ -11,7 +11,7 @@ ghost use mathlib.Core.Path.{_≡_};
 ghost use Prim.Native.Nat.{_+_, _-_, _≤_, _<_, min};
 ghost use lib.ListN.{length, replicate};
 ghost use Rattle.dictionary.specs.Rows.{dictionaryRows, rowAt, rowCount, storeSize};
-ghost use Rattle.store.specs.Place.{rowSpan, unpackedPlace, lengthByte, rowValue, bytesOfValue, isPresent, withValueAt, putRow};
+ghost use Rattle.store.specs.Place.{rowOffsetAndMaxLength, unpackedRowOffsetAndMaxLength, rowLengthPlusOneOrZero, rowValue, bytesOrEmptyIfAbsent, isPresent, lengthAndValueWrittenAt, putRow};
 
 pub struct Store {
     pub bytes: [u8; SIZE],
@@ -21,7 +21,7 @@ pub struct Store {
 const START: u32 = 256;
 
 // A row's place: where it starts, and the greatest length of its value.
-pub struct RowSpan {
+pub struct RowOffsetAndMaxLength {
     pub at: usize,
     pub most: usize,
 }
@@ -45,8 +45,8 @@ pub fn clear(bytes: &mut [u8])
 }
 
 // A row's place; past the last row it is the store's end.
-fn span_of(row: usize) -> RowSpan
-    ensures { λ r. ⌜ r ≡ rowSpan row ⌝ }
+fn span_of(row: usize) -> RowOffsetAndMaxLength
+    ensures { λ r. ⌜ r ≡ rowOffsetAndMaxLength row ⌝ }
     ensures { λ r. ⌜ r .at ≤ storeSize ⌝ }
 {
     unpacked(place_at(row))
@@ -54,33 +54,33 @@ fn span_of(row: usize) -> RowSpan
 
 // Where a row's place starts.
 fn start_of(row: usize) -> usize
-    ensures { λ r. ⌜ r ≡ rowSpan row .at ⌝ }
+    ensures { λ r. ⌜ r ≡ rowOffsetAndMaxLength row .at ⌝ }
 {
     unpacked(place_at(row)).at
 }
 
 // A place's number taken apart.
-fn unpacked(place: u32) -> RowSpan
-    ensures { λ r. ⌜ r ≡ unpackedPlace place ⌝ }
+fn unpacked(place: u32) -> RowOffsetAndMaxLength
+    ensures { λ r. ⌜ r ≡ unpackedRowOffsetAndMaxLength place ⌝ }
 {
-    RowSpan {
+    RowOffsetAndMaxLength {
         at: (place / START) as usize,
         most: (place % START) as usize,
     }
 }
 
 // The length byte of a row's place as it is: 0 where the object is absent, else its length + 1.
-pub fn length_byte(bytes: &[u8], row: usize) -> u8
-    ensures { λ r. ⌜ r ≡ lengthByte dictionaryRows (now (bytes .entry)) row ⌝ }
+pub fn length_plus_one_or_zero(bytes: &[u8], row: usize) -> u8
+    ensures { λ r. ⌜ r ≡ rowLengthPlusOneOrZero dictionaryRows (now (bytes .entry)) row ⌝ }
 {
     basics::byte_at(bytes, start_of(row))
 }
 
 // Whether a row's object is present.
-pub fn is_there(bytes: &[u8], row: usize) -> bool
+pub fn is_present(bytes: &[u8], row: usize) -> bool
     ensures { λ r. ⌜ r ≡ isPresent (rowValue dictionaryRows (now (bytes .entry)) row) ⌝ }
 {
-    length_byte(bytes, row) != 0
+    length_plus_one_or_zero(bytes, row) != 0
 }
 
 // How many bytes a value has by its length byte, 0 where the object is absent. A length byte that is
@@ -101,7 +101,7 @@ fn value_length(stored: u8, most: usize) -> usize
 
 // A row's value: its bytes, and no bytes where the object is absent.
 pub fn value(bytes: &[u8], row: usize) -> &[u8]
-    ensures { λ r. ⌜ now r ≡ bytesOfValue (rowValue dictionaryRows (now (bytes .entry)) row) ⌝ }
+    ensures { λ r. ⌜ now r ≡ bytesOrEmptyIfAbsent (rowValue dictionaryRows (now (bytes .entry)) row) ⌝ }
 {
     let span = span_of(row);
     let at = span.at;
@@ -131,7 +131,7 @@ pub fn put(bytes: &mut [u8], row: usize, v: &[u8])
 // Writes a length byte and a value at a place.
 fn write(bytes: &mut [u8], at: usize, v: &[u8])
     requires { ⌜ (at + 1 + length (now v) ≤ length (now bytes)) × (length (now v) ≤ 254) ⌝ }
-    ensures { λ _. ⌜ now (bytes .exit) ≡ withValueAt (now (bytes .entry)) at (now (v .entry)) ⌝ }
+    ensures { λ _. ⌜ now (bytes .exit) ≡ lengthAndValueWrittenAt (now (bytes .entry)) at (now (v .entry)) ⌝ }
 {
     let start = at + 1;
     bytes[at] = (v.len() + 1) as u8;

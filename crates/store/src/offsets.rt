@@ -2,12 +2,12 @@
 //
 // Where each row's place is in the store.
 ghost use mathlib.Core.Path.{_≡_};
-ghost use Rattle.store.specs.Place.{packedPlace};
+ghost use Rattle.store.specs.Place.{packedRowOffsetAndMaxLength};
 
 // A row's place in one number: where it starts, and the greatest length of its value. The compiler keeps the cases as a
 // table, where an array would be built anew each time that it is read.
 pub(crate) fn place_at(row: usize) -> u32
-    ensures { λ r. ⌜ r ≡ packedPlace row ⌝ }
+    ensures { λ r. ⌜ r ≡ packedRowOffsetAndMaxLength row ⌝ }
 {
     match row {
         0 => 16, // 50: at 0, 16

@@ -57,7 +57,7 @@ fn answered(session: Session, card: &[u8]) -> Session {
 fn show_answered(session: Session, card: &[u8]) {
     let mut command = [0u8; 261];
     let reply = session::answer(session, card, &mut command);
-    print::reply(reply, &command);
+    print::print_reply(reply, &command);
 }
 
 // ---- single answers to a record
@@ -76,10 +76,10 @@ fn record_rows() {
 
 // The answer read into an empty store, and as the first of a session's two records.
 fn record_row(card: &[u8]) {
-    print::text(b"answer");
-    print::bytes(card);
+    print::print_text(b"answer");
+    print::print_bytes(card);
     show_reading(Awaited::Record(Sfi { number: 1 }), card);
-    print::text(b", ");
+    print::print_text(b", ");
     let session = answered(
         started(0x22, 1),
         b"\x80\x06\x00\x80\x08\x01\x02\x00\x90\x00",
@@ -93,14 +93,14 @@ fn show_reading(awaited: Awaited, card: &[u8]) {
     let mut after = before.bytes;
     let read = reading::read_answer(&mut after, awaited, card);
     let verdict = read.verdict;
-    print::text(b": reason ");
+    print::print_text(b": reason ");
     print::print_number(basics::widen(reading::verdict_number(verdict)));
-    print::text(b", objects ");
+    print::print_text(b", objects ");
     print::print_number(read.objects);
     if check::same(&before.bytes, &after) {
-        print::text(b", store kept");
+        print::print_text(b", store kept");
     } else {
-        print::text(b", stored");
+        print::print_text(b", stored");
     }
 }
 
@@ -128,27 +128,27 @@ fn count_rows() {
 }
 
 fn gpo_count(card: &[u8]) {
-    print::text(b"options");
+    print::print_text(b"options");
     count_row(Awaited::Gpo, card);
 }
 
 fn record_count(sfi: u8, card: &[u8]) {
-    print::text(b"record of file ");
+    print::print_text(b"record of file ");
     print::print_number(basics::widen(sfi));
-    print::text(b":");
+    print::print_text(b":");
     count_row(Awaited::Record(Sfi { number: sfi }), card);
 }
 
 fn cryptogram_count(card: &[u8]) {
-    print::text(b"cryptogram");
+    print::print_text(b"cryptogram");
     count_row(Awaited::Cryptogram, card);
 }
 
 // One answer, and its reading into an empty store.
 fn count_row(awaited: Awaited, card: &[u8]) {
-    print::bytes(card);
+    print::print_bytes(card);
     show_reading(awaited, card);
-    print::text(b"\n");
+    print::print_text(b"\n");
 }
 
 // ---- padding: before, between and after objects at each level; the full record with a 00 after each inner object
@@ -206,13 +206,13 @@ fn full_record() -> [u8; 252] {
 fn gpo_rows() {
     let mut command = [0u8; 261];
     let first = start_plain(0x22, 1, &mut command);
-    print::text(b"no 9F38: ");
-    print::reply(first, &command);
-    print::text(b"answer 80 06 00 80 08 01 01 00 90 00: ");
+    print::print_text(b"no 9F38: ");
+    print::print_reply(first, &command);
+    print::print_text(b"answer 80 06 00 80 08 01 01 00 90 00: ");
     show_answered(first.session, b"\x80\x06\x00\x80\x08\x01\x01\x00\x90\x00");
-    print::text(b"9F02 asked at 2: ");
+    print::print_text(b"9F02 asked at 2: ");
     amount_row(2);
-    print::text(b"9F02 asked at 7: ");
+    print::print_text(b"9F02 asked at 7: ");
     amount_row(7);
 }
 
@@ -221,43 +221,43 @@ fn amount_row(asked: u8) {
     let mut command = [0u8; 261];
     let bytes = terminal(0x22, 1, asked);
     let reply = session::start(session_record::fresh_session(), &bytes, &mut command);
-    print::reply(reply, &command);
+    print::print_reply(reply, &command);
 }
 
 // ---- TVR bits and the choice
 
 fn result_rows() {
-    print::text(b"95 asked at 3: ");
+    print::print_text(b"95 asked at 3: ");
     result_row(
         0x22,
         0,
         b"\x70\x14\x5F\x24\x03\x30\x12\x31\x5A\x08\x47\x61\x73\x90\x01\x01\x00\x10\x8C\x02\x95\x03\x90\x00",
     );
-    print::text(b"95 asked at 6: ");
+    print::print_text(b"95 asked at 6: ");
     result_row(
         0x22,
         0,
         b"\x70\x14\x5F\x24\x03\x30\x12\x31\x5A\x08\x47\x61\x73\x90\x01\x01\x00\x10\x8C\x02\x95\x06\x90\x00",
     );
-    print::text(b"type 22, no 9F0F: ");
+    print::print_text(b"type 22, no 9F0F: ");
     result_row(
         0x22,
         1,
         b"\x70\x14\x5F\x24\x03\x30\x12\x31\x5A\x08\x47\x61\x73\x90\x01\x01\x00\x10\x8C\x02\x95\x05\x90\x00",
     );
-    print::text(b"type 22, zero 9F0F: ");
+    print::print_text(b"type 22, zero 9F0F: ");
     result_row(
         0x22,
         1,
         b"\x70\x1C\x5F\x24\x03\x30\x12\x31\x5A\x08\x47\x61\x73\x90\x01\x01\x00\x10\x8C\x02\x95\x05\x9F\x0F\x05\x00\x00\x00\x00\x00\x90\x00",
     );
-    print::text(b"type 23, no 9F0D: ");
+    print::print_text(b"type 23, no 9F0D: ");
     result_row(
         0x23,
         1,
         b"\x70\x14\x5F\x24\x03\x30\x12\x31\x5A\x08\x47\x61\x73\x90\x01\x01\x00\x10\x8C\x02\x95\x05\x90\x00",
     );
-    print::text(b"8C of 95 05: ");
+    print::print_text(b"8C of 95 05: ");
     result_row(
         0x22,
         1,
@@ -332,16 +332,16 @@ fn gpo_objects() {
 
 // The answer read into an empty store, and as a session's first.
 fn gpo_row(card: &[u8]) {
-    print::text(b"options");
-    print::bytes(card);
+    print::print_text(b"options");
+    print::print_bytes(card);
     show_reading(Awaited::Gpo, card);
-    print::text(b", ");
+    print::print_text(b", ");
     show_answered(started(0x22, 1), card);
 }
 
 // An object of 70 and 77 that came in the answer to GPO, again in a record.
 fn second_rows() {
-    print::text(b"8F in options, then in a record: ");
+    print::print_text(b"8F in options, then in a record: ");
     let session = answered(
         started(0x22, 1),
         b"\x77\x0D\x82\x02\x00\x80\x94\x04\x08\x01\x02\x00\x8F\x01\x05\x90\x00",
@@ -406,9 +406,9 @@ fn taken_starts() {
 
 // Further objects of start bytes, and the whole of them.
 fn start_row(further: &[u8], whole: &[u8]) {
-    print::text(b"start with");
-    print::bytes(further);
-    print::text(b": ");
+    print::print_text(b"start with");
+    print::print_bytes(further);
+    print::print_text(b": ");
     let mut command = [0u8; 261];
-    print::reply(session::start(session_record::fresh_session(), whole, &mut command), &command);
+    print::print_reply(session::start(session_record::fresh_session(), whole, &mut command), &command);
 }

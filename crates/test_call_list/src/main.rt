@@ -17,7 +17,7 @@ fn main() {
 
 // The bench's purchase: one record, and the decision to go online. The commands are in the buffers.
 fn purchase() {
-    print::text(b"purchase\n");
+    print::print_text(b"purchase\n");
     let mut calls = io::large_buffer();
     let mut replies = [0xEEu8; 17];
     let started = start(&mut calls, 0);
@@ -32,7 +32,7 @@ fn purchase() {
 
 // Refused calls in between: an answer and a stop before the start, a start with a short buffer, a second start.
 fn refused_between() {
-    print::text(b"refused calls in between\n");
+    print::print_text(b"refused calls in between\n");
     let mut calls = io::large_buffer();
     let mut replies = [0xEEu8; 28];
     let early = answer(&mut calls, 0, b"\x90\x00");
@@ -48,7 +48,7 @@ fn refused_between() {
 
 // The link fails while the session waits on GPO; the call after it is refused.
 fn link_failure() {
-    print::text(b"link failed\n");
+    print::print_text(b"link failed\n");
     let mut calls = io::large_buffer();
     let mut replies = [0xEEu8; 12];
     let started = start(&mut calls, 0);
@@ -59,7 +59,7 @@ fn link_failure() {
 
 // A stop that brings a byte: no list of calls, so the start before it is not played.
 fn malformed() {
-    print::text(b"malformed\n");
+    print::print_text(b"malformed\n");
     let mut calls = io::large_buffer();
     let mut replies = [0xEEu8; 8];
     let started = start(&mut calls, 0);
@@ -70,7 +70,7 @@ fn malformed() {
 
 // Two calls, and room for one reply.
 fn short_replies() {
-    print::text(b"too short for the replies\n");
+    print::print_text(b"too short for the replies\n");
     let mut calls = io::large_buffer();
     let mut replies = [0xEEu8; 7];
     let started = start(&mut calls, 0);
@@ -81,7 +81,7 @@ fn short_replies() {
 
 // 128 records: 130 commands in 131 calls that are not refused, and a last one that is.
 fn longest() {
-    print::text(b"128 records\n");
+    print::print_text(b"128 records\n");
     let mut calls = io::large_buffer();
     let mut replies = [0xEEu8; 528];
     let started = start(&mut calls, 0);
@@ -176,31 +176,31 @@ fn play(calls: &mut [u8], end: usize, replies: &mut [u8]) {
     let session = ran.session;
     lines(replies);
     match said {
-        PlayResult::Played => print::text(b"played"),
-        PlayResult::Malformed => print::text(b"no list of calls"),
-        PlayResult::TooShort => print::text(b"too little room"),
+        PlayResult::Played => print::print_text(b"played"),
+        PlayResult::Malformed => print::print_text(b"no list of calls"),
+        PlayResult::TooShort => print::print_text(b"too little room"),
     }
-    print::text(b", count ");
-    print::print_number(basics::widen(session_record::count(session)));
-    print::text(b", commands ");
+    print::print_text(b", count ");
+    print::print_number(basics::widen(session_record::command_count(session)));
+    print::print_text(b", commands ");
     print::print_number(kinds(replies, 0));
-    print::text(b", outcomes ");
+    print::print_text(b", outcomes ");
     print::print_number(kinds(replies, 1));
-    print::text(b", refusals ");
+    print::print_text(b", refusals ");
     print::print_number(kinds(replies, 2));
-    print::text(b"\n");
+    print::print_text(b"\n");
 }
 
 // Four bytes to a line; bytes after the replies too.
 fn lines(s: &[u8]) {
     let mut rest = s;
     while 4 < rest.len() {
-        print::bytes(&rest[..4]);
-        print::text(b"\n");
+        print::print_bytes(&rest[..4]);
+        print::print_text(b"\n");
         rest = &rest[4..];
     }
-    print::bytes(rest);
-    print::text(b"\n");
+    print::print_bytes(rest);
+    print::print_text(b"\n");
 }
 
 // How many replies are of a kind.
@@ -229,6 +229,6 @@ fn command(calls: &[u8], end: usize, n: usize) {
     }
     let from = end - 261;
     let to = from + n;
-    print::bytes(&calls[from..to]);
-    print::text(b"\n");
+    print::print_bytes(&calls[from..to]);
+    print::print_text(b"\n");
 }

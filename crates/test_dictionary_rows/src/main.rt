@@ -1,7 +1,7 @@
 // Every row of the dictionary, a line each: tag, least and greatest length, form, who may set the object (S a start,
 // C the card, K the session), the templates that may be directly around it, the answers that may bring it, and
 // whether a start must.
-use dictionary::{Attributes, ROWS};
+use dictionary::{RowAttributes, ROWS};
 ghost use Prim.Native.Nat.{_<_};
 
 fn main() {
@@ -10,42 +10,42 @@ fn main() {
     }
 }
 
-fn line(tag: u32, a: Attributes) {
+fn line(tag: u32, a: RowAttributes) {
     print::print_tag(tag);
-    print::text(b",");
+    print::print_text(b",");
     print::print_number(a.least);
-    print::text(b",");
+    print::print_text(b",");
     print::print_number(a.greatest);
-    print::text(b",");
+    print::print_text(b",");
     form(a.form);
-    print::text(b",");
+    print::print_text(b",");
     setters(a.setters);
-    print::text(b",");
+    print::print_text(b",");
     templates(a.templates);
-    print::text(b",");
+    print::print_text(b",");
     answers(a.answers);
-    print::text(b",");
+    print::print_text(b",");
     must(a.must);
-    print::text(b"\n");
+    print::print_text(b"\n");
 }
 
 fn form(form: u8) {
     match form {
-        dictionary::FORM_N => print::text(b"n"),
-        dictionary::FORM_CN => print::text(b"cn"),
-        _ => print::text(b"b"),
+        dictionary::FORM_N => print::print_text(b"n"),
+        dictionary::FORM_CN => print::print_text(b"cn"),
+        _ => print::print_text(b"b"),
     }
 }
 
 fn setters(bits: u8) {
     if bits / dictionary::START % 2 == 1 {
-        print::text(b"S");
+        print::print_text(b"S");
     }
     if bits / dictionary::CARD % 2 == 1 {
-        print::text(b"C");
+        print::print_text(b"C");
     }
     if bits / dictionary::SESSION % 2 == 1 {
-        print::text(b"K");
+        print::print_text(b"K");
     }
 }
 
@@ -60,7 +60,7 @@ fn templates(bits: u8) {
 
 fn answers(bits: u8) {
     if bits == dictionary::GPO + dictionary::CARD_RECORD + dictionary::CRYPTOGRAM + dictionary::CHECKSUM {
-        print::text(b"any");
+        print::print_text(b"any");
     } else {
         some_answers(bits);
     }
@@ -76,9 +76,9 @@ fn some_answers(bits: u8) {
 
 fn must(must: u8) {
     if must == 1 {
-        print::text(b"must");
+        print::print_text(b"must");
     } else {
-        print::text(b"-");
+        print::print_text(b"-");
     }
 }
 
@@ -88,14 +88,14 @@ fn one_of(bits: u8, bit: u8, name: &[u8])
 {
     if bits / bit % 2 == 1 {
         if bits % bit != 0 {
-            print::text(b"+");
+            print::print_text(b"+");
         }
-        print::text(name);
+        print::print_text(name);
     }
 }
 
 fn none_of(bits: u8) {
     if bits == 0 {
-        print::text(b"-");
+        print::print_text(b"-");
     }
 }

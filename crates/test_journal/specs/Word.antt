@@ -6,22 +6,22 @@ use Prim.Native.Nat.{ℕ, _+_, _*_, _%_}
 use lib.ListN.{length}
 use Rattle.basics.specs.Types.{Bytes, Length, ResultWord}
 use Rattle.basics.specs.Choice.{if_then_else_, _<?_}
-use Rattle.basics.specs.Front.{withPrefix}
+use Rattle.basics.specs.Front.{writtenOverFront}
 use Rattle.journal.specs.declared.JournalVerdict.{JournalVerdict}
 
 -- a record's number is below this
-abbrev pub verdictWordLimit : ℕ
-verdictWordLimit = 65536
+abbrev pub verdictKindWeightInWord : ℕ
+verdictKindWeightInWord = 65536
 
 -- the number of a verdict
 abbrev pub verdictWord : JournalVerdict → ResultWord
-verdictWord (JournalVerdict.Accepted n) = n % verdictWordLimit
-verdictWord (JournalVerdict.Mismatch n) = verdictWordLimit + n % verdictWordLimit
-verdictWord (JournalVerdict.Truncated n) = 2 * verdictWordLimit + n % verdictWordLimit
+verdictWord (JournalVerdict.Accepted n) = n % verdictKindWeightInWord
+verdictWord (JournalVerdict.Mismatch n) = verdictKindWeightInWord + n % verdictKindWeightInWord
+verdictWord (JournalVerdict.Truncated n) = 2 * verdictKindWeightInWord + n % verdictKindWeightInWord
 
 -- ---- bytes w at the front of a slice l that has room for them; a shorter one stays
 
 -- how many bytes are given, and the slice afterwards
-pub record GivesBytes (r : Length) (after w l : Bytes) : Type 0 where
-  pub size : r ≡ (if length l <? length w then 0 else length w)
-  pub bytes : after ≡ (if length l <? length w then l else withPrefix w l)
+pub record GivesBytesIfRoom (returnedSize : Length) (bufferAfter expectedBytes bufferBefore : Bytes) : Type 0 where
+  pub size : returnedSize ≡ (if length bufferBefore <? length expectedBytes then 0 else length expectedBytes)
+  pub bytes : bufferAfter ≡ (if length bufferBefore <? length expectedBytes then bufferBefore else writtenOverFront expectedBytes bufferBefore)

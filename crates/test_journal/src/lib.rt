@@ -6,8 +6,8 @@ use journal::JournalVerdict;
 ghost use mathlib.Core.Path.{_≡_};
 ghost use Prim.Native.Nat.{_≤_, _<_};
 ghost use lib.ListN.{take};
-ghost use Rattle.journal.specs.Verdict.{journalVerdictOf, expectedReplyOf};
-ghost use Rattle.test_journal.specs.Word.{verdictWord, GivesBytes};
+ghost use Rattle.journal.specs.Verdict.{journalVerdictOf, expectedReplyAtFirstMismatch};
+ghost use Rattle.test_journal.specs.Word.{verdictWord, GivesBytesIfRoom};
 
 // The verdict on a journal: the record's number, and above 16 bits 0 for accepted, 1 for a mismatch, 2 for truncated.
 // It is fed the first bytes, so many, and then parts of one size, 0 for all that is left.
@@ -30,9 +30,9 @@ pub extern "C" fn emv_test_journal(bytes: &[u8], first: usize, part: usize) -> u
 // 0 where there is none, and where `out` has fewer bytes, which then stay.
 #[no_mangle]
 pub extern "C" fn emv_test_wanted(bytes: &[u8], out: &mut [u8]) -> usize
-    ensures { λ r. ⌜ GivesBytes r (now (out .exit)) (expectedReplyOf (now (bytes .entry))) (now (out .entry)) ⌝ }
+    ensures { λ r. ⌜ GivesBytesIfRoom r (now (out .exit)) (expectedReplyAtFirstMismatch (now (bytes .entry))) (now (out .entry)) ⌝ }
 {
-    let wanted = journal::expected_record(journal::feed(journal::begin(), bytes));
+    let wanted = journal::expected_reply_record(journal::feed(journal::begin(), bytes));
     let record = wanted.bytes;
     let size = wanted.size;
     put(front(&record, size), out)
@@ -50,7 +50,7 @@ fn front(s: &[u8], n: usize) -> &[u8]
 
 // Copies bytes into the front of others, where there is room, and reports how many.
 fn put(s: &[u8], out: &mut [u8]) -> usize
-    ensures { λ r. ⌜ GivesBytes r (now (out .exit)) (now (s .entry)) (now (out .entry)) ⌝ }
+    ensures { λ r. ⌜ GivesBytesIfRoom r (now (out .exit)) (now (s .entry)) (now (out .entry)) ⌝ }
 {
     if out.len() < s.len() {
         return 0;

@@ -5,8 +5,8 @@
 use analysis::choice::Choice;
 use dictionary::SIZE;
 use journal::{JournalChecker, JournalVerdict};
-use layout::{RecordHeld, RECORD_SIZE};
-use reading::{Awaited, Readings};
+use layout::{DecodedRecordHead, RECORD_SIZE};
+use reading::{Awaited, BothReadings};
 use session_record::Session;
 use call_list::PlayResult;
 
@@ -26,15 +26,15 @@ fn main() {
 // ---- functions that stand for a statement
 
 fn statements() {
-    line(b"bench::rows", bench_rows::marked_rows());
-    line(b"trace::most_commands", session_claim::every_session_is_proper());
+    line(b"bench::rows", bench_rows::proved_bench_row_count());
+    line(b"trace::most_commands", session_claim::every_session_follows_published_order());
     line(b"laws::most_contents", laws::records_in_any_order());
     word(b"explain_calls::refusal_word", explain_claim::explanation_refused_word());
     line(b"rank::rank, of offline", basics::widen(rank_of(Choice::Offline)));
     found(b"cabinet_calls::most_approved", cabinet_claim::approved_within_cap());
-    host_claim::demand_3_over_host_calls();
+    host_claim::host_calls_follow_published_order();
     worked_examples::examples_hold();
-    worked_words::words_hold();
+    worked_words::word_examples_hold();
     let rows = dictionary::used_rows();
     line(b"dictionary::used_rows, the last", rows[dictionary::USED - 1]);
 }
@@ -48,20 +48,20 @@ fn rank_of(choice: Choice) -> u8 {
 fn parts() {
     line(b"run::said_number", basics::widen(said_number(PlayResult::Played)));
     if in_ranges(session_record::fresh_session()) {
-        print::text(b"record::in_ranges: a fresh session is\n");
+        print::print_text(b"record::in_ranges: a fresh session is\n");
     }
     let held = decode(b"");
-    let RecordHeld::Nothing = held else {
+    let DecodedRecordHead::Nothing = held else {
         return;
     };
-    print::text(b"layout::decode: no bytes hold no record\n");
+    print::print_text(b"layout::decode: no bytes hold no record\n");
 }
 
 fn in_ranges(session: Session) -> bool {
-    session_record::in_ranges(session)
+    session_record::session_record_in_ranges(session)
 }
 
-fn decode(bytes: &[u8]) -> RecordHeld {
+fn decode(bytes: &[u8]) -> DecodedRecordHead {
     let mut store = [0u8; SIZE];
     layout::decode_record(bytes, &mut store)
 }
@@ -84,7 +84,7 @@ fn readers() {
     word(b"emv_test_read_flat", test_read_flat(&mut store, 1, 1, b"\x70\x00\x90\x00"));
 }
 
-fn both(awaited: Awaited, answer: &[u8]) -> Readings {
+fn both(awaited: Awaited, answer: &[u8]) -> BothReadings {
     let mut first = [0u8; SIZE];
     let mut second = [0u8; SIZE];
     reading::read_both(&mut first, &mut second, awaited, answer)
@@ -262,35 +262,35 @@ fn finish(checker: JournalChecker) -> JournalVerdict {
 }
 
 fn wanted_size(checker: JournalChecker) -> usize {
-    let wanted = journal::expected_record(checker);
+    let wanted = journal::expected_reply_record(checker);
     wanted.size
 }
 
 // ---- lines
 
 fn line(name: &[u8], number: usize) {
-    print::text(name);
-    print::text(b": ");
+    print::print_text(name);
+    print::print_text(b": ");
     print::print_number(number);
-    print::text(b"\n");
+    print::print_text(b"\n");
 }
 
 // A result word by its upper and its lower half.
 fn word(name: &[u8], word: u32) {
-    print::text(name);
-    print::text(b": ");
+    print::print_text(name);
+    print::print_text(b": ");
     print::print_number((word / 65536) as usize);
-    print::text(b" ");
+    print::print_text(b" ");
     print::print_number((word % 65536) as usize);
-    print::text(b"\n");
+    print::print_text(b"\n");
 }
 
 // A word of 64 bits by its two halves.
 fn found(name: &[u8], place: u64) {
-    print::text(name);
-    print::text(b": ");
+    print::print_text(name);
+    print::print_text(b": ");
     print::print_number((place / 0x100000000) as usize);
-    print::text(b" ");
+    print::print_text(b" ");
     print::print_number((place % 0x100000000) as usize);
-    print::text(b"\n");
+    print::print_text(b"\n");
 }

@@ -15,7 +15,7 @@ fn main() {
 // A reply of a fresh session with this answer.
 fn reply_with(answer: CallResult) {
     let session = session_record::fresh_session();
-    print::reply_in_words(Reply { session, answer }, b"");
+    print::print_reply_in_words(Reply { session, answer }, b"");
 }
 
 // An outcome with a reason, whether they go together or not, and no CVM.
@@ -34,7 +34,7 @@ fn outcomes() {
 // Every reason with its outcome, and a number that is no reason.
 fn reasons() {
     for reason in 1..13u8 {
-        ending(session_record::outcome_for(reason), reason);
+        ending(session_record::outcome_of_nonzero_reason(reason), reason);
     }
 }
 
@@ -59,5 +59,5 @@ fn names() {
     for row in 0..ROWS {
         store::put(&mut store, row, b"");
     }
-    print::objects(&store);
+    print::print_objects_without_bits(&store);
 }

@@ -8,10 +8,10 @@ use reading::{Awaited, Sfi, Reading};
 ghost use mathlib.Core.Path.{_≡_};
 ghost use Prim.Native.Nat.{_+_, _*_, _%_};
 ghost use Rattle.reading.specs.Answer.{verdictNumber};
-ghost use Rattle.test_reading.specs.Read.{DidTestRead, testRead, answerWantedFor, answerWanted, countLimit};
+ghost use Rattle.test_reading.specs.Read.{ReturnsTestReading, testRead, awaitedByNumberIfStoreSized, awaitedByNumber, reasonWeightInWord};
 
 // The answer that is awaited, or none.
-pub enum AnswerWanted {
+pub enum AwaitedAnswer {
     Answer(Awaited),
     Nothing,
 }
@@ -27,10 +27,10 @@ const REASON: u32 = 0x10000;
 // are not read.
 #[no_mangle]
 pub extern "C" fn emv_test_read(store: &mut [u8], awaited: u32, sfi: u8, card: &[u8]) -> u32
-    ensures { λ r. ⌜ DidTestRead r (now (store .exit)) (testRead awaited sfi (now (store .entry)) (now (card .entry))) ⌝ }
+    ensures { λ r. ⌜ ReturnsTestReading r (now (store .exit)) (testRead awaited sfi (now (store .entry)) (now (card .entry))) ⌝ }
 {
-    let answer = answer_asked(store.len(), awaited, sfi);
-    let AnswerWanted::Answer(a) = answer else {
+    let answer = awaited_by_number(store.len(), awaited, sfi);
+    let AwaitedAnswer::Answer(a) = answer else {
         return NOT_READ;
     };
     let reading = reading::read_answer(store, a, card);
@@ -38,37 +38,37 @@ pub extern "C" fn emv_test_read(store: &mut [u8], awaited: u32, sfi: u8, card: &
 }
 
 // The answer of a number, for a store of its size.
-pub fn answer_asked(size: usize, awaited: u32, sfi: u8) -> AnswerWanted
-    ensures { λ r. ⌜ r ≡ answerWantedFor size awaited sfi ⌝ }
+pub fn awaited_by_number(size: usize, awaited: u32, sfi: u8) -> AwaitedAnswer
+    ensures { λ r. ⌜ r ≡ awaitedByNumberIfStoreSized size awaited sfi ⌝ }
 {
     if size != SIZE {
-        return AnswerWanted::Nothing;
+        return AwaitedAnswer::Nothing;
     }
     wanted_of(awaited, sfi)
 }
 
 // The answer of a number.
-fn wanted_of(awaited: u32, sfi: u8) -> AnswerWanted
-    ensures { λ r. ⌜ r ≡ answerWanted awaited sfi ⌝ }
+fn wanted_of(awaited: u32, sfi: u8) -> AwaitedAnswer
+    ensures { λ r. ⌜ r ≡ awaitedByNumber awaited sfi ⌝ }
 {
     if awaited == 0 {
-        return AnswerWanted::Answer(Awaited::Gpo);
+        return AwaitedAnswer::Answer(Awaited::Gpo);
     }
     if awaited == 1 {
-        return AnswerWanted::Answer(Awaited::Record(Sfi { number: sfi }));
+        return AwaitedAnswer::Answer(Awaited::Record(Sfi { number: sfi }));
     }
     if awaited == 2 {
-        return AnswerWanted::Answer(Awaited::Cryptogram);
+        return AwaitedAnswer::Answer(Awaited::Cryptogram);
     }
     if awaited == 3 {
-        return AnswerWanted::Answer(Awaited::Checksum);
+        return AwaitedAnswer::Answer(Awaited::Checksum);
     }
-    AnswerWanted::Nothing
+    AwaitedAnswer::Nothing
 }
 
 // A reading as one number; of a count the lower 16 bits.
 pub fn reading_word(reading: Reading) -> u32
-    ensures { λ r. ⌜ r ≡ verdictNumber (reading .verdict) * countLimit + reading .objects % countLimit ⌝ }
+    ensures { λ r. ⌜ r ≡ verdictNumber (reading .verdict) * reasonWeightInWord + reading .objects % reasonWeightInWord ⌝ }
 {
     let verdict = reading.verdict;
     REASON * basics::widen32(reading::verdict_number(verdict)) + (reading.objects % 0x10000) as u32

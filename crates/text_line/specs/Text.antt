@@ -12,29 +12,29 @@ unfoldable pub isBlank : Byte → Bool
 isBlank c = c =? 32 or c =? 9 or c =? 13
 
 -- kinds of characters: a blank, no blank, and no '#'
-abbrev pub isOfKind : CharacterKind → Byte → Bool
-isOfKind Blank c = isBlank c
-isOfKind NotBlank c = not (isBlank c)
-isOfKind NotHash c = not (c =? 35)
+abbrev pub isCharacterOfKind : CharacterKind → Byte → Bool
+isCharacterOfKind Blank c = isBlank c
+isCharacterOfKind NotBlank c = not (isBlank c)
+isCharacterOfKind NotHash c = not (c =? 35)
 
 -- the longest part at the front whose characters all pass a test
-unfoldable pub longestFront : (Byte → Bool) → Bytes → Bytes
-longestFront f [] = []
-longestFront f (c ∷ s) = if f c then c ∷ longestFront f s else []
+unfoldable pub longestPrefix : (Byte → Bool) → Bytes → Bytes
+longestPrefix f [] = []
+longestPrefix f (c ∷ s) = if f c then c ∷ longestPrefix f s else []
 
 -- what follows that part
-unfoldable pub pastFront : (Byte → Bool) → Bytes → Bytes
-pastFront f [] = []
-pastFront f (c ∷ s) = if f c then pastFront f s else (c ∷ s)
+unfoldable pub afterLongestPrefix : (Byte → Bool) → Bytes → Bytes
+afterLongestPrefix f [] = []
+afterLongestPrefix f (c ∷ s) = if f c then afterLongestPrefix f s else (c ∷ s)
 
 -- a line without its comment: what is before the first '#'
 abbrev pub uncommented : Bytes → Bytes
-uncommented s = longestFront (isOfKind NotHash) s
+uncommented s = longestPrefix (isCharacterOfKind NotHash) s
 
 -- the first word: the characters from the first that is no blank up to the next blank
 abbrev pub firstWord : Bytes → Bytes
-firstWord s = longestFront (isOfKind NotBlank) (pastFront (isOfKind Blank) s)
+firstWord s = longestPrefix (isCharacterOfKind NotBlank) (afterLongestPrefix (isCharacterOfKind Blank) s)
 
 -- what follows the first word
 abbrev pub behindFirstWord : Bytes → Bytes
-behindFirstWord s = pastFront (isOfKind NotBlank) (pastFront (isOfKind Blank) s)
+behindFirstWord s = afterLongestPrefix (isCharacterOfKind NotBlank) (afterLongestPrefix (isCharacterOfKind Blank) s)

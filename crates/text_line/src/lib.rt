@@ -7,40 +7,40 @@
 // digits side by side, small or capital. `#` starts a comment to the line's end, so `#!` at the start of a file does
 // too. N is a decimal number, at most 4,096. A line with no word is blank.
 //
-// `uncommented`, `first_word`, `behind_word` and `decode_hex` read the lines of files with other words.
+// `uncommented`, `first_word`, `after_first_word` and `decode_hex` read the lines of files with other words.
 ghost use mathlib.Core.Path.{_≡_};
 ghost use Prim.Native.Nat.{_≤_};
 ghost use lib.ListN.{length};
-ghost use Rattle.text_line.specs.Text.{isOfKind, longestFront, pastFront, uncommented as uncommentedOf};
+ghost use Rattle.text_line.specs.Text.{isCharacterOfKind, longestPrefix, afterLongestPrefix, uncommented as uncommentedOf};
 ghost use Rattle.text_line.specs.Text.{firstWord, behindFirstWord};
-ghost use Rattle.text_line.specs.Digits.{hexDigit, hexSpelled, hexWithin, DecodesHex, bufferLine};
-ghost use Rattle.text_line.specs.Line.{lineWordOf, lineAlone as aloneAs, lineOfBytes, lineMeaning, LineSays};
-ghost use Rattle.text_line.specs.Inner.{hexPairOf};
+ghost use Rattle.text_line.specs.Digits.{hexDigitValueOr16, hexDecodingOf, hexDecodingWithinRoom, DecodesHex, bufferLineIfUpTo4096};
+ghost use Rattle.text_line.specs.Line.{lineWordOf, lineIfOnlyBlanksFollow as aloneAs, lineIfHexDecoded, lineMeaning, ReturnsLineMeaning};
+ghost use Rattle.text_line.specs.Inner.{hexPairAtFront};
 
 // How many bytes a call brings: the front of the caller's slice.
-pub struct Bytes {
+pub struct LineByteCount {
     pub size: usize,
 }
 
 // A requested length of the command buffer.
-pub struct Size {
+pub struct LineBufferSize {
     pub bytes: usize,
 }
 
 // What is wrong with a line.
-pub struct Problem {
+pub struct LineProblem {
     pub number: u8,
 }
 
 pub enum Line {
     Blank,
-    Start(Bytes),
-    Answer(Bytes),
+    Start(LineByteCount),
+    Answer(LineByteCount),
     LinkFailed,
     Stop,
-    Buffer(Size),
+    Buffer(LineBufferSize),
     Session,
-    Wrong(Problem),
+    Wrong(LineProblem),
 }
 
 // The numbers of the problems.
@@ -92,20 +92,20 @@ enum HexPair {
 }
 
 // How many bytes were decoded, and the number of the problem that stopped it, 0 for none.
-pub struct Decoded {
+pub struct HexDecoded {
     pub size: usize,
     pub problem: u8,
 }
 
 // What a line means. The bytes of a start or an answer are at the front of `out`.
 pub fn parse_line(line: &[u8], out: &mut [u8]) -> Line
-    ensures { λ r. ⌜ LineSays r (now (out .exit)) (lineMeaning (now (line .entry)) (now (out .entry))) ⌝ }
+    ensures { λ r. ⌜ ReturnsLineMeaning r (now (out .exit)) (lineMeaning (now (line .entry)) (now (out .entry))) ⌝ }
 {
     if MOST < line.len() {
-        return Line::Wrong(Problem { number: LONG });
+        return Line::Wrong(LineProblem { number: LONG });
     }
     let text = uncommented(line);
-    let rest = behind_word(text);
+    let rest = after_first_word(text);
     let word = word_named(first_word(text));
     match word {
         LineWord::Absent => Line::Blank,
@@ -113,9 +113,9 @@ pub fn parse_line(line: &[u8], out: &mut [u8]) -> Line
         LineWord::Answer => answer_line(decode_hex(rest, out)),
         LineWord::LinkFailed => alone(rest, Line::LinkFailed),
         LineWord::Stop => alone(rest, Line::Stop),
-        LineWord::Buffer => alone(behind_word(rest), size_line(first_word(rest))),
+        LineWord::Buffer => alone(after_first_word(rest), size_line(first_word(rest))),
         LineWord::Session => alone(rest, Line::Session),
-        LineWord::Unknown => Line::Wrong(Problem { number: WORD }),
+        LineWord::Unknown => Line::Wrong(LineProblem { number: WORD }),
     }
 }
 
@@ -123,7 +123,7 @@ pub fn parse_line(line: &[u8], out: &mut [u8]) -> Line
 
 // Whether a character is of a kind: a blank; no blank; or no `#`.
 fn is_of(kind: CharacterKind, c: u8) -> bool
-    ensures { λ r. ⌜ r ≡ isOfKind kind c ⌝ }
+    ensures { λ r. ⌜ r ≡ isCharacterOfKind kind c ⌝ }
 {
     match kind {
         CharacterKind::Blank => is_blank(c),
@@ -134,7 +134,7 @@ fn is_of(kind: CharacterKind, c: u8) -> bool
 
 // A space, a tab or a carriage return.
 fn is_blank(c: u8) -> bool
-    ensures { λ r. ⌜ r ≡ isOfKind CharacterKind.Blank c ⌝ }
+    ensures { λ r. ⌜ r ≡ isCharacterOfKind CharacterKind.Blank c ⌝ }
 {
     if c == b' ' {
         return true;
@@ -147,7 +147,7 @@ fn is_blank(c: u8) -> bool
 
 // How many characters at the front are of a kind.
 fn front_length(s: &[u8], kind: CharacterKind) -> usize
-    ensures { λ r. ⌜ (r ≡ length (longestFront (isOfKind kind) (now (s .entry)))) × (r ≤ length (now (s .entry))) ⌝ }
+    ensures { λ r. ⌜ (r ≡ length (longestPrefix (isCharacterOfKind kind) (now (s .entry)))) × (r ≤ length (now (s .entry))) ⌝ }
 {
     let mut i = 0;
     while i < s.len() {
@@ -169,7 +169,7 @@ pub fn uncommented(s: &[u8]) -> &[u8]
 
 // The text from its first character that is no blank.
 fn past_blanks(s: &[u8]) -> &[u8]
-    ensures { λ r. ⌜ now r ≡ pastFront (isOfKind CharacterKind.Blank) (now (s .entry)) ⌝ }
+    ensures { λ r. ⌜ now r ≡ afterLongestPrefix (isCharacterOfKind CharacterKind.Blank) (now (s .entry)) ⌝ }
 {
     let n = front_length(s, CharacterKind::Blank);
     &s[n..]
@@ -185,7 +185,7 @@ pub fn first_word(s: &[u8]) -> &[u8]
 }
 
 // What follows the first word.
-pub fn behind_word(s: &[u8]) -> &[u8]
+pub fn after_first_word(s: &[u8]) -> &[u8]
     ensures { λ r. ⌜ now r ≡ behindFirstWord (now (s .entry)) ⌝ }
 {
     let t = past_blanks(s);
@@ -197,25 +197,25 @@ pub fn behind_word(s: &[u8]) -> &[u8]
 fn word_named(w: &[u8]) -> LineWord
     ensures { λ r. ⌜ r ≡ lineWordOf (now (w .entry)) ⌝ }
 {
-    if basics::same(w, b"") {
+    if basics::bytes_equal(w, b"") {
         return LineWord::Absent;
     }
-    if basics::same(w, b"start") {
+    if basics::bytes_equal(w, b"start") {
         return LineWord::Start;
     }
-    if basics::same(w, b"answer") {
+    if basics::bytes_equal(w, b"answer") {
         return LineWord::Answer;
     }
-    if basics::same(w, b"link-failed") {
+    if basics::bytes_equal(w, b"link-failed") {
         return LineWord::LinkFailed;
     }
-    if basics::same(w, b"stop") {
+    if basics::bytes_equal(w, b"stop") {
         return LineWord::Stop;
     }
-    if basics::same(w, b"buffer") {
+    if basics::bytes_equal(w, b"buffer") {
         return LineWord::Buffer;
     }
-    if basics::same(w, b"session") {
+    if basics::bytes_equal(w, b"session") {
         return LineWord::Session;
     }
     LineWord::Unknown
@@ -230,69 +230,69 @@ fn alone(rest: &[u8], line: Line) -> Line
     if past_blanks(rest).len() == 0 {
         return line;
     }
-    Line::Wrong(Problem { number: BEHIND })
+    Line::Wrong(LineProblem { number: BEHIND })
 }
 
 // A start with the bytes that were decoded.
-fn start_line(d: Decoded) -> Line
-    ensures { λ r. ⌜ r ≡ lineOfBytes Line.Start d ⌝ }
+fn start_line(d: HexDecoded) -> Line
+    ensures { λ r. ⌜ r ≡ lineIfHexDecoded Line.Start d ⌝ }
 {
     if d.problem == 0 {
-        return Line::Start(Bytes { size: d.size });
+        return Line::Start(LineByteCount { size: d.size });
     }
-    Line::Wrong(Problem { number: d.problem })
+    Line::Wrong(LineProblem { number: d.problem })
 }
 
 // An answer with the bytes that were decoded.
-fn answer_line(d: Decoded) -> Line
-    ensures { λ r. ⌜ r ≡ lineOfBytes Line.Answer d ⌝ }
+fn answer_line(d: HexDecoded) -> Line
+    ensures { λ r. ⌜ r ≡ lineIfHexDecoded Line.Answer d ⌝ }
 {
     if d.problem == 0 {
-        return Line::Answer(Bytes { size: d.size });
+        return Line::Answer(LineByteCount { size: d.size });
     }
-    Line::Wrong(Problem { number: d.problem })
+    Line::Wrong(LineProblem { number: d.problem })
 }
 
 // The length that a word requests.
 fn size_line(w: &[u8]) -> Line
-    ensures { λ r. ⌜ r ≡ bufferLine (now (w .entry)) ⌝ }
+    ensures { λ r. ⌜ r ≡ bufferLineIfUpTo4096 (now (w .entry)) ⌝ }
 {
     if w.len() == 0 {
-        return Line::Wrong(Problem { number: NUMBER });
+        return Line::Wrong(LineProblem { number: NUMBER });
     }
     let mut n: usize = 0;
     let mut i = 0;
     while i < w.len() {
         let d = basics::widen(digit(w[i]));
         if 10 <= d {
-            return Line::Wrong(Problem { number: NUMBER });
+            return Line::Wrong(LineProblem { number: NUMBER });
         }
         n = n * 10 + d;
         if LONGEST < n {
-            return Line::Wrong(Problem { number: NUMBER });
+            return Line::Wrong(LineProblem { number: NUMBER });
         }
         i += 1;
     }
-    Line::Buffer(Size { bytes: n })
+    Line::Buffer(LineBufferSize { bytes: n })
 }
 
 // Decodes pairs of hexadecimal digits with blanks between them into the front of `out`, up to the first
 // that is no pair or that finds no room.
-pub fn decode_hex(s: &[u8], out: &mut [u8]) -> Decoded
-    ensures { λ r. ⌜ DecodesHex r (now (out .exit)) (hexWithin (length (now (out .entry))) (hexSpelled (now (s .entry)))) (now (out .entry)) ⌝ }
+pub fn decode_hex(s: &[u8], out: &mut [u8]) -> HexDecoded
+    ensures { λ r. ⌜ DecodesHex r (now (out .exit)) (hexDecodingWithinRoom (length (now (out .entry))) (hexDecodingOf (now (s .entry)))) (now (out .entry)) ⌝ }
 {
     let mut rest = past_blanks(s);
     let mut n: usize = 0;
     while rest.len() != 0 {
         let pair = pair_at(rest);
         let HexPair::Byte(value) = pair else {
-            return Decoded {
+            return HexDecoded {
                 size: n,
                 problem: HEX,
             };
         };
         if out.len() <= n {
-            return Decoded {
+            return HexDecoded {
                 size: n,
                 problem: ROOM,
             };
@@ -301,7 +301,7 @@ pub fn decode_hex(s: &[u8], out: &mut [u8]) -> Decoded
         n += 1;
         rest = past_blanks(&rest[2..]);
     }
-    Decoded {
+    HexDecoded {
         size: n,
         problem: 0,
     }
@@ -309,7 +309,7 @@ pub fn decode_hex(s: &[u8], out: &mut [u8]) -> Decoded
 
 // The first two characters as a byte.
 fn pair_at(s: &[u8]) -> HexPair
-    ensures { λ r. ⌜ r ≡ hexPairOf (now (s .entry)) ⌝ }
+    ensures { λ r. ⌜ r ≡ hexPairAtFront (now (s .entry)) ⌝ }
 {
     if s.len() < 2 {
         return HexPair::Broken;
@@ -329,7 +329,7 @@ fn pair_at(s: &[u8]) -> HexPair
 
 // The value of a hexadecimal digit, and 16 for any other character.
 fn digit(c: u8) -> u8
-    ensures { λ r. ⌜ (r ≡ hexDigit c) × (r ≤ 16) ⌝ }
+    ensures { λ r. ⌜ (r ≡ hexDigitValueOr16 c) × (r ≤ 16) ⌝ }
 {
     if basics::is_between(48, c, 57) {
         return c - 48;

@@ -13,16 +13,16 @@ use lib.ListN.{length, drop, length-append}
 use lib.Seq.{take-length, take-append-seam, drop-append-seam, drop-append-add, drop-drop}
 use borrow.Author.Tests.{eqb-true}
 use Rattle.basics.specs.Choice.{if}
-use Rattle.basics.specs.Number.{bigEndianFrom, bigEndian}
+use Rattle.basics.specs.Number.{appendBigEndianBytes, bigEndianNumber}
 use Rattle.basics.proofs.Laws.{if-yes, if-ind, both-right}
 use Rattle.tlv.specs.declared.ObjectFront.the-variants.{Object}
-use Rattle.tlv.specs.declared.Following.the-variants.{Inner}
+use Rattle.tlv.specs.declared.NextInTemplate.the-variants.{Inner}
 use Rattle.tlv.specs.Tag.{tagSize, tagParsed, tagAt}
-use Rattle.tlv.specs.Length.{lengthOneByte, lengthTwoBytes, lengthParsed, lengthAt}
+use Rattle.tlv.specs.Length.{lengthAfter81, lengthAfter82, lengthParsed, lengthAt}
 use Rattle.tlv.specs.Object.{tlvHeader, headerOf, headerValue, behindObject}
-use Rattle.tlv.specs.Tree.{Forest, end, leaf, node, nextOf, parseTree}
-use Rattle.tlv.specs.Encoding.{tagBytes, wellFormedTag, lengthBytes, objectBytes, encodeTree, Encodable}
-use Rattle.tlv.specs.Padding.{Padded, nothing, padding, primitive, template, PaddingSkipped}
+use Rattle.tlv.specs.Tree.{Forest, end, leaf, node, nextInTemplate, parseTree}
+use Rattle.tlv.specs.Encoding.{tagBytes, wellFormedTag, lengthBytes, objectBytes, encodeTree, EncodableWithinLevels}
+use Rattle.tlv.specs.Padding.{EncodesTreeWithPadding, nothing, padding, primitive, template, PaddingDoesNotChangeParse}
 use Rattle.tlv.proofs.Laws.{tag-some, tail-is, header-with, with-whole}
 use Rattle.tlv.proofs.Prefix.{tag-kept}
 use Rattle.tlv.proofs.NextObject.{next-empty, next-object}
@@ -34,10 +34,10 @@ some-bytes : (t : ℕ) → 1 ≤ length (tagBytes t)
 unfolding tagBytes
 some-bytes t = let P : List ℕ → Type 0 = λ s. 1 ≤ length s in if-ind P _ _ _ (λ _. omega arith) (λ _. if-ind P _ _ _ (λ _. omega arith) (λ _. omega arith))
 
-pub number-tag : (t : ℕ) → bigEndian (tagBytes t) ≡ t
-unfolding tagBytes bigEndianFrom
+pub number-tag : (t : ℕ) → bigEndianNumber (tagBytes t) ≡ t
+unfolding tagBytes appendBigEndianBytes
 number-tag t =
-    let P : List ℕ → Type 0 = λ s. bigEndian s ≡ t in
+    let P : List ℕ → Type 0 = λ s. bigEndianNumber s ≡ t in
     if-ind P _ _ _ (λ _. omega arith) (λ _. if-ind P _ _ _ (λ _. omega arith) (λ _. omega arith))
 
 pub tag-encoded : (t : ℕ) (r : List ℕ) → wellFormedTag t ≡ true → tagAt (tagBytes t ++ r) ≡ tagParsed t (length (tagBytes t))
@@ -51,11 +51,11 @@ tag-encoded t r w =
 -- ---- a length's bytes
 
 in-two : (n : ℕ) (r : List ℕ) → lengthAt (0x81 ∷ n ∷ r) ≡ lengthParsed n 2
-unfolding lengthAt lengthOneByte if
+unfolding lengthAt lengthAfter81 if
 in-two n r = refl
 
 in-three : (a b : ℕ) (r : List ℕ) → lengthAt (0x82 ∷ a ∷ b ∷ r) ≡ lengthParsed (a * 256 + b) 3
-unfolding lengthAt lengthTwoBytes if
+unfolding lengthAt lengthAfter82 if
 in-three a b r = refl
 
 pub length-encoded : (n : ℕ) (r : List ℕ) → lengthAt (lengthBytes n ++ r) ≡ lengthParsed n (length (lengthBytes n))
@@ -96,12 +96,12 @@ module _ (t : ℕ) (v r : List ℕ) where
       _ refl _ (ap lengthAt (tail-is bytes k ∙ behind-tag) ∙ length-encoded (length v) (v ++ r))
       ∙ with-whole bytes _ _ (simp length-append (omega arith))
 
-  next-encoded : wellFormedTag t ≡ true → nextOf bytes ≡ Inner (tlvHeader t start (length v))
+  next-encoded : wellFormedTag t ≡ true → nextInTemplate bytes ≡ Inner (tlvHeader t start (length v))
   next-encoded w = next-object bytes _ (header-encoded w)
 
 -- ---- a tree's bytes, padded or not
 
-pub parse-padded : {f : Forest} {s : List ℕ} → Padded f s → (l : ℕ) → Encodable f l → parseTree l s ≡ some f
+pub parse-padded : {f : Forest} {s : List ℕ} → EncodesTreeWithPadding f s → (l : ℕ) → EncodableWithinLevels f l → parseTree l s ≡ some f
 parse-padded nothing l u = parse-end l [] (next-empty [] refl)
 parse-padded (padding p) l u = zeros-in-front 1 l _ ∙ parse-padded p l u
 parse-padded (primitive t v {r} {s} p) l u =
@@ -113,17 +113,17 @@ parse-padded (template t {f} {r} {v} {s} m p q) (suc l) u =
     ∙ rw (sub-one, object-value t v s, object-behind t v s) (with-node t _ _ f r (parse-padded p l (u .3)) (parse-padded q (suc l) (u .4)))
 
 -- the shortest encoding has no padding
-pub encode-padded : (f : Forest) (l : ℕ) → Encodable f l → Padded f (encodeTree f)
+pub encode-padded : (f : Forest) (l : ℕ) → EncodableWithinLevels f l → EncodesTreeWithPadding f (encodeTree f)
 unfolding encodeTree
 encode-padded end l u = nothing
 encode-padded (leaf t v r) l u = primitive t v (encode-padded r l (u .3))
 encode-padded (node t f r) zero u = absurd (u .3)
 encode-padded (node t f r) (suc l) u = template t (u .2) (encode-padded f l (u .3)) (encode-padded r (suc l) (u .4))
 
-pub parse-encode : (f : Forest) (l : ℕ) → Encodable f l → parseTree l (encodeTree f) ≡ some f
+pub parse-encode : (f : Forest) (l : ℕ) → EncodableWithinLevels f l → parseTree l (encodeTree f) ≡ some f
 parse-encode f l u = parse-padded (encode-padded f l u) l u
 
-pub passes-over : (s : List ℕ) → PaddingSkipped s
+pub passes-over : (s : List ℕ) → PaddingDoesNotChangeParse s
 passes-over s = record {
   in-front = λ n l. zeros-in-front n l s;
   behind = λ n l f. zeros-behind n l s f;

@@ -5,19 +5,19 @@ use mathlib.Core.List.{List, [], _∷_, map}
 use mathlib.Core.Option.{Option, some, none}
 use Prim.Native.Nat.{ℕ}
 use Rattle.basics.specs.Choice.{if}
-use Rattle.basics.specs.Number.{bigEndianFrom}
-use Rattle.basics.specs.Recursion.{recurse, recurseBy}
+use Rattle.basics.specs.Number.{appendBigEndianBytes}
+use Rattle.basics.specs.Recursion.{recurseWithFuelFromLength, recurseWithFuel}
 use Rattle.tlv.specs.declared.ObjectFront.{ObjectFront}
-use Rattle.tlv.specs.declared.Following.{Following}
-use Rattle.tlv.specs.declared.Following.the-variants.{End, Inner, Malformed}
-use Rattle.tlv.specs.Tag.{tagSize, tagSecondByte, tagThirdByte, tagAt, tagFirstByte, isTemplate, isPrivate}
+use Rattle.tlv.specs.declared.NextInTemplate.{NextInTemplate}
+use Rattle.tlv.specs.declared.NextInTemplate.the-variants.{End, Inner, Malformed}
+use Rattle.tlv.specs.Tag.{tagSize, tagSizeFromSecondByte, tagSizeFromThirdByte, tagAt, tagFirstByte, isTemplate, isPrivate}
 use Rattle.tlv.specs.Length.{lengthAt}
 use Rattle.tlv.specs.Object.{tlvHeader, headerOf}
-use Rattle.tlv.specs.Tree.{Forest, end, leaf, node, nextOf, withLeaf, withNode, parseTree}
+use Rattle.tlv.specs.Tree.{Forest, end, leaf, node, nextInTemplate, prependLeaf, prependNode, parseTree}
 
 -- no bytes; padding alone; an object, at once and after two bytes of padding, which its value's start counts; FF,
 -- and FF after 00
-next : map nextOf
+next : map nextInTemplate
     ([]
     ∷ (0x00 ∷ 0x00 ∷ [])
     ∷ (0x9F ∷ 0x08 ∷ 0x01 ∷ 0x02 ∷ 0x00 ∷ [])
@@ -26,7 +26,7 @@ next : map nextOf
     ∷ (0x00 ∷ 0xFF ∷ 0x00 ∷ [])
     ∷ [])
     ≡ End ∷ End ∷ Inner (tlvHeader 0x9F08 3 1) ∷ Inner (tlvHeader 0x9F08 5 1) ∷ Malformed ∷ Malformed ∷ []
-unfolding nextOf headerOf tagAt tagSize tagSecondByte tagThirdByte lengthAt tagFirstByte isTemplate isPrivate bigEndianFrom if
+unfolding nextInTemplate headerOf tagAt tagSize tagSizeFromSecondByte tagSizeFromThirdByte lengthAt tagFirstByte isTemplate isPrivate appendBigEndianBytes if
 next = refl
 
 -- the object at the front of bytes is none after padding
@@ -46,7 +46,7 @@ trees : map (parseTree 1)
     ∷ (0xE1 ∷ 0x06 ∷ 0x00 ∷ 0x95 ∷ 0x01 ∷ 0x00 ∷ 0x00 ∷ 0x00 ∷ 0x00 ∷ 0x95 ∷ 0x01 ∷ 0x00 ∷ [])
     ∷ [])
     ≡ some one ∷ some one ∷ some (leaf 0x9C [] one) ∷ some (node 0xE1 end end) ∷ some (node 0xE1 one one) ∷ []
-unfolding parseTree recurse recurseBy nextOf withLeaf withNode headerOf tagAt tagSize lengthAt tagFirstByte isTemplate isPrivate bigEndianFrom if
+unfolding parseTree recurseWithFuelFromLength recurseWithFuel nextInTemplate prependLeaf prependNode headerOf tagAt tagSize lengthAt tagFirstByte isTemplate isPrivate appendBigEndianBytes if
 trees = refl
 
 -- inside a tag, between tag and length, and in place of the value's end: read as they are
@@ -56,5 +56,5 @@ inside : map (parseTree 1)
     ∷ (0x95 ∷ 0x02 ∷ 0x00 ∷ [])
     ∷ [])
     ≡ none ∷ some (leaf 0x95 [] (leaf 0x01 [] end)) ∷ none ∷ []
-unfolding parseTree recurse recurseBy nextOf withLeaf withNode headerOf tagAt tagSize tagSecondByte lengthAt tagFirstByte isTemplate isPrivate bigEndianFrom if
+unfolding parseTree recurseWithFuelFromLength recurseWithFuel nextInTemplate prependLeaf prependNode headerOf tagAt tagSize tagSizeFromSecondByte lengthAt tagFirstByte isTemplate isPrivate appendBigEndianBytes if
 inside = refl

@@ -13,7 +13,7 @@ use lib.ListN.{length, getD, take, drop, length-drop}
 use lib.Seq.{take-all, getD-drop}
 use borrow.Author.Tests.{lt-ltb, le-ltb, le-leb, lt-leb, eq-eqb, ne-eqb, ltb-false, leb-true, eqb-false}
 use Rattle.basics.specs.Choice.{if}
-use Rattle.basics.specs.Number.{bigEndianFrom, bigEndian, hasBit}
+use Rattle.basics.specs.Number.{appendBigEndianBytes, bigEndianNumber, hasBitOfWeight}
 use Rattle.basics.proofs.Laws.{if-yes, if-no, if-ind}
 use Rattle.tlv.specs.declared.Tag.{Tag}
 use Rattle.tlv.specs.declared.TagFront.{TagFront}
@@ -24,8 +24,8 @@ use Rattle.tlv.specs.declared.LengthFront.the-variants.{Sized, Unsized}
 use Rattle.tlv.specs.declared.TlvHeader.{TlvHeader}
 use Rattle.tlv.specs.declared.ObjectFront.{ObjectFront}
 use Rattle.tlv.specs.declared.ObjectFront.the-variants.{Object, Broken}
-use Rattle.tlv.specs.Tag.{tagContinues, tagByteContinues, tagThirdByte, tagSecondByte, tagSize, tagParsed, tagAt, tagFirstByte, isTemplate, isPrivate}
-use Rattle.tlv.specs.Length.{lengthParsed, lengthOneByte, lengthTwoBytes, lengthAt}
+use Rattle.tlv.specs.Tag.{tagFirstByteContinues, tagLaterByteContinues, tagSizeFromThirdByte, tagSizeFromSecondByte, tagSize, tagParsed, tagAt, tagFirstByte, isTemplate, isPrivate}
+use Rattle.tlv.specs.Length.{lengthParsed, lengthAfter81, lengthAfter82, lengthAt}
 use Rattle.tlv.specs.Object.{tlvHeader, headerWithLength, headerWithTag, headerOf}
 
 -- ---- by places
@@ -35,14 +35,14 @@ past n k h = le-ltb (suc (suc (suc n))) k (omega arith)
 
 -- what is left to test once a second byte is expected, and a third
 abbrev pub fromThird : List ℕ → ℕ
-fromThird s = if (ltb (length s) 3) 0 (if (tagByteContinues (getD s 2 0)) 0 3)
+fromThird s = if (ltb (length s) 3) 0 (if (tagLaterByteContinues (getD s 2 0)) 0 3)
 
 abbrev pub fromSecond : List ℕ → ℕ
-fromSecond s = if (ltb (length s) 2) 0 (if (eqb (getD s 1 0) 0x80) 0 (if (tagByteContinues (getD s 1 0)) (fromThird s) 2))
+fromSecond s = if (ltb (length s) 2) 0 (if (eqb (getD s 1 0) 0x80) 0 (if (tagLaterByteContinues (getD s 1 0)) (fromThird s) 2))
 
 pub tag-size-by : (s : List ℕ) → tagSize s ≡
-    if (ltb (length s) 1) 0 (if (eqb (getD s 0 0) 0) 0 (if (tagContinues (getD s 0 0)) (fromSecond s) 1))
-unfolding tagSize tagSecondByte tagThirdByte if
+    if (ltb (length s) 1) 0 (if (eqb (getD s 0 0) 0) 0 (if (tagFirstByteContinues (getD s 0 0)) (fromSecond s) 1))
+unfolding tagSize tagSizeFromSecondByte tagSizeFromThirdByte if
 tag-size-by [] = refl
 tag-size-by (a ∷ []) = refl
 tag-size-by (a ∷ b ∷ []) = refl
@@ -55,7 +55,7 @@ fromLong s =
     (if (eqb (getD s 0 0) 0x82) (if (ltb (length s) 3) Unsized (lengthParsed (getD s 1 0 * 256 + getD s 2 0) 3)) Unsized)
 
 pub length-by : (s : List ℕ) → lengthAt s ≡ if (ltb (length s) 1) Unsized (if (ltb (getD s 0 0) 0x80) (lengthParsed (getD s 0 0) 1) (fromLong s))
-unfolding lengthAt lengthOneByte lengthTwoBytes if
+unfolding lengthAt lengthAfter81 lengthAfter82 if
 length-by [] = refl
 length-by (a ∷ []) = refl
 length-by (a ∷ b ∷ []) = refl
@@ -64,19 +64,19 @@ length-by (a ∷ b ∷ c ∷ s) = simp (past (length s) 1 (omega arith), past (l
 -- ---- the tag as the code reads it
 
 -- the number of one byte, of two and of three
-pub number-one : (s : List ℕ) → bigEndian (take 1 s) ≡ getD s 0 0
-unfolding bigEndianFrom
+pub number-one : (s : List ℕ) → bigEndianNumber (take 1 s) ≡ getD s 0 0
+unfolding appendBigEndianBytes
 number-one [] = refl
 number-one (a ∷ s) = omega arith
 
-pub number-two : (s : List ℕ) → 2 ≤ length s → bigEndian (take 2 s) ≡ getD s 0 0 * 256 + getD s 1 0
-unfolding bigEndianFrom
+pub number-two : (s : List ℕ) → 2 ≤ length s → bigEndianNumber (take 2 s) ≡ getD s 0 0 * 256 + getD s 1 0
+unfolding appendBigEndianBytes
 number-two [] h = absurd (omega arith)
 number-two (a ∷ []) h = absurd (omega arith)
 number-two (a ∷ b ∷ s) h = omega arith
 
-pub number-three : (s : List ℕ) → 3 ≤ length s → bigEndian (take 3 s) ≡ (getD s 0 0 * 256 + getD s 1 0) * 256 + getD s 2 0
-unfolding bigEndianFrom
+pub number-three : (s : List ℕ) → 3 ≤ length s → bigEndianNumber (take 3 s) ≡ (getD s 0 0 * 256 + getD s 1 0) * 256 + getD s 2 0
+unfolding appendBigEndianBytes
 number-three [] h = absurd (omega arith)
 number-three (a ∷ []) h = absurd (omega arith)
 number-three (a ∷ b ∷ []) h = absurd (omega arith)
@@ -86,7 +86,7 @@ pub tag-none : (s : List ℕ) (k : ℕ) → k ≡ tagSize s → k ≡ 0 → tagA
 unfolding tagAt
 tag-none s k p q = if-yes _ _ (eq-eqb (tagSize s) 0 (sym p ∙ q))
 
-pub tag-some : (s : List ℕ) (k : ℕ) → k ≡ tagSize s → (k ≡ 0 → ⊥) → tagAt s ≡ tagParsed (bigEndian (take k s)) k
+pub tag-some : (s : List ℕ) (k : ℕ) → k ≡ tagSize s → (k ≡ 0 → ⊥) → tagAt s ≡ tagParsed (bigEndianNumber (take k s)) k
 unfolding tagAt
 tag-some s k p q = rw (← p) (if-no _ _ (ne-eqb k 0 q))
 
@@ -115,7 +115,7 @@ pub record TagFits (s : List ℕ) (t : Tag) : Type 0 where
   pub few : t .size ≤ 3
   pub inside : t .size ≤ length s
   pub is : t .size ≡ tagSize s
-  pub reads : t .number ≡ bigEndian (take (t .size) s)
+  pub reads : t .number ≡ bigEndianNumber (take (t .size) s)
 
 abbrev TagOk : List ℕ → TagFront → Type 0
 TagOk s Untagged = Unit {0}
@@ -219,7 +219,7 @@ unfolding tagSize
 starts [] n e = n refl
 starts (b ∷ s) n e = n (if-yes _ _ (eq-eqb b 0 e))
 
-first-of : (s : List ℕ) (k : ℕ) → Bytes s → (getD s 0 0 ≡ 0 → ⊥) → k ≤ 3 → k ≤ length s → (k ≡ 0 → ⊥) → tagFirstByte (bigEndian (take k s)) ≡ getD s 0 0
+first-of : (s : List ℕ) (k : ℕ) → Bytes s → (getD s 0 0 ≡ 0 → ⊥) → k ≤ 3 → k ≤ length s → (k ≡ 0 → ⊥) → tagFirstByte (bigEndianNumber (take k s)) ≡ getD s 0 0
 first-of s zero b f h k n = absurd (n refl)
 first-of s (suc zero) b f h k n = rw (number-one s) (first-one _ (b 0))
 first-of s (suc (suc zero)) b f h k n =
@@ -235,7 +235,7 @@ first-byte-is s t b e =
     rw (f .reads) (first-of s (t .size) b (starts s (λ z. omega arith)) (f .few) (f .inside) (omega arith))
 
 -- so the tests on a tag's number are tests on that byte
-pub template-is : (s : List ℕ) (t : Tag) → Bytes s → tagAt s ≡ Tagged t → isTemplate (t .number) ≡ hasBit (getD s 0 0) 32
+pub template-is : (s : List ℕ) (t : Tag) → Bytes s → tagAt s ≡ Tagged t → isTemplate (t .number) ≡ hasBitOfWeight (getD s 0 0) 32
 unfolding isTemplate
 template-is s t b e = rw (first-byte-is s t b e)
 
@@ -273,12 +273,12 @@ pub record HeaderRead (s : List ℕ) (t : Tag) (e : TlvLength) : Type 0 where
   pub is : headerOf s ≡ headerWithLength s t (Sized e)
   pub some : 1 ≤ length s
   pub small : t .size + e .size + e .len < 0x10006
-  pub template : isTemplate (t .number) ≡ hasBit (getD s 0 0) 32
+  pub template : isTemplate (t .number) ≡ hasBitOfWeight (getD s 0 0) 32
   pub private : isPrivate (t .number) ≡ eqb (getD s 0 0 / 64) 3
 
 module _ {s : List ℕ} {t : Tag} {e : TlvLength} (r : HeaderRead s t e) where
   pub header-whole : t .size + e .size + e .len ≤ length s → headerOf s ≡
-      Object (record { tag = t .number; start = t .size + e .size; len = e .len; template = hasBit (getD s 0 0) 32; private = eqb (getD s 0 0 / 64) 3 })
+      Object (record { tag = t .number; start = t .size + e .size; len = e .len; template = hasBitOfWeight (getD s 0 0) 32; private = eqb (getD s 0 0 / 64) 3 })
   header-whole h = r .is ∙ with-whole s t e h ∙ rw (r .template, r .private)
 
   pub header-short : length s < t .size + e .size + e .len → headerOf s ≡ Broken

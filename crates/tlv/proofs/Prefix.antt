@@ -20,8 +20,8 @@ use Rattle.tlv.specs.declared.LengthFront.{LengthFront}
 use Rattle.tlv.specs.declared.LengthFront.the-variants.{Sized, Unsized}
 use Rattle.tlv.specs.declared.TlvHeader.{TlvHeader}
 use Rattle.tlv.specs.declared.ObjectFront.the-variants.{Object, Broken}
-use Rattle.tlv.specs.Tag.{tagContinues, tagByteContinues, tagThirdByte, tagSecondByte, tagSize, tagAt}
-use Rattle.tlv.specs.Length.{lengthParsed, lengthOneByte, lengthTwoBytes, lengthAt}
+use Rattle.tlv.specs.Tag.{tagFirstByteContinues, tagLaterByteContinues, tagSizeFromThirdByte, tagSizeFromSecondByte, tagSize, tagAt}
+use Rattle.tlv.specs.Length.{lengthParsed, lengthAfter81, lengthAfter82, lengthAt}
 use Rattle.tlv.specs.Object.{headerWithLength, headerOf}
 use Rattle.tlv.proofs.Laws.{tag-some, tag-fits, header-untagged}
 
@@ -37,20 +37,20 @@ kept-if false h k = k
 kept-same : {A : Type 0} {z : A} (x : A) → Kept z x x
 kept-same x n = refl
 
-third-kept : (s t : List ℕ) → Kept 0 (tagThirdByte s) (tagThirdByte (s ++ t))
-unfolding tagThirdByte
+third-kept : (s t : List ℕ) → Kept 0 (tagSizeFromThirdByte s) (tagSizeFromThirdByte (s ++ t))
+unfolding tagSizeFromThirdByte
 third-kept [] t n = absurd (n refl)
 third-kept (b ∷ s) t n = refl
 
-second-kept : (s t : List ℕ) → Kept 0 (tagSecondByte s) (tagSecondByte (s ++ t))
-unfolding tagSecondByte
+second-kept : (s t : List ℕ) → Kept 0 (tagSizeFromSecondByte s) (tagSizeFromSecondByte (s ++ t))
+unfolding tagSizeFromSecondByte
 second-kept [] t = λ n. absurd (n refl)
-second-kept (b ∷ s) t = kept-if (eqb b 0x80) (kept-same 0) (kept-if (tagByteContinues b) (third-kept s t) (kept-same 2))
+second-kept (b ∷ s) t = kept-if (eqb b 0x80) (kept-same 0) (kept-if (tagLaterByteContinues b) (third-kept s t) (kept-same 2))
 
 size-kept : (s t : List ℕ) → Kept 0 (tagSize s) (tagSize (s ++ t))
 unfolding tagSize
 size-kept [] t = λ n. absurd (n refl)
-size-kept (b ∷ s) t = kept-if (eqb b 0) (kept-same 0) (kept-if (tagContinues b) (second-kept s t) (kept-same 1))
+size-kept (b ∷ s) t = kept-if (eqb b 0) (kept-same 0) (kept-if (tagFirstByteContinues b) (second-kept s t) (kept-same 1))
 
 pub tag-kept : (s r : List ℕ) (t : Tag) → tagAt s ≡ Tagged t → tagAt (s ++ r) ≡ Tagged t
 tag-kept s r t e =
@@ -58,13 +58,13 @@ tag-kept s r t e =
     let k : tagSize (s ++ r) ≡ tagSize s = size-kept s r (λ z. omega arith) in
     tag-some (s ++ r) (t .size) (f .is ∙ sym k) (omega arith) ∙ rw (take-append-le (t .size) s r (f .inside), ← (f .reads))
 
-one-kept : (s t : List ℕ) → Kept Unsized (lengthOneByte s) (lengthOneByte (s ++ t))
-unfolding lengthOneByte
+one-kept : (s t : List ℕ) → Kept Unsized (lengthAfter81 s) (lengthAfter81 (s ++ t))
+unfolding lengthAfter81
 one-kept [] t n = absurd (n refl)
 one-kept (a ∷ s) t n = refl
 
-two-kept : (s t : List ℕ) → Kept Unsized (lengthTwoBytes s) (lengthTwoBytes (s ++ t))
-unfolding lengthTwoBytes
+two-kept : (s t : List ℕ) → Kept Unsized (lengthAfter82 s) (lengthAfter82 (s ++ t))
+unfolding lengthAfter82
 two-kept [] t n = absurd (n refl)
 two-kept (a ∷ []) t n = absurd (n refl)
 two-kept (a ∷ b ∷ s) t n = refl

@@ -17,10 +17,10 @@ use Rattle.basics.proofs.Laws.{if-yes, if-no, bool-cases}
 pub use Rattle.basics.proofs.Recursion.{shorter-first}
 use Rattle.basics.proofs.Recursion.{AsksShorter, recurse-unroll}
 use Rattle.tlv.specs.declared.TlvHeader.{TlvHeader}
-use Rattle.tlv.specs.declared.Following.{Following}
-use Rattle.tlv.specs.declared.Following.the-variants.{End, Inner, Malformed}
+use Rattle.tlv.specs.declared.NextInTemplate.{NextInTemplate}
+use Rattle.tlv.specs.declared.NextInTemplate.the-variants.{End, Inner, Malformed}
 use Rattle.tlv.specs.Object.{headerShifted, headerValue, behindObject}
-use Rattle.tlv.specs.Tree.{Forest, end, leaf, node, objectCount, nextShifted, nextOf, withLeaf, withNode, nestedForest, objectForest, parseTreeNext, parseTree}
+use Rattle.tlv.specs.Tree.{Forest, end, leaf, node, objectCount, nextInTemplateShifted, nextInTemplate, prependLeaf, prependNode, forestOfTemplateThenRest, forestOfObjectThenRest, parseTreeStep, parseTree}
 use Rattle.tlv.specs.Padding.{paddingZeros}
 use Rattle.tlv.proofs.Laws.{HeaderFits}
 use Rattle.tlv.proofs.NextObject.{next-fits, next-zeros, next-join}
@@ -39,12 +39,12 @@ module _ {s : List ℕ} {h : TlvHeader} (f : HeaderFits s h) where
 abbrev Parser : Type 0
 Parser = ℕ → List ℕ → Option Forest
 
-nested-same : (k k′ : Parser) (l t : ℕ) (v r : List ℕ) → ((m : ℕ) → k m v ≡ k′ m v) → ((m : ℕ) → k m r ≡ k′ m r) → nestedForest k l t v r ≡ nestedForest k′ l t v r
+nested-same : (k k′ : Parser) (l t : ℕ) (v r : List ℕ) → ((m : ℕ) → k m v ≡ k′ m v) → ((m : ℕ) → k m r ≡ k′ m r) → forestOfTemplateThenRest k l t v r ≡ forestOfTemplateThenRest k′ l t v r
 nested-same k k′ zero t v r p q = refl
-nested-same k k′ (suc l) t v r p q = ap₂ (withNode t) (p l) (q (suc l))
+nested-same k k′ (suc l) t v r p q = ap₂ (prependNode t) (p l) (q (suc l))
 
 object-same : (k k′ : Parser) (l : ℕ) (s : List ℕ) → ((m : ℕ) (v : List ℕ) → length v < length s → k m v ≡ k′ m v)
-    → (x : Following) → nextOf s ≡ x → objectForest k l s x ≡ objectForest k′ l s x
+    → (x : NextInTemplate) → nextInTemplate s ≡ x → forestOfObjectThenRest k l s x ≡ forestOfObjectThenRest k′ l s x
 object-same k k′ l s same End e = refl
 object-same k k′ l s same Malformed e = refl
 object-same k k′ l s same (Inner h) e =
@@ -53,45 +53,45 @@ object-same k k′ l s same (Inner h) e =
     let b = shorter-behind f in
     ap₂ (if (h .template))
     (nested-same k k′ l (h .tag) (headerValue s h) (behindObject s h) (λ m. same m (headerValue s h) v) (λ m. same m (behindObject s h) b))
-    (ap (withLeaf (h .tag) (headerValue s h)) (same l (behindObject s h) b))
+    (ap (prependLeaf (h .tag) (headerValue s h)) (same l (behindObject s h) b))
 
-next-same : AsksShorter parseTreeNext
-next-same k k′ s same = λ i l. object-same (λ m v. k v m) (λ m v. k′ v m) l s (λ m v h. ap (λ (p : ℕ → Option Forest). p m) (same v h)) (nextOf s) refl i
+next-same : AsksShorter parseTreeStep
+next-same k k′ s same = λ i l. object-same (λ m v. k v m) (λ m v. k′ v m) l s (λ m v h. ap (λ (p : ℕ → Option Forest). p m) (same v h)) (nextInTemplate s) refl i
 
-pub unroll : (l : ℕ) (s : List ℕ) → parseTree l s ≡ objectForest parseTree l s (nextOf s)
+pub unroll : (l : ℕ) (s : List ℕ) → parseTree l s ≡ forestOfObjectThenRest parseTree l s (nextInTemplate s)
 unfolding parseTree
-unroll l s = ap (λ (p : ℕ → Option Forest). p l) (recurse-unroll (λ l. none) parseTreeNext next-same s)
+unroll l s = ap (λ (p : ℕ → Option Forest). p l) (recurse-unroll (λ l. none) parseTreeStep next-same s)
 
 -- ---- one law for each way out of a step
 
-at : (l : ℕ) (s : List ℕ) (x : Following) → nextOf s ≡ x → parseTree l s ≡ objectForest parseTree l s x
-at l s x e = unroll l s ∙ ap (objectForest parseTree l s) e
+at : (l : ℕ) (s : List ℕ) (x : NextInTemplate) → nextInTemplate s ≡ x → parseTree l s ≡ forestOfObjectThenRest parseTree l s x
+at l s x e = unroll l s ∙ ap (forestOfObjectThenRest parseTree l s) e
 
-pub parse-end : (l : ℕ) (s : List ℕ) → nextOf s ≡ End → parseTree l s ≡ some end
+pub parse-end : (l : ℕ) (s : List ℕ) → nextInTemplate s ≡ End → parseTree l s ≡ some end
 parse-end l s e = at l s End e
 
-pub parse-malformed : (l : ℕ) (s : List ℕ) → nextOf s ≡ Malformed → parseTree l s ≡ none
+pub parse-malformed : (l : ℕ) (s : List ℕ) → nextInTemplate s ≡ Malformed → parseTree l s ≡ none
 parse-malformed l s e = at l s Malformed e
 
-nested-deep : (l t : ℕ) (v r : List ℕ) → l ≡ 0 → nestedForest parseTree l t v r ≡ none
+nested-deep : (l t : ℕ) (v r : List ℕ) → l ≡ 0 → forestOfTemplateThenRest parseTree l t v r ≡ none
 nested-deep zero t v r z = refl
 nested-deep (suc l) t v r z = absurd (omega arith)
 
-nested-at : (l t : ℕ) (v r : List ℕ) → (l ≡ 0 → ⊥) → nestedForest parseTree l t v r ≡ withNode t (parseTree (l - 1) v) (parseTree l r)
+nested-at : (l t : ℕ) (v r : List ℕ) → (l ≡ 0 → ⊥) → forestOfTemplateThenRest parseTree l t v r ≡ prependNode t (parseTree (l - 1) v) (parseTree l r)
 nested-at zero t v r n = absurd (n refl)
 nested-at (suc l) t v r n = rw (sub-one (suc l))
 
-module _ (l : ℕ) (s : List ℕ) (h : TlvHeader) (e : nextOf s ≡ Inner h) where
+module _ (l : ℕ) (s : List ℕ) (h : TlvHeader) (e : nextInTemplate s ≡ Inner h) where
   -- a template with no level left
   pub parse-deep : h .template ≡ true → l ≡ 0 → parseTree l s ≡ none
   parse-deep t z = at l s (Inner h) e ∙ if-yes _ _ t ∙ nested-deep l _ _ _ z
 
   -- a template: its contents with a level less, and what is after it
-  pub parse-node : h .template ≡ true → (l ≡ 0 → ⊥) → parseTree l s ≡ withNode (h .tag) (parseTree (l - 1) (headerValue s h)) (parseTree l (behindObject s h))
+  pub parse-node : h .template ≡ true → (l ≡ 0 → ⊥) → parseTree l s ≡ prependNode (h .tag) (parseTree (l - 1) (headerValue s h)) (parseTree l (behindObject s h))
   parse-node t n = at l s (Inner h) e ∙ if-yes _ _ t ∙ nested-at l _ _ _ n
 
   -- a primitive object: its value, and what is after it
-  pub parse-leaf : h .template ≡ false → parseTree l s ≡ withLeaf (h .tag) (headerValue s h) (parseTree l (behindObject s h))
+  pub parse-leaf : h .template ≡ false → parseTree l s ≡ prependLeaf (h .tag) (headerValue s h) (parseTree l (behindObject s h))
   parse-leaf t = at l s (Inner h) e ∙ if-no _ _ t
 
 zero-cases : (n : ℕ) → (n ≡ 0) ⊎ (n ≡ 0 → ⊥)
@@ -100,22 +100,22 @@ zero-cases (suc n) = inr (λ z. omega arith)
 
 -- ---- a run after an object
 
-pub with-leaf : (t : ℕ) (v : List ℕ) (x : Option Forest) (r : Forest) → x ≡ some r → withLeaf t v x ≡ some (leaf t v r)
-unfolding withLeaf
+pub with-leaf : (t : ℕ) (v : List ℕ) (x : Option Forest) (r : Forest) → x ≡ some r → prependLeaf t v x ≡ some (leaf t v r)
+unfolding prependLeaf
 with-leaf t v x r e = rw e
 
-pub with-node : (t : ℕ) (x y : Option Forest) (f r : Forest) → x ≡ some f → y ≡ some r → withNode t x y ≡ some (node t f r)
-unfolding withNode
+pub with-node : (t : ℕ) (x y : Option Forest) (f r : Forest) → x ≡ some f → y ≡ some r → prependNode t x y ≡ some (node t f r)
+unfolding prependNode
 with-node t x y f r p q = rw (p, q)
 
 -- ---- what holds at the end, and of an object once it holds of its parts, holds of every parse that succeeds
 
 module _
     (P : ℕ → List ℕ → Forest → Type 0)
-    (at-end : (l : ℕ) (s : List ℕ) → nextOf s ≡ End → P l s end)
-    (at-leaf : (l : ℕ) (s : List ℕ) (h : TlvHeader) (r : Forest) → nextOf s ≡ Inner h → h .template ≡ false
+    (at-end : (l : ℕ) (s : List ℕ) → nextInTemplate s ≡ End → P l s end)
+    (at-leaf : (l : ℕ) (s : List ℕ) (h : TlvHeader) (r : Forest) → nextInTemplate s ≡ Inner h → h .template ≡ false
     → parseTree l (behindObject s h) ≡ some r → P l (behindObject s h) r → P l s (leaf (h .tag) (headerValue s h) r))
-    (at-node : (l : ℕ) (s : List ℕ) (h : TlvHeader) (f r : Forest) → nextOf s ≡ Inner h → h .template ≡ true → (l ≡ 0 → ⊥)
+    (at-node : (l : ℕ) (s : List ℕ) (h : TlvHeader) (f r : Forest) → nextInTemplate s ≡ Inner h → h .template ≡ true → (l ≡ 0 → ⊥)
     → parseTree (l - 1) (headerValue s h) ≡ some f → P (l - 1) (headerValue s h) f → parseTree l (behindObject s h) ≡ some r → P l (behindObject s h) r
     → P l s (node (h .tag) f r))
   where
@@ -130,15 +130,15 @@ module _
       never : parseTree l s ≡ none → P l s g
       never p = let z : _≡_ {A = ℕ} 0 1 = cc in absurd (omega arith)
 
-      of-leaf : (h : TlvHeader) → nextOf s ≡ Inner h → h .template ≡ false → (x : Option Forest) → parseTree l (behindObject s h) ≡ x → P l s g
-      unfolding withLeaf Holds
+      of-leaf : (h : TlvHeader) → nextInTemplate s ≡ Inner h → h .template ≡ false → (x : Option Forest) → parseTree l (behindObject s h) ≡ x → P l s g
+      unfolding prependLeaf Holds
       of-leaf h p t none q = never (parse-leaf l s h p t ∙ rw q)
       of-leaf h p t (some r) q =
           this _ (parse-leaf l s h p t ∙ rw q) (at-leaf l s h r p t q (before (behindObject s h) (shorter-behind (next-fits s h p)) l r q))
 
-      of-node : (h : TlvHeader) → nextOf s ≡ Inner h → h .template ≡ true → (l ≡ 0 → ⊥) → (x y : Option Forest)
+      of-node : (h : TlvHeader) → nextInTemplate s ≡ Inner h → h .template ≡ true → (l ≡ 0 → ⊥) → (x y : Option Forest)
           → parseTree (l - 1) (headerValue s h) ≡ x → parseTree l (behindObject s h) ≡ y → P l s g
-      unfolding withNode Holds
+      unfolding prependNode Holds
       of-node h p t n none y q r = never (parse-node l s h p t n ∙ rw q)
       of-node h p t n (some f) none q r = never (parse-node l s h p t n ∙ rw (q, r))
       of-node h p t n (some f) (some b) q r =
@@ -146,7 +146,7 @@ module _
           this _ (parse-node l s h p t n ∙ rw (q, r))
           (at-node l s h f b p t n q (before (headerValue s h) (shorter-value i) (l - 1) f q) r (before (behindObject s h) (shorter-behind i) l b r))
 
-      of-next : (x : Following) → nextOf s ≡ x → P l s g
+      of-next : (x : NextInTemplate) → nextInTemplate s ≡ x → P l s g
       of-next End p = this end (parse-end l s p) (at-end l s p)
       of-next Malformed p = never (parse-malformed l s p)
       of-next (Inner h) p = elim (bool-cases (h .template)) [
@@ -156,7 +156,7 @@ module _
 
     pub parse-ind : (l : ℕ) (s : List ℕ) (f : Forest) → parseTree l s ≡ some f → P l s f
     unfolding Holds
-    parse-ind l s f e = shorter-first Holds (λ s before l f e. of-next s before l f e (nextOf s) refl) s l f e
+    parse-ind l s f e = shorter-first Holds (λ s before l f e. of-next s before l f e (nextInTemplate s) refl) s l f e
 
 -- ---- an object takes two bytes at least, so there are at most half as many as bytes
 
@@ -206,13 +206,13 @@ module _ (s r : List ℕ) where
   behind-moved : (h : TlvHeader) → behindObject (s ++ r) (headerShifted (length s) h) ≡ behindObject r h
   behind-moved h = let e : length s + h .start + h .len ≡ length s + (h .start + h .len) = omega arith in rw (e, drop-append-add s r (h .start + h .len))
 
-  object-moved : (l : ℕ) (x : Following) → objectForest parseTree l (s ++ r) (nextShifted (length s) x) ≡ objectForest parseTree l r x
+  object-moved : (l : ℕ) (x : NextInTemplate) → forestOfObjectThenRest parseTree l (s ++ r) (nextInTemplateShifted (length s) x) ≡ forestOfObjectThenRest parseTree l r x
   object-moved l End = refl
   object-moved l Malformed = refl
   object-moved l (Inner h) = rw (value-moved h, behind-moved h)
 
-  parse-moved : (l : ℕ) → nextOf s ≡ End → parseTree l (s ++ r) ≡ parseTree l r
-  parse-moved l e = at l (s ++ r) _ (next-join s r End e) ∙ object-moved l (nextOf r) ∙ sym (unroll l r)
+  parse-moved : (l : ℕ) → nextInTemplate s ≡ End → parseTree l (s ++ r) ≡ parseTree l r
+  parse-moved l e = at l (s ++ r) _ (next-join s r End e) ∙ object-moved l (nextInTemplate r) ∙ sym (unroll l r)
 
 pub parse-join : (l : ℕ) (s t : List ℕ) (f g : Forest) → parseTree l s ≡ some f → parseTree l t ≡ some g → parseTree l (s ++ t) ≡ some (join f g)
 unfolding join

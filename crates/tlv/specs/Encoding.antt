@@ -38,19 +38,19 @@ encodeTree (leaf t v r) = objectBytes t v ++ encodeTree r
 encodeTree (node t f r) = objectBytes t (encodeTree f) ++ encodeTree r
 
 -- what a template holds has one level less; with none left there is no template
-abbrev pub NestedAtMost : (ℕ → Type 0) → ℕ → Type 0
-NestedAtMost p zero = ⊥
-NestedAtMost p (suc l) = p l
+abbrev pub HoldsWithOneLevelLess : (ℕ → Type 0) → ℕ → Type 0
+HoldsWithOneLevelLess p zero = ⊥
+HoldsWithOneLevelLess p (suc l) = p l
 
 -- a tree that can be encoded: well-formed tags, primitive at leaves and of templates at nodes, contents of at most
 -- 65,535 bytes, templates nested at most so many levels deep
-abbrev pub Encodable : Forest → ℕ → Type 0
-Encodable end levels = Unit {0}
-Encodable (leaf t v r) levels =
-    (wellFormedTag t ≡ true) × (isTemplate t ≡ false) × (length v < 0x10000) × Encodable r levels
-Encodable (node t f r) levels =
-    (wellFormedTag t ≡ true) × (isTemplate t ≡ true) × (length (encodeTree f) < 0x10000) × NestedAtMost (Encodable f) levels
-    × Encodable r levels
+abbrev pub EncodableWithinLevels : Forest → ℕ → Type 0
+EncodableWithinLevels end levels = Unit {0}
+EncodableWithinLevels (leaf t v r) levels =
+    (wellFormedTag t ≡ true) × (isTemplate t ≡ false) × (length v < 0x10000) × EncodableWithinLevels r levels
+EncodableWithinLevels (node t f r) levels =
+    (wellFormedTag t ≡ true) × (isTemplate t ≡ true) × (length (encodeTree f) < 0x10000) × HoldsWithOneLevelLess (EncodableWithinLevels f) levels
+    × EncodableWithinLevels r levels
 
 -- ---- what holds of it, proved in proofs/Encoding for all tags, lengths, values and trees, whatever follows
 --   number-tag        a tag's bytes are its number

@@ -11,21 +11,21 @@ abbrev pub lengthParsed : ℕ → ℕ → LengthFront
 lengthParsed n k = Sized (record { len = n; size = k })
 
 -- after 81: one byte
-unfoldable pub lengthOneByte : List ℕ → LengthFront
-lengthOneByte [] = Unsized
-lengthOneByte (a ∷ s) = lengthParsed a 2
+unfoldable pub lengthAfter81 : List ℕ → LengthFront
+lengthAfter81 [] = Unsized
+lengthAfter81 (a ∷ s) = lengthParsed a 2
 
 -- after 82: two bytes, high first
-unfoldable pub lengthTwoBytes : List ℕ → LengthFront
-lengthTwoBytes [] = Unsized
-lengthTwoBytes (a ∷ []) = Unsized
-lengthTwoBytes (a ∷ b ∷ s) = lengthParsed (a * 256 + b) 3
+unfoldable pub lengthAfter82 : List ℕ → LengthFront
+lengthAfter82 [] = Unsized
+lengthAfter82 (a ∷ []) = Unsized
+lengthAfter82 (a ∷ b ∷ s) = lengthParsed (a * 256 + b) 3
 
 -- 00 to 7F is the length itself, 81 has one more byte, 82 two; 80 and 83 up are refused
 unfoldable pub lengthAt : List ℕ → LengthFront
 lengthAt [] = Unsized
 lengthAt (a ∷ s) =
     if a <? 0x80 then lengthParsed a 1
-    else if a =? 0x81 then lengthOneByte s
-    else if a =? 0x82 then lengthTwoBytes s
+    else if a =? 0x81 then lengthAfter81 s
+    else if a =? 0x82 then lengthAfter82 s
     else Unsized

@@ -5,31 +5,31 @@ use mathlib.Core.List.{List, [], _∷_}
 use Prim.Native.Nat.{ℕ, _/_, _%_}
 use lib.ListN.{take}
 use Rattle.basics.specs.Choice.{if_then_else_, _≤?_, _<?_, _=?_}
-use Rattle.basics.specs.Number.{bigEndian, hasBit}
+use Rattle.basics.specs.Number.{bigEndianNumber, hasBitOfWeight}
 use Rattle.tlv.specs.declared.TagFront.{TagFront}
 use Rattle.tlv.specs.declared.TagFront.the-variants.{Tagged, Untagged}
 
 -- the low five bits of a first byte, all set, indicate that another byte follows
-abbrev pub tagContinues : ℕ → Bool
-tagContinues b = b % 32 =? 31
+abbrev pub tagFirstByteContinues : ℕ → Bool
+tagFirstByteContinues b = b % 32 =? 31
 
 -- a later byte with its top bit set is followed by another
-abbrev pub tagByteContinues : ℕ → Bool
-tagByteContinues b = 0x80 ≤? b
+abbrev pub tagLaterByteContinues : ℕ → Bool
+tagLaterByteContinues b = 0x80 ≤? b
 
 -- with a third byte the tag ends: 3 bytes, or 0 where that byte requires a fourth or is missing
-unfoldable pub tagThirdByte : List ℕ → ℕ
-tagThirdByte [] = 0
-tagThirdByte (b ∷ s) =
-    if tagByteContinues b then 0
+unfoldable pub tagSizeFromThirdByte : List ℕ → ℕ
+tagSizeFromThirdByte [] = 0
+tagSizeFromThirdByte (b ∷ s) =
+    if tagLaterByteContinues b then 0
     else 3
 
 -- with a second byte, which is not 80
-unfoldable pub tagSecondByte : List ℕ → ℕ
-tagSecondByte [] = 0
-tagSecondByte (b ∷ s) =
+unfoldable pub tagSizeFromSecondByte : List ℕ → ℕ
+tagSizeFromSecondByte [] = 0
+tagSizeFromSecondByte (b ∷ s) =
     if b =? 0x80 then 0
-    else if tagByteContinues b then tagThirdByte s
+    else if tagLaterByteContinues b then tagSizeFromThirdByte s
     else 2
 
 -- how many bytes at the front are a tag, 0 where no whole tag is there; the first byte is not 00
@@ -37,7 +37,7 @@ unfoldable pub tagSize : List ℕ → ℕ
 tagSize [] = 0
 tagSize (b ∷ s) =
     if b =? 0 then 0
-    else if tagContinues b then tagSecondByte s
+    else if tagFirstByteContinues b then tagSizeFromSecondByte s
     else 1
 
 -- a tag of k bytes that are the number n
@@ -48,7 +48,7 @@ tagParsed n k = Tagged (record { number = n; size = k })
 unfoldable pub tagAt : List ℕ → TagFront
 tagAt s =
     if tagSize s =? 0 then Untagged
-    else tagParsed (bigEndian (take (tagSize s) s)) (tagSize s)
+    else tagParsed (bigEndianNumber (take (tagSize s) s)) (tagSize s)
 
 -- the first byte of a tag that is given as a number
 unfoldable pub tagFirstByte : ℕ → ℕ
@@ -59,7 +59,7 @@ tagFirstByte t =
 
 -- a template has bit b6 set in its first byte
 unfoldable pub isTemplate : ℕ → Bool
-isTemplate t = hasBit (tagFirstByte t) 32
+isTemplate t = hasBitOfWeight (tagFirstByte t) 32
 
 -- the two top bits of the first byte mark the private class
 unfoldable pub isPrivate : ℕ → Bool

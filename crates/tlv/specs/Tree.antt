@@ -6,11 +6,11 @@ use mathlib.Core.List.{List, [], _∷_}
 use mathlib.Core.Option.{Option, some, none}
 use Prim.Native.Nat.{ℕ, zero, suc, _+_}
 use Rattle.basics.specs.Choice.{if_then_else_, _=?_}
-use Rattle.basics.specs.Recursion.{recurse}
+use Rattle.basics.specs.Recursion.{recurseWithFuelFromLength}
 use Rattle.tlv.specs.declared.ObjectFront.{ObjectFront}
 use Rattle.tlv.specs.declared.ObjectFront.the-variants.{Object, Broken}
-use Rattle.tlv.specs.declared.Following.{Following}
-use Rattle.tlv.specs.declared.Following.the-variants.{End, Inner, Malformed}
+use Rattle.tlv.specs.declared.NextInTemplate.{NextInTemplate}
+use Rattle.tlv.specs.declared.NextInTemplate.the-variants.{End, Inner, Malformed}
 use Rattle.tlv.specs.Object.{headerOf, headerShifted, headerValue, behindObject}
 
 -- objects concatenated: a leaf is a primitive object with tag and value, a node a template with what it holds
@@ -28,56 +28,56 @@ objectCount (node t f r) = 1 + objectCount f + objectCount r
 -- ---- parsing
 
 -- an object at the front is next
-abbrev pub frontNext : ObjectFront → Following
-frontNext Broken = Malformed
-frontNext (Object h) = Inner h
+abbrev pub nextInTemplateOfFront : ObjectFront → NextInTemplate
+nextInTemplateOfFront Broken = Malformed
+nextInTemplateOfFront (Object h) = Inner h
 
 -- what is next, with so many more bytes before it
-abbrev pub nextShifted : ℕ → Following → Following
-nextShifted n End = End
-nextShifted n Malformed = Malformed
-nextShifted n (Inner h) = Inner (headerShifted n h)
+abbrev pub nextInTemplateShifted : ℕ → NextInTemplate → NextInTemplate
+nextInTemplateShifted n End = End
+nextInTemplateShifted n Malformed = Malformed
+nextInTemplateShifted n (Inner h) = Inner (headerShifted n h)
 
 -- what is next within a template's contents: a 00 where a tag would start is skipped, and its place counts
-unfoldable pub nextOf : List ℕ → Following
-nextOf [] = End
-nextOf (b ∷ s) =
-    if b =? 0 then nextShifted 1 (nextOf s)
-    else frontNext (headerOf (b ∷ s))
+unfoldable pub nextInTemplate : List ℕ → NextInTemplate
+nextInTemplate [] = End
+nextInTemplate (b ∷ s) =
+    if b =? 0 then nextInTemplateShifted 1 (nextInTemplate s)
+    else nextInTemplateOfFront (headerOf (b ∷ s))
 
 -- a run after a leaf, or after a node; malformed where any part is
-unfoldable pub withLeaf : ℕ → List ℕ → Option Forest → Option Forest
-withLeaf t v none = none
-withLeaf t v (some r) = some (leaf t v r)
+unfoldable pub prependLeaf : ℕ → List ℕ → Option Forest → Option Forest
+prependLeaf t v none = none
+prependLeaf t v (some r) = some (leaf t v r)
 
 -- a run after a template, malformed where its contents or the run are
-unfoldable pub withNode : ℕ → Option Forest → Option Forest → Option Forest
-withNode t none r = none
-withNode t (some f) none = none
-withNode t (some f) (some r) = some (node t f r)
+unfoldable pub prependNode : ℕ → Option Forest → Option Forest → Option Forest
+prependNode t none r = none
+prependNode t (some f) none = none
+prependNode t (some f) (some r) = some (node t f r)
 
 -- a template takes one of the levels still allowed; with none left it is malformed
-abbrev pub nestedForest : (ℕ → List ℕ → Option Forest) → ℕ → ℕ → List ℕ → List ℕ → Option Forest
-nestedForest k zero t v r = none
-nestedForest k (suc l) t v r = withNode t (k l v) (k (suc l) r)
+abbrev pub forestOfTemplateThenRest : (ℕ → List ℕ → Option Forest) → ℕ → ℕ → List ℕ → List ℕ → Option Forest
+forestOfTemplateThenRest k zero t v r = none
+forestOfTemplateThenRest k (suc l) t v r = prependNode t (k l v) (k (suc l) r)
 
 -- one object, and what k parses of its contents and of the bytes after it
-abbrev pub objectForest : (ℕ → List ℕ → Option Forest) → ℕ → List ℕ → Following → Option Forest
-objectForest k levels s End = some end
-objectForest k levels s Malformed = none
-objectForest k levels s (Inner h) =
-    if h .template then nestedForest k levels (h .tag) (headerValue s h) (behindObject s h)
-    else withLeaf (h .tag) (headerValue s h) (k levels (behindObject s h))
+abbrev pub forestOfObjectThenRest : (ℕ → List ℕ → Option Forest) → ℕ → List ℕ → NextInTemplate → Option Forest
+forestOfObjectThenRest k levels s End = some end
+forestOfObjectThenRest k levels s Malformed = none
+forestOfObjectThenRest k levels s (Inner h) =
+    if h .template then forestOfTemplateThenRest k levels (h .tag) (headerValue s h) (behindObject s h)
+    else prependLeaf (h .tag) (headerValue s h) (k levels (behindObject s h))
 
 -- one step of the parse: the object that is next, and what k parses of the bytes in it and after it, by the levels
 -- still allowed
-abbrev pub parseTreeNext : (List ℕ → ℕ → Option Forest) → List ℕ → ℕ → Option Forest
-parseTreeNext k s levels = objectForest (λ l v. k v l) levels s (nextOf s)
+abbrev pub parseTreeStep : (List ℕ → ℕ → Option Forest) → List ℕ → ℕ → Option Forest
+parseTreeStep k s levels = forestOfObjectThenRest (λ l v. k v l) levels s (nextInTemplate s)
 
 -- the objects of s, with templates nested at most `levels` deep, or none where s is malformed. An object's contents and
 -- the bytes after it are shorter than its list, so the recursion ends by itself (`unroll`).
 unfoldable pub parseTree : ℕ → List ℕ → Option Forest
-parseTree levels s = recurse (λ l. none) parseTreeNext s levels
+parseTree levels s = recurseWithFuelFromLength (λ l. none) parseTreeStep s levels
 
 -- ---- what holds of it, proved in proofs/ (NextObject, Tree, Encoding) for all lists, levels and trees
 --   next-fits       an object that is next starts its value at 2 or later and ends inside the list; its class is

@@ -1,18 +1,18 @@
 // One data object at the front of some bytes: its tag, where its value starts and how long it is.
 //
 // `tag_at` reads a tag alone, as a DOL needs it; `object_header` reads a whole object's header; `next` is what is next
-// within a template's contents, and `behind_padding` the same. `primitive` and `is_primitive_list` are for bytes that
-// hold primitive objects alone. The tree of an encoding, its count and its laws are in specs/.
+// within a template's contents, and `next_behind_padding` the same. `primitive_at_front` and `is_primitive_list` are
+// for bytes that hold primitive objects alone. The tree of an encoding, its count and its laws are in specs/.
 ghost use mathlib.Core.Path.{_≡_};
 ghost use Prim.Native.Nat.{_+_, _≤_, _<_};
 ghost use lib.ListN.{length, take, drop};
-ghost use Rattle.basics.specs.Number.{bigEndian};
+ghost use Rattle.basics.specs.Number.{bigEndianNumber};
 ghost use Rattle.tlv.specs.Tag.{tagSize, tagAt, tagFirstByte, isTemplate, isPrivate};
 ghost use Rattle.tlv.specs.Length.{lengthAt};
 ghost use Rattle.tlv.specs.Object.{headerOf};
-ghost use Rattle.tlv.specs.Tree.{frontNext, nextShifted, nextOf};
-ghost use Rattle.tlv.specs.Padding.{PaddingSkipped, LeadsTo};
-ghost use Rattle.tlv.specs.Primitives.{primitiveOf, primitiveObjects, isPrimitiveList};
+ghost use Rattle.tlv.specs.Tree.{nextInTemplateOfFront, nextInTemplateShifted, nextInTemplate};
+ghost use Rattle.tlv.specs.Padding.{PaddingDoesNotChangeParse, LeadingPaddingEndsAt};
+ghost use Rattle.tlv.specs.Primitives.{primitiveAtFront, primitiveObjects, arePrimitiveObjectsParsed};
 
 // A tag: its bytes read as one number, and how many they are.
 pub struct Tag {
@@ -55,7 +55,7 @@ pub enum ObjectFront {
 }
 
 // What is next within a template's contents: nothing more, an object, or no object.
-pub enum Following {
+pub enum NextInTemplate {
     End,
     Inner(TlvHeader),
     Malformed,
@@ -96,7 +96,7 @@ fn tag_size(s: &[u8]) -> usize
 // The bytes of a tag as one number.
 fn tag_number(s: &[u8], size: usize) -> u32
     requires { ⌜ (0 < size) × (size ≤ 3) × (size ≤ length (now s)) ⌝ }
-    ensures { λ r. ⌜ r ≡ bigEndian (take size (now (s .entry))) ⌝ }
+    ensures { λ r. ⌜ r ≡ bigEndianNumber (take size (now (s .entry))) ⌝ }
 {
     let one = basics::widen32(s[0]);
     if size == 1 {
@@ -210,9 +210,9 @@ pub fn object_header(s: &[u8]) -> ObjectFront
 }
 
 // What is next within a template's contents, after any bytes of 00; the value's start counts them.
-pub fn next(s: &[u8]) -> Following
-    ensures next { λ r. ⌜ r ≡ nextOf (now (s .entry)) ⌝ }
-    ensures padding { λ _. ⌜ PaddingSkipped (now (s .entry)) ⌝ }
+pub fn next_in_template(s: &[u8]) -> NextInTemplate
+    ensures next { λ r. ⌜ r ≡ nextInTemplate (now (s .entry)) ⌝ }
+    ensures padding { λ _. ⌜ PaddingDoesNotChangeParse (now (s .entry)) ⌝ }
 {
     let at = padding_in_front(s);
     object_behind(s, at)
@@ -220,8 +220,8 @@ pub fn next(s: &[u8]) -> Following
 
 // The same, for a search of a single object: so the library calls `next` in one place, its reader, and the compiler
 // puts it inline there.
-pub fn behind_padding(s: &[u8]) -> Following
-    ensures { λ r. ⌜ r ≡ nextOf (now (s .entry)) ⌝ }
+pub fn next_behind_padding(s: &[u8]) -> NextInTemplate
+    ensures { λ r. ⌜ r ≡ nextInTemplate (now (s .entry)) ⌝ }
 {
     let at = padding(s);
     object_behind(s, at)
@@ -229,7 +229,7 @@ pub fn behind_padding(s: &[u8]) -> Following
 
 // How many bytes of 00 are at the front; most often none.
 fn padding_in_front(s: &[u8]) -> usize
-    ensures { λ r. ⌜ LeadsTo (now (s .entry)) r ⌝ }
+    ensures { λ r. ⌜ LeadingPaddingEndsAt (now (s .entry)) r ⌝ }
 {
     if s.len() == 0 {
         return 0;
@@ -242,7 +242,7 @@ fn padding_in_front(s: &[u8]) -> usize
 
 // The same, byte after byte.
 fn padding(s: &[u8]) -> usize
-    ensures { λ r. ⌜ LeadsTo (now (s .entry)) r ⌝ }
+    ensures { λ r. ⌜ LeadingPaddingEndsAt (now (s .entry)) r ⌝ }
 {
     let mut at = 0;
     while at < s.len() {
@@ -255,27 +255,27 @@ fn padding(s: &[u8]) -> usize
 }
 
 // What follows the padding, whose bytes are counted.
-fn object_behind(s: &[u8], at: usize) -> Following
-    requires { ⌜ LeadsTo (now s) at ⌝ }
-    ensures { λ r. ⌜ r ≡ nextOf (now (s .entry)) ⌝ }
+fn object_behind(s: &[u8], at: usize) -> NextInTemplate
+    requires { ⌜ LeadingPaddingEndsAt (now s) at ⌝ }
+    ensures { λ r. ⌜ r ≡ nextInTemplate (now (s .entry)) ⌝ }
 {
     if at == s.len() {
-        return Following::End;
+        return NextInTemplate::End;
     }
     object_at(s, at)
 }
 
 // The object at a place, its value's start counted from the front.
-fn object_at(s: &[u8], at: usize) -> Following
+fn object_at(s: &[u8], at: usize) -> NextInTemplate
     requires { ⌜ at ≤ length (now s) ⌝ }
-    ensures { λ r. ⌜ r ≡ nextShifted at (frontNext (headerOf (drop at (now (s .entry))))) ⌝ }
+    ensures { λ r. ⌜ r ≡ nextInTemplateShifted at (nextInTemplateOfFront (headerOf (drop at (now (s .entry))))) ⌝ }
 {
     let front = object_header(&s[at..]);
     let ObjectFront::Object(h) = front else {
-        return Following::Malformed;
+        return NextInTemplate::Malformed;
     };
     let start = at + h.start;
-    Following::Inner(TlvHeader {
+    NextInTemplate::Inner(TlvHeader {
         tag: h.tag,
         start,
         len: h.len,
@@ -285,8 +285,8 @@ fn object_at(s: &[u8], at: usize) -> Following
 }
 
 // The primitive object at the front; a template is none.
-pub fn primitive(s: &[u8]) -> ObjectFront
-    ensures { λ r. ⌜ r ≡ primitiveOf (now (s .entry)) ⌝ }
+pub fn primitive_at_front(s: &[u8]) -> ObjectFront
+    ensures { λ r. ⌜ r ≡ primitiveAtFront (now (s .entry)) ⌝ }
 {
     let front = object_header(s);
     let ObjectFront::Object(h) = front else {
@@ -300,11 +300,11 @@ pub fn primitive(s: &[u8]) -> ObjectFront
 
 // Whether the bytes are a run of whole primitive objects.
 pub fn is_primitive_list(bytes: &[u8]) -> bool
-    ensures { λ r. ⌜ r ≡ isPrimitiveList (primitiveObjects (now (bytes .entry))) ⌝ }
+    ensures { λ r. ⌜ r ≡ arePrimitiveObjectsParsed (primitiveObjects (now (bytes .entry))) ⌝ }
 {
     let mut s = bytes;
     while s.len() != 0 {
-        let front = primitive(s);
+        let front = primitive_at_front(s);
         let ObjectFront::Object(h) = front else {
             return false;
         };

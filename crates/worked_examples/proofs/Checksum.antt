@@ -1,46 +1,46 @@
 -- Answers to COMPUTE CRYPTOGRAPHIC CHECKSUM, computed. Assumes nothing.
 use mathlib.Core.Path.{refl}
-use Rattle.basics.specs.Recursion.{recurse, recurseBy}
+use Rattle.basics.specs.Recursion.{recurseWithFuelFromLength, recurseWithFuel}
 use Rattle.basics.specs.Choice.{if, both, either, every}
-use Rattle.basics.specs.Number.{bigEndianFrom, nibbles}
-use Rattle.tlv.specs.Tag.{tagSize, tagSecondByte, tagThirdByte, tagAt, tagFirstByte, isTemplate, isPrivate}
-use Rattle.tlv.specs.Length.{lengthOneByte, lengthTwoBytes, lengthAt}
+use Rattle.basics.specs.Number.{appendBigEndianBytes, nibbles}
+use Rattle.tlv.specs.Tag.{tagSize, tagSizeFromSecondByte, tagSizeFromThirdByte, tagAt, tagFirstByte, isTemplate, isPrivate}
+use Rattle.tlv.specs.Length.{lengthAfter81, lengthAfter82, lengthAt}
 use Rattle.tlv.specs.Object.{headerOf}
-use Rattle.tlv.specs.Tree.{objectCount, nextOf, withLeaf, withNode, parseTree}
+use Rattle.tlv.specs.Tree.{objectCount, nextInTemplate, prependLeaf, prependNode, parseTree}
 use Rattle.tlv.specs.Encoding.{tagBytes, lengthBytes}
-use Rattle.dictionary.specs.Rows.{dictionaryRows, rowPast, findRow}
-use Rattle.dictionary.specs.Named.{rowNumberOf}
-use Rattle.dictionary.specs.Form.{numeric, digitsThenFs, compressed, digitsFit, fitsRow}
-use Rattle.store.specs.Place.{rowOffset, rowPlace, placeValue, rowValue, putRow, objectValueIn}
-use Rattle.reading.specs.Taking.{allowedInTemplate, allowedInResponse, allowedNow, takeItem, takeNext, takeAll, primitiveItems}
-use Rattle.reading.specs.Answer.{responseBody, gpoParts, iadPart, cryptogramParts, primitiveParts, templateParts, readBody, isRead, isStatus9000, isResponseLength, readAnswer}
-use Rattle.mag_stripe.specs.Track.{nibblesBefore, discretionaryIn, packedNibbles}
-use Rattle.mag_stripe.specs.Bitmap.{bitmapPlacesFrom, bitmapPlaces, bitmapWithin as inside, canTakeDigits}
-use Rattle.mag_stripe.specs.Digits.{trackDigits, lowestDigits, digitsWritten, trackWithDigits}
-use Rattle.session_record.specs.Numbers.{outcomeOfReason}
-use Rattle.session_record.specs.Ranges.{isPresentIfRequired, allRequiredPresent, cryptogramDataPresent, trackDataPresent}
-use Rattle.session.specs.Steps.{readThen, withTvr, withFindings}
-use Rattle.session.specs.MagStripe.{askChecksum, afterRecordsMagStripe, storeWithDigits, afterChecksum, checksumTaken, checksumNext}
-use Rattle.session.specs.Answer.{afterGpo, gpoNext, recordNext, afterRecord, afterLastRecord, afterRecordsEmv, requestedCryptogram, askCryptogram, cryptogramOutcome, cryptogramEnding, cryptogramNext}
-use Rattle.worked_examples.specs.Checksum.{ChecksumExamples, waitsOnSound, waitsOnUnsound}
+use Rattle.dictionary.specs.Rows.{dictionaryRows, rowFoundShifted, findRow}
+use Rattle.dictionary.specs.Named.{rowNumberOfTagOrZero}
+use Rattle.dictionary.specs.Form.{isNumeric, isDigitsThenFs, isCompressedNumeric, digitsMatchForm, lengthAndDigitsFitRow}
+use Rattle.store.specs.Place.{rowOffset, rowPlaceBytes, valueInPlace, rowValue, putRow, objectValueIn}
+use Rattle.reading.specs.Taking.{allowedInTemplate, rowAllowsValueFromCard, rowAllowsValueAndAbsentOrEmpty, storeItem, storeNextItem, storeAllItems, primitiveItems}
+use Rattle.reading.specs.Answer.{parseResponseBody, gpoItemsUnder80, iadItemIfAny, cryptogramItemsUnder80, primitiveBodyItems, templateBodyItems, readBody, isBodyToBeRead, isStatus9000, responseLengthIs2To258, readAnswer}
+use Rattle.mag_stripe.specs.Track.{nibblesBefore, discretionaryDataInNibbles, packedNibbles}
+use Rattle.mag_stripe.specs.Bitmap.{bitmapPlacesCountedFrom, bitmapPlacesFromOne, bitmapWithin as inside, trackCanTakeDigits}
+use Rattle.mag_stripe.specs.Digits.{trackDigits, lowestDigitsAtPlaces, placedDigitsWrittenBeforeEnd, trackWithDigitsIfPossible}
+use Rattle.session_record.specs.Numbers.{outcomeOfNonzeroReason}
+use Rattle.session_record.specs.Ranges.{isPresentIfRequiredAtStart, allRequiredAtStartPresent, expiryPanAndCdol1NonEmpty, track2AndBitmapsNonEmpty}
+use Rattle.session.specs.Steps.{readResponseThen, storeWithTvr, storeWithFindings}
+use Rattle.session.specs.MagStripe.{requestChecksum, nextAfterRecordsInMagStripeMode, storeWithTrackDigits, nextAfterChecksumRead, nextIfTrackTakesDigits, nextOnChecksumResponse}
+use Rattle.session.specs.Answer.{nextAfterGpoRead, nextOnGpoResponse, nextOnRecordResponse, nextAfterRecordRead, nextAfterLastRecord, nextAfterRecordsInEmvMode, requestedCryptogram, requestCryptogram, outcomeForCryptogramType, cryptogramEnding, nextOnCryptogramResponse}
+use Rattle.worked_examples.specs.Checksum.{ChecksumExamples, awaitsChecksumTrackWithSeparator, awaitsChecksumTrackWithoutSeparator}
 use Rattle.worked_examples.proofs.Laws.{each-in, says-in, order-in, before-in, stored-in}
 use Rattle.worked_examples.proofs.Ranges.{kept}
 
 pub on-checksum : ChecksumExamples
-unfolding recurse recurseBy if both either every bigEndianFrom nibbles tagSize tagSecondByte tagThirdByte tagAt tagFirstByte isTemplate isPrivate lengthOneByte lengthTwoBytes lengthAt headerOf
-    objectCount nextOf withLeaf withNode parseTree tagBytes lengthBytes dictionaryRows rowPast findRow rowNumberOf numeric digitsThenFs compressed digitsFit fitsRow rowOffset rowPlace placeValue
-    rowValue putRow objectValueIn allowedInTemplate allowedInResponse allowedNow takeItem takeNext takeAll primitiveItems responseBody gpoParts iadPart cryptogramParts primitiveParts templateParts
-    readBody isRead isStatus9000 isResponseLength readAnswer nibblesBefore discretionaryIn packedNibbles bitmapPlacesFrom bitmapPlaces inside canTakeDigits trackDigits lowestDigits digitsWritten
-    trackWithDigits outcomeOfReason isPresentIfRequired allRequiredPresent cryptogramDataPresent trackDataPresent withTvr withFindings askChecksum afterRecordsMagStripe storeWithDigits afterChecksum
-    checksumTaken checksumNext afterGpo gpoNext readThen recordNext afterRecord afterLastRecord afterRecordsEmv requestedCryptogram askCryptogram cryptogramOutcome cryptogramEnding cryptogramNext
+unfolding recurseWithFuelFromLength recurseWithFuel if both either every appendBigEndianBytes nibbles tagSize tagSizeFromSecondByte tagSizeFromThirdByte tagAt tagFirstByte isTemplate isPrivate lengthAfter81 lengthAfter82 lengthAt headerOf
+    objectCount nextInTemplate prependLeaf prependNode parseTree tagBytes lengthBytes dictionaryRows rowFoundShifted findRow rowNumberOfTagOrZero isNumeric isDigitsThenFs isCompressedNumeric digitsMatchForm lengthAndDigitsFitRow rowOffset rowPlaceBytes valueInPlace
+    rowValue putRow objectValueIn allowedInTemplate rowAllowsValueFromCard rowAllowsValueAndAbsentOrEmpty storeItem storeNextItem storeAllItems primitiveItems parseResponseBody gpoItemsUnder80 iadItemIfAny cryptogramItemsUnder80 primitiveBodyItems templateBodyItems
+    readBody isBodyToBeRead isStatus9000 responseLengthIs2To258 readAnswer nibblesBefore discretionaryDataInNibbles packedNibbles bitmapPlacesCountedFrom bitmapPlacesFromOne inside trackCanTakeDigits trackDigits lowestDigitsAtPlaces placedDigitsWrittenBeforeEnd
+    trackWithDigitsIfPossible outcomeOfNonzeroReason isPresentIfRequiredAtStart allRequiredAtStartPresent expiryPanAndCdol1NonEmpty track2AndBitmapsNonEmpty storeWithTvr storeWithFindings requestChecksum nextAfterRecordsInMagStripeMode storeWithTrackDigits nextAfterChecksumRead
+    nextIfTrackTakesDigits nextOnChecksumResponse nextAfterGpoRead nextOnGpoResponse readResponseThen nextOnRecordResponse nextAfterRecordRead nextAfterLastRecord nextAfterRecordsInEmvMode requestedCryptogram requestCryptogram outcomeForCryptogramType cryptogramEnding nextOnCryptogramResponse
 on-checksum = record {
-  reading = order-in waitsOnSound (kept .sound) _ _ _ refl refl refl refl refl refl refl refl;
-  track = before-in waitsOnUnsound (kept .unsound) _ _ _ refl refl refl refl refl;
-  missing = before-in waitsOnSound (kept .sound) _ _ _ refl refl refl refl refl;
-  declined = before-in waitsOnSound (kept .sound) _ _ _ refl refl refl refl refl;
-  track-others = each-in waitsOnUnsound (kept .unsound) _ refl;
-  missing-declined = says-in waitsOnSound (kept .sound) _ refl;
-  alone = each-in waitsOnSound (kept .sound) _ refl;
-  digits = stored-in waitsOnSound (kept .sound) _ _ refl;
-  under80 = says-in waitsOnSound (kept .sound) _ refl;
+  reading = order-in awaitsChecksumTrackWithSeparator (kept .sound) _ _ _ refl refl refl refl refl refl refl refl;
+  track = before-in awaitsChecksumTrackWithoutSeparator (kept .unsound) _ _ _ refl refl refl refl refl;
+  missing = before-in awaitsChecksumTrackWithSeparator (kept .sound) _ _ _ refl refl refl refl refl;
+  declined = before-in awaitsChecksumTrackWithSeparator (kept .sound) _ _ _ refl refl refl refl refl;
+  track-others = each-in awaitsChecksumTrackWithoutSeparator (kept .unsound) _ refl;
+  missing-declined = says-in awaitsChecksumTrackWithSeparator (kept .sound) _ refl;
+  alone = each-in awaitsChecksumTrackWithSeparator (kept .sound) _ refl;
+  digits = stored-in awaitsChecksumTrackWithSeparator (kept .sound) _ _ refl;
+  under80 = says-in awaitsChecksumTrackWithSeparator (kept .sound) _ refl;
 }

@@ -5,52 +5,52 @@ use mathlib.Core.List.{List}
 use Prim.Native.Nat.{ℕ, _≤_}
 use lib.Dec.{lit≤}
 use lib.ListN.{length, take}
-use Rattle.basics.specs.Recursion.{recurse, recurseBy}
+use Rattle.basics.specs.Recursion.{recurseWithFuelFromLength, recurseWithFuel}
 use Rattle.basics.specs.Choice.{if, both, either, every}
-use Rattle.basics.specs.Number.{bigEndianFrom, nibbles}
-use Rattle.tlv.specs.Tag.{tagSize, tagSecondByte, tagThirdByte, tagAt, tagFirstByte, isTemplate, isPrivate}
-use Rattle.tlv.specs.Length.{lengthOneByte, lengthTwoBytes, lengthAt}
+use Rattle.basics.specs.Number.{appendBigEndianBytes, nibbles}
+use Rattle.tlv.specs.Tag.{tagSize, tagSizeFromSecondByte, tagSizeFromThirdByte, tagAt, tagFirstByte, isTemplate, isPrivate}
+use Rattle.tlv.specs.Length.{lengthAfter81, lengthAfter82, lengthAt}
 use Rattle.tlv.specs.Object.{headerOf}
-use Rattle.tlv.specs.Primitives.{objectBefore, primitiveOf, primitiveObjects}
+use Rattle.tlv.specs.Primitives.{prependObject, primitiveAtFront, primitiveObjects}
 use Rattle.tlv.specs.Encoding.{tagBytes, lengthBytes}
-use Rattle.dictionary.specs.Rows.{dictionaryRows, rowPast, findRow}
-use Rattle.dictionary.specs.Named.{rowNumberOf}
-use Rattle.dictionary.specs.Form.{numeric, digitsThenFs, compressed, digitsFit, fitsRow}
+use Rattle.dictionary.specs.Rows.{dictionaryRows, rowFoundShifted, findRow}
+use Rattle.dictionary.specs.Named.{rowNumberOfTagOrZero}
+use Rattle.dictionary.specs.Form.{isNumeric, isDigitsThenFs, isCompressedNumeric, digitsMatchForm, lengthAndDigitsFitRow}
 use Rattle.dictionary.specs.TerminalType.{listedTerminalType}
-use Rattle.store.specs.Place.{rowOffset, rowPlace, placeValue, rowValue, putRow, objectValueIn}
-use Rattle.dol.specs.Entries.{entryWithLength, dolEntryAt, entryBefore, entriesNext, dolEntries}
-use Rattle.dol.specs.Filling.{truncated, paddingByte, padded, fittedTo, dolEntryBytes, dolData, dolDataBy}
-use Rattle.command.specs.WithList.{gpoCommandOf, getProcessingOptions, carriedIn, generateAc, udolOrDefault, computeCryptographicChecksum}
-use Rattle.session_record.specs.Numbers.{outcomeOfReason}
-use Rattle.session_record.specs.Ranges.{isPresentIfRequired, allRequiredPresent, cryptogramDataPresent, trackDataPresent}
-use Rattle.start_data.specs.StartData.{terminalTypeListed, settableByStart, setObject, setObjects, loadStart}
-use Rattle.session.specs.Steps.{readThen, withTvr, withFindings}
-use Rattle.session.specs.Start.{askGpo}
+use Rattle.store.specs.Place.{rowOffset, rowPlaceBytes, valueInPlace, rowValue, putRow, objectValueIn}
+use Rattle.dol.specs.Entries.{dolEntryWithLength, dolEntryAt, prependDolEntry, dolEntriesStep, dolEntries}
+use Rattle.dol.specs.Filling.{truncatedToLength, paddingByte, paddedToLength, fittedToLength, dolEntryBytes, dolData, dolDataIfParsed}
+use Rattle.command.specs.WithList.{gpoCommandOfFilled, getProcessingOptions, commandIfDataIs1To255Bytes, generateAc, udolOrDefault, computeCryptographicChecksum}
+use Rattle.session_record.specs.Numbers.{outcomeOfNonzeroReason}
+use Rattle.session_record.specs.Ranges.{isPresentIfRequiredAtStart, allRequiredAtStartPresent, expiryPanAndCdol1NonEmpty, track2AndBitmapsNonEmpty}
+use Rattle.start_data.specs.StartData.{isListedIfTerminalType, startMaySetObjectInRow, setStartObject, setStartObjects, loadStartBytes}
+use Rattle.session.specs.Steps.{readResponseThen, storeWithTvr, storeWithFindings}
+use Rattle.session.specs.Start.{requestGpo}
 use Rattle.session_record.specs.Session.{freshSession}
 use Rattle.session_record.proofs.Phases.{fresh-keeps}
 use Rattle.session.specs.Calls.{playCalls}
 use Rattle.session_claim.proofs.InRanges.{playIn, play-in}
 use Rattle.journal.specs.declared.JournalVerdict.{JournalVerdict}
-use Rattle.journal.specs.Record.{journalRecordSize, journalOf, concatenated, recordFits, isLongAnswer, callFrom}
+use Rattle.journal.specs.Record.{journalRecordSize, journalRecordsOf, journalOfRecords, journalLengthAndZeroPaddingValid, isTooLongAnswerRecord, callFromJournalRecord}
 use Rattle.journal.specs.Verdict.{journalVerdictOf}
 use Rattle.journal.proofs.Written.{written-accepted}
-use Rattle.worked_examples.specs.Journal.{journalCalls, writtenRecords, JournalExamples}
+use Rattle.worked_examples.specs.Journal.{playedJournalCalls, journalRecordsOfPlayedCalls, JournalExamples}
 
-played : journalOf (playCalls freshSession journalCalls) ≡ writtenRecords
-unfolding recurse recurseBy if both either every bigEndianFrom nibbles tagSize tagSecondByte tagThirdByte tagAt tagFirstByte isTemplate isPrivate lengthOneByte lengthTwoBytes lengthAt headerOf
-    objectBefore primitiveOf primitiveObjects tagBytes lengthBytes dictionaryRows rowPast findRow rowNumberOf numeric digitsThenFs compressed digitsFit fitsRow listedTerminalType rowOffset rowPlace
-    placeValue rowValue putRow objectValueIn entryWithLength dolEntryAt entryBefore entriesNext dolEntries truncated paddingByte padded fittedTo dolEntryBytes dolData dolDataBy gpoCommandOf
-    getProcessingOptions carriedIn generateAc udolOrDefault computeCryptographicChecksum outcomeOfReason isPresentIfRequired allRequiredPresent cryptogramDataPresent trackDataPresent
-    terminalTypeListed settableByStart setObject setObjects loadStart withTvr withFindings askGpo journalOf playIn
-played = ap journalOf (play-in freshSession fresh-keeps journalCalls)
+played : journalRecordsOf (playCalls freshSession playedJournalCalls) ≡ journalRecordsOfPlayedCalls
+unfolding recurseWithFuelFromLength recurseWithFuel if both either every appendBigEndianBytes nibbles tagSize tagSizeFromSecondByte tagSizeFromThirdByte tagAt tagFirstByte isTemplate isPrivate lengthAfter81 lengthAfter82 lengthAt headerOf
+    prependObject primitiveAtFront primitiveObjects tagBytes lengthBytes dictionaryRows rowFoundShifted findRow rowNumberOfTagOrZero isNumeric isDigitsThenFs isCompressedNumeric digitsMatchForm lengthAndDigitsFitRow listedTerminalType rowOffset rowPlaceBytes
+    valueInPlace rowValue putRow objectValueIn dolEntryWithLength dolEntryAt prependDolEntry dolEntriesStep dolEntries truncatedToLength paddingByte paddedToLength fittedToLength dolEntryBytes dolData dolDataIfParsed gpoCommandOfFilled
+    getProcessingOptions commandIfDataIs1To255Bytes generateAc udolOrDefault computeCryptographicChecksum outcomeOfNonzeroReason isPresentIfRequiredAtStart allRequiredAtStartPresent expiryPanAndCdol1NonEmpty track2AndBitmapsNonEmpty
+    isListedIfTerminalType startMaySetObjectInRow setStartObject setStartObjects loadStartBytes storeWithTvr storeWithFindings requestGpo journalRecordsOf playIn
+played = ap journalRecordsOf (play-in freshSession fresh-keeps playedJournalCalls)
 
-all-right : {r : List (List ℕ)} → journalOf (playCalls freshSession journalCalls) ≡ r → 4 ≤ length r → journalVerdictOf (concatenated (take 4 r)) ≡ JournalVerdict.Accepted 4
+all-right : {r : List (List ℕ)} → journalRecordsOf (playCalls freshSession playedJournalCalls) ≡ r → 4 ≤ length r → journalVerdictOf (journalOfRecords (take 4 r)) ≡ JournalVerdict.Accepted 4
 all-right {r} e h =
-    subst (λ (l : List (List ℕ)). journalVerdictOf (concatenated (take 4 l)) ≡ JournalVerdict.Accepted 4) e
-    (written-accepted journalCalls 4 (subst (λ (l : List (List ℕ)). 4 ≤ length l) (sym e) h))
+    subst (λ (l : List (List ℕ)). journalVerdictOf (journalOfRecords (take 4 l)) ≡ JournalVerdict.Accepted 4) e
+    (written-accepted playedJournalCalls 4 (subst (λ (l : List (List ℕ)). 4 ≤ length l) (sym e) h))
 
 pub journal : JournalExamples
-unfolding callFrom recordFits isLongAnswer journalRecordSize concatenated tagBytes lengthBytes every both if
+unfolding callFromJournalRecord journalLengthAndZeroPaddingValid isTooLongAnswerRecord journalRecordSize journalOfRecords tagBytes lengthBytes every both if
 journal = record {
   calls-written = refl;
   calls-read = refl;

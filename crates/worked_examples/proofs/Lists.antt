@@ -1,63 +1,63 @@
 -- Commands by their DOLs, computed. Assumes nothing.
 use mathlib.Core.Path.{refl}
-use Rattle.basics.specs.Recursion.{recurse, recurseBy}
+use Rattle.basics.specs.Recursion.{recurseWithFuelFromLength, recurseWithFuel}
 use Rattle.basics.specs.Choice.{if, both, either, every}
-use Rattle.basics.specs.Number.{bigEndianFrom, nibbles}
+use Rattle.basics.specs.Number.{appendBigEndianBytes, nibbles}
 use Rattle.basics.specs.Alike.{bytesEqual}
-use Rattle.tlv.specs.Tag.{tagSize, tagSecondByte, tagThirdByte, tagAt, tagFirstByte, isTemplate, isPrivate}
-use Rattle.tlv.specs.Length.{lengthOneByte, lengthTwoBytes, lengthAt}
+use Rattle.tlv.specs.Tag.{tagSize, tagSizeFromSecondByte, tagSizeFromThirdByte, tagAt, tagFirstByte, isTemplate, isPrivate}
+use Rattle.tlv.specs.Length.{lengthAfter81, lengthAfter82, lengthAt}
 use Rattle.tlv.specs.Object.{headerOf}
-use Rattle.tlv.specs.Primitives.{objectBefore, primitiveOf, primitiveObjects}
-use Rattle.tlv.specs.Tree.{objectCount, nextOf, withLeaf, withNode, parseTree}
+use Rattle.tlv.specs.Primitives.{prependObject, primitiveAtFront, primitiveObjects}
+use Rattle.tlv.specs.Tree.{objectCount, nextInTemplate, prependLeaf, prependNode, parseTree}
 use Rattle.tlv.specs.Encoding.{tagBytes, lengthBytes}
-use Rattle.dictionary.specs.Rows.{dictionaryRows, rowPast, findRow}
-use Rattle.dictionary.specs.Named.{rowNumberOf}
-use Rattle.dictionary.specs.Form.{numeric, digitsThenFs, compressed, digitsFit, fitsRow}
+use Rattle.dictionary.specs.Rows.{dictionaryRows, rowFoundShifted, findRow}
+use Rattle.dictionary.specs.Named.{rowNumberOfTagOrZero}
+use Rattle.dictionary.specs.Form.{isNumeric, isDigitsThenFs, isCompressedNumeric, digitsMatchForm, lengthAndDigitsFitRow}
 use Rattle.dictionary.specs.TerminalType.{listedTerminalType}
-use Rattle.store.specs.Place.{rowOffset, rowPlace, placeValue, rowValue, putRow, objectValueIn}
+use Rattle.store.specs.Place.{rowOffset, rowPlaceBytes, valueInPlace, rowValue, putRow, objectValueIn}
 use Rattle.afl.specs.Entry.{validEntry}
-use Rattle.afl.specs.Records.{aflEntries, wholeEntries, consecutiveRecords, entriesRecords, sumOverEntries, acceptsAfl, nthRecord, kthRecord, aflRecordAt}
-use Rattle.reading.specs.Taking.{allowedInTemplate, allowedInResponse, allowedNow, takeItem, takeNext, takeAll, primitiveItems}
-use Rattle.reading.specs.Answer.{responseBody, gpoParts, iadPart, cryptogramParts, primitiveParts, templateParts, readBody, isRead, isStatus9000, isResponseLength, readAnswer}
-use Rattle.dol.specs.Entries.{entryWithLength, dolEntryAt, entryBefore, entriesNext, dolEntries}
-use Rattle.dol.specs.Filling.{truncated, paddingByte, padded, fittedTo, dolEntryBytes, dolData, dolDataBy}
-use Rattle.command.specs.WithList.{gpoCommandOf, getProcessingOptions, carriedIn, generateAc, udolOrDefault, computeCryptographicChecksum}
-use Rattle.analysis.specs.Bits.{numberedBit}
-use Rattle.analysis.specs.Value.{firstBytes}
-use Rattle.analysis.specs.Digits.{bcdFrom, yearOf, dateOf, dateLater, amountOf, amountAbove}
-use Rattle.analysis.specs.Restrictions.{versionDiffers, notYetEffective, atAtm, issuerCountryOf, cashbackRequested, aucViolated}
+use Rattle.afl.specs.Records.{aflEntries, aflLengthIsMultipleOf4, consecutiveRecords, recordsOfEntries, sumOverEntries, acceptsAfl, recordAtIndex, kthRecordFromOne, kthRecordOfAcceptedAfl}
+use Rattle.reading.specs.Taking.{allowedInTemplate, rowAllowsValueFromCard, rowAllowsValueAndAbsentOrEmpty, storeItem, storeNextItem, storeAllItems, primitiveItems}
+use Rattle.reading.specs.Answer.{parseResponseBody, gpoItemsUnder80, iadItemIfAny, cryptogramItemsUnder80, primitiveBodyItems, templateBodyItems, readBody, isBodyToBeRead, isStatus9000, responseLengthIs2To258, readAnswer}
+use Rattle.dol.specs.Entries.{dolEntryWithLength, dolEntryAt, prependDolEntry, dolEntriesStep, dolEntries}
+use Rattle.dol.specs.Filling.{truncatedToLength, paddingByte, paddedToLength, fittedToLength, dolEntryBytes, dolData, dolDataIfParsed}
+use Rattle.command.specs.WithList.{gpoCommandOfFilled, getProcessingOptions, commandIfDataIs1To255Bytes, generateAc, udolOrDefault, computeCryptographicChecksum}
+use Rattle.analysis.specs.Bits.{hasBitCountedFromZeroAtByte1B8}
+use Rattle.analysis.specs.Value.{firstBytesZeroPadded}
+use Rattle.analysis.specs.Digits.{appendDecimalDigits, fourDigitYear, dateAsNumber, firstDateIsLater, amountOf, firstAmountIsAbove}
+use Rattle.analysis.specs.Restrictions.{cardVersionPresentAndDiffers, notYetEffective, isAtmTypeWithCashCapability, issuerCountryMatch, cashbackRequested, aucViolated}
 use Rattle.analysis.specs.Tvr.{tvrWithBits}
-use Rattle.analysis.specs.Choice.{stageHoldsBit, lowestFrom, lowestBit, iacCode, stageHolds, onlineCapabilityAt, choiceOf}
-use Rattle.analysis.specs.Cvm.{cvmProcessing, onDeviceCvm}
-use Rattle.analysis.specs.Action.{hasOnDeviceCvm, transactionLimit, aboveTransactionLimit, aucViolatedIn, restrictionsByte, tvrOf, sameCurrency, cvmConditionsIn, cvmResultIn, tvrWithCvm, findingsOf, actionCodesOf, choiceFor}
-use Rattle.session_record.specs.Numbers.{outcomeOfReason}
-use Rattle.session_record.specs.Ranges.{isPresentIfRequired, allRequiredPresent, cryptogramDataPresent, trackDataPresent}
-use Rattle.start_data.specs.StartData.{terminalTypeListed, settableByStart, setObject, setObjects, loadStart}
-use Rattle.session.specs.Steps.{readThen, withTvr, withFindings}
-use Rattle.session.specs.Start.{askGpo}
-use Rattle.session.specs.MagStripe.{askChecksum, afterRecordsMagStripe, storeWithDigits, afterChecksum, checksumTaken, checksumNext}
-use Rattle.session.specs.Answer.{afterGpo, gpoNext, recordNext, afterRecord, afterLastRecord, afterRecordsEmv, requestedCryptogram, askCryptogram, cryptogramOutcome, cryptogramEnding, cryptogramNext}
+use Rattle.analysis.specs.Choice.{tvrBitIsInEitherActionCode, lowestBitFrom, lowestTvrBitInCodes, iacOrDefault, someTvrBitInCodesOfStage, onlineCapabilityByDigit, terminalActionAnalysis}
+use Rattle.analysis.specs.Cvm.{cvmProcessing, aipAndConfigurationSupportOnDeviceCvm}
+use Rattle.analysis.specs.Action.{cardAndKernelSupportOnDeviceCvm, transactionLimit, storedAmountAboveLimit, aucViolatedInStore, restrictionsTvrByte2, tvrBeforeCvm, currenciesPresentAndEqual, cvmConditionsIn, cvmResultIn, tvrWithCvm, findingsOf, actionCodesOf, choiceForTvr}
+use Rattle.session_record.specs.Numbers.{outcomeOfNonzeroReason}
+use Rattle.session_record.specs.Ranges.{isPresentIfRequiredAtStart, allRequiredAtStartPresent, expiryPanAndCdol1NonEmpty, track2AndBitmapsNonEmpty}
+use Rattle.start_data.specs.StartData.{isListedIfTerminalType, startMaySetObjectInRow, setStartObject, setStartObjects, loadStartBytes}
+use Rattle.session.specs.Steps.{readResponseThen, storeWithTvr, storeWithFindings}
+use Rattle.session.specs.Start.{requestGpo}
+use Rattle.session.specs.MagStripe.{requestChecksum, nextAfterRecordsInMagStripeMode, storeWithTrackDigits, nextAfterChecksumRead, nextIfTrackTakesDigits, nextOnChecksumResponse}
+use Rattle.session.specs.Answer.{nextAfterGpoRead, nextOnGpoResponse, nextOnRecordResponse, nextAfterRecordRead, nextAfterLastRecord, nextAfterRecordsInEmvMode, requestedCryptogram, requestCryptogram, outcomeForCryptogramType, cryptogramEnding, nextOnCryptogramResponse}
 use Rattle.session_record.specs.Session.{freshSession}
 use Rattle.session_record.proofs.Phases.{fresh-keeps}
-use Rattle.worked_examples.specs.Sessions.{emvAip, magStripeAip, waitsOnLastWithPdol}
-use Rattle.worked_examples.specs.Lists.{ListExamples}
+use Rattle.worked_examples.specs.Sessions.{emvAip, magStripeAip, waitsOnOnlyRecordWithPdol}
+use Rattle.worked_examples.specs.Lists.{DolExamples}
 use Rattle.worked_examples.proofs.Laws.{sends-in, start-sends-in}
 use Rattle.worked_examples.proofs.Ranges.{kept}
 
-pub lists : ListExamples
-unfolding recurse recurseBy if both either every bigEndianFrom nibbles bytesEqual tagSize tagSecondByte tagThirdByte tagAt tagFirstByte isTemplate isPrivate lengthOneByte lengthTwoBytes lengthAt
-    headerOf objectBefore primitiveOf primitiveObjects objectCount nextOf withLeaf withNode parseTree tagBytes lengthBytes dictionaryRows rowPast findRow rowNumberOf numeric digitsThenFs compressed
-    digitsFit fitsRow listedTerminalType rowOffset rowPlace placeValue rowValue putRow objectValueIn validEntry aflEntries wholeEntries consecutiveRecords entriesRecords sumOverEntries acceptsAfl
-    nthRecord kthRecord aflRecordAt allowedInTemplate allowedInResponse allowedNow takeItem takeNext takeAll primitiveItems responseBody gpoParts iadPart cryptogramParts primitiveParts templateParts
-    readBody isRead isStatus9000 isResponseLength readAnswer entryWithLength dolEntryAt entryBefore entriesNext dolEntries truncated paddingByte padded fittedTo dolEntryBytes dolData dolDataBy
-    gpoCommandOf getProcessingOptions carriedIn generateAc udolOrDefault computeCryptographicChecksum numberedBit firstBytes bcdFrom yearOf dateOf dateLater amountOf amountAbove versionDiffers
-    notYetEffective atAtm issuerCountryOf cashbackRequested aucViolated tvrWithBits stageHoldsBit lowestFrom lowestBit iacCode stageHolds onlineCapabilityAt choiceOf cvmProcessing onDeviceCvm
-    hasOnDeviceCvm transactionLimit aboveTransactionLimit aucViolatedIn restrictionsByte tvrOf sameCurrency cvmConditionsIn cvmResultIn tvrWithCvm findingsOf actionCodesOf choiceFor outcomeOfReason
-    isPresentIfRequired allRequiredPresent cryptogramDataPresent trackDataPresent terminalTypeListed settableByStart setObject setObjects loadStart withTvr withFindings askGpo askChecksum
-    afterRecordsMagStripe storeWithDigits afterChecksum checksumTaken checksumNext afterGpo gpoNext readThen recordNext afterRecord afterLastRecord afterRecordsEmv requestedCryptogram askCryptogram
-    cryptogramOutcome cryptogramEnding cryptogramNext
+pub lists : DolExamples
+unfolding recurseWithFuelFromLength recurseWithFuel if both either every appendBigEndianBytes nibbles bytesEqual tagSize tagSizeFromSecondByte tagSizeFromThirdByte tagAt tagFirstByte isTemplate isPrivate lengthAfter81 lengthAfter82 lengthAt
+    headerOf prependObject primitiveAtFront primitiveObjects objectCount nextInTemplate prependLeaf prependNode parseTree tagBytes lengthBytes dictionaryRows rowFoundShifted findRow rowNumberOfTagOrZero isNumeric isDigitsThenFs isCompressedNumeric
+    digitsMatchForm lengthAndDigitsFitRow listedTerminalType rowOffset rowPlaceBytes valueInPlace rowValue putRow objectValueIn validEntry aflEntries aflLengthIsMultipleOf4 consecutiveRecords recordsOfEntries sumOverEntries acceptsAfl
+    recordAtIndex kthRecordFromOne kthRecordOfAcceptedAfl allowedInTemplate rowAllowsValueFromCard rowAllowsValueAndAbsentOrEmpty storeItem storeNextItem storeAllItems primitiveItems parseResponseBody gpoItemsUnder80 iadItemIfAny cryptogramItemsUnder80 primitiveBodyItems templateBodyItems
+    readBody isBodyToBeRead isStatus9000 responseLengthIs2To258 readAnswer dolEntryWithLength dolEntryAt prependDolEntry dolEntriesStep dolEntries truncatedToLength paddingByte paddedToLength fittedToLength dolEntryBytes dolData dolDataIfParsed
+    gpoCommandOfFilled getProcessingOptions commandIfDataIs1To255Bytes generateAc udolOrDefault computeCryptographicChecksum hasBitCountedFromZeroAtByte1B8 firstBytesZeroPadded appendDecimalDigits fourDigitYear dateAsNumber firstDateIsLater amountOf firstAmountIsAbove cardVersionPresentAndDiffers
+    notYetEffective isAtmTypeWithCashCapability issuerCountryMatch cashbackRequested aucViolated tvrWithBits tvrBitIsInEitherActionCode lowestBitFrom lowestTvrBitInCodes iacOrDefault someTvrBitInCodesOfStage onlineCapabilityByDigit terminalActionAnalysis cvmProcessing aipAndConfigurationSupportOnDeviceCvm
+    cardAndKernelSupportOnDeviceCvm transactionLimit storedAmountAboveLimit aucViolatedInStore restrictionsTvrByte2 tvrBeforeCvm currenciesPresentAndEqual cvmConditionsIn cvmResultIn tvrWithCvm findingsOf actionCodesOf choiceForTvr outcomeOfNonzeroReason
+    isPresentIfRequiredAtStart allRequiredAtStartPresent expiryPanAndCdol1NonEmpty track2AndBitmapsNonEmpty isListedIfTerminalType startMaySetObjectInRow setStartObject setStartObjects loadStartBytes storeWithTvr storeWithFindings requestGpo requestChecksum
+    nextAfterRecordsInMagStripeMode storeWithTrackDigits nextAfterChecksumRead nextIfTrackTakesDigits nextOnChecksumResponse nextAfterGpoRead nextOnGpoResponse readResponseThen nextOnRecordResponse nextAfterRecordRead nextAfterLastRecord nextAfterRecordsInEmvMode requestedCryptogram requestCryptogram
+    outcomeForCryptogramType cryptogramEnding nextOnCryptogramResponse
 lists = record {
   gpo = start-sends-in freshSession fresh-keeps _ refl;
-  cryptogram = sends-in (waitsOnLastWithPdol emvAip) (kept .emv-pdol) _ refl;
-  checksum = sends-in (waitsOnLastWithPdol magStripeAip) (kept .mag-stripe-pdol) _ refl;
+  cryptogram = sends-in (waitsOnOnlyRecordWithPdol emvAip) (kept .emv-pdol) _ refl;
+  checksum = sends-in (waitsOnOnlyRecordWithPdol magStripeAip) (kept .mag-stripe-pdol) _ refl;
 }

@@ -4,58 +4,58 @@ use mathlib.Core.Bool.{true, false}
 use mathlib.Core.List.{List}
 use Rattle.basics.specs.Choice.{if, both, either, every}
 use Rattle.basics.specs.Number.{nibbles}
-use Rattle.dictionary.specs.Rows.{dictionaryRows, rowPast, findRow}
-use Rattle.dictionary.specs.Form.{numeric, digitsThenFs, compressed, digitsFit, fitsRow}
+use Rattle.dictionary.specs.Rows.{dictionaryRows, rowFoundShifted, findRow}
+use Rattle.dictionary.specs.Form.{isNumeric, isDigitsThenFs, isCompressedNumeric, digitsMatchForm, lengthAndDigitsFitRow}
 use Rattle.dictionary.specs.TerminalType.{listedTerminalType}
-use Rattle.store.specs.Place.{rowOffset, rowPlace, placeValue, rowValue, objectValueIn}
+use Rattle.store.specs.Place.{rowOffset, rowPlaceBytes, valueInPlace, rowValue, objectValueIn}
 use Rattle.afl.specs.Entry.{validEntry}
-use Rattle.afl.specs.Records.{aflEntries, wholeEntries, sumOverEntries, acceptsAfl}
-use Rattle.analysis.specs.Action.{hasOnDeviceCvm, transactionLimit}
-use Rattle.analysis.specs.Digits.{bcdFrom, amountOf}
-use Rattle.analysis.specs.Value.{firstBytes}
-use Rattle.analysis.specs.Cvm.{onDeviceCvm}
+use Rattle.afl.specs.Records.{aflEntries, aflLengthIsMultipleOf4, sumOverEntries, acceptsAfl}
+use Rattle.analysis.specs.Action.{cardAndKernelSupportOnDeviceCvm, transactionLimit}
+use Rattle.analysis.specs.Digits.{appendDecimalDigits, amountOf}
+use Rattle.analysis.specs.Value.{firstBytesZeroPadded}
+use Rattle.analysis.specs.Cvm.{aipAndConfigurationSupportOnDeviceCvm}
 use Rattle.analysis.specs.declared.choice.Choice.{Choice}
-use Rattle.session_record.specs.Inner.{rowPlaceFits}
+use Rattle.session_record.specs.Inner.{placeLengthAndValueFitRow}
 use Rattle.session_record.specs.Numbers.{reasonMatchesOutcome}
-use Rattle.session_record.specs.Ranges.{isPresentIfRequired, allRequiredPresent, lastResponseAbsent, runningRanges, cryptogramDataPresent, trackDataPresent, freshRanges, gpoRanges, recordRanges, cryptogramRanges, checksumRanges, endedRanges, inRanges}
+use Rattle.session_record.specs.Ranges.{isPresentIfRequiredAtStart, allRequiredAtStartPresent, lastResponseObjectsAbsent, inRunningRanges, expiryPanAndCdol1NonEmpty, track2AndBitmapsNonEmpty, inFreshRanges, inGpoRanges, inRecordRanges, inCryptogramRanges, inChecksumRanges, inEndedRanges, sessionRecordInRanges}
 use Rattle.session_record.proofs.Along.{fitAlong, ranges-along}
-use Rattle.worked_examples.specs.Sessions.{amountBelow, amountOver, emvAip, magStripeAip, soundTrack, unsoundTrack, waitsOnGpo, waitsOnFirst, waitsOnLast, waitsOnLastWithPdol, waitsOnCryptogram, waitsOnChecksum, hasEnded, freshOutOfRanges, gpoOutOfRanges, endedOutOfRanges}
+use Rattle.worked_examples.specs.Sessions.{bcdUnitsBelowLimit, bcdUnitsOverLimit, emvAip, magStripeAip, trackWithSeparator, trackWithoutSeparator, waitsOnGpo, waitsOnFirstOfTwoRecords, waitsOnOnlyRecord, waitsOnOnlyRecordWithPdol, waitsOnCryptogram, waitsOnChecksum, sessionStopped, freshOutOfRanges, waitsOnGpoOutOfRanges, endedOutOfRanges}
 
 pub record Kept : Type 0 where
-  pub gpo : inRanges waitsOnGpo ≡ true
-  pub first : inRanges waitsOnFirst ≡ true
-  pub emv-within : inRanges (waitsOnLast emvAip amountBelow) ≡ true
-  pub emv-above : inRanges (waitsOnLast emvAip amountOver) ≡ true
-  pub mag-stripe-within : inRanges (waitsOnLast magStripeAip amountBelow) ≡ true
-  pub mag-stripe-above : inRanges (waitsOnLast magStripeAip amountOver) ≡ true
-  pub emv-pdol : inRanges (waitsOnLastWithPdol emvAip) ≡ true
-  pub mag-stripe-pdol : inRanges (waitsOnLastWithPdol magStripeAip) ≡ true
-  pub cryptogram : (c : Choice) → inRanges (waitsOnCryptogram c) ≡ true
-  pub sound : inRanges (waitsOnChecksum soundTrack) ≡ true
-  pub unsound : inRanges (waitsOnChecksum unsoundTrack) ≡ true
-  pub ended : inRanges hasEnded ≡ true
-  pub broken-fresh : inRanges freshOutOfRanges ≡ false
-  pub broken-gpo : inRanges gpoOutOfRanges ≡ false
-  pub broken-ended : inRanges endedOutOfRanges ≡ false
+  pub gpo : sessionRecordInRanges waitsOnGpo ≡ true
+  pub first : sessionRecordInRanges waitsOnFirstOfTwoRecords ≡ true
+  pub emv-within : sessionRecordInRanges (waitsOnOnlyRecord emvAip bcdUnitsBelowLimit) ≡ true
+  pub emv-above : sessionRecordInRanges (waitsOnOnlyRecord emvAip bcdUnitsOverLimit) ≡ true
+  pub mag-stripe-within : sessionRecordInRanges (waitsOnOnlyRecord magStripeAip bcdUnitsBelowLimit) ≡ true
+  pub mag-stripe-above : sessionRecordInRanges (waitsOnOnlyRecord magStripeAip bcdUnitsOverLimit) ≡ true
+  pub emv-pdol : sessionRecordInRanges (waitsOnOnlyRecordWithPdol emvAip) ≡ true
+  pub mag-stripe-pdol : sessionRecordInRanges (waitsOnOnlyRecordWithPdol magStripeAip) ≡ true
+  pub cryptogram : (c : Choice) → sessionRecordInRanges (waitsOnCryptogram c) ≡ true
+  pub sound : sessionRecordInRanges (waitsOnChecksum trackWithSeparator) ≡ true
+  pub unsound : sessionRecordInRanges (waitsOnChecksum trackWithoutSeparator) ≡ true
+  pub ended : sessionRecordInRanges sessionStopped ≡ true
+  pub broken-fresh : sessionRecordInRanges freshOutOfRanges ≡ false
+  pub broken-gpo : sessionRecordInRanges waitsOnGpoOutOfRanges ≡ false
+  pub broken-ended : sessionRecordInRanges endedOutOfRanges ≡ false
 
 pub kept : Kept
-unfolding fitAlong rowPlaceFits fitsRow digitsFit numeric compressed digitsThenFs nibbles freshRanges gpoRanges recordRanges cryptogramRanges checksumRanges endedRanges reasonMatchesOutcome runningRanges
-    allRequiredPresent isPresentIfRequired lastResponseAbsent cryptogramDataPresent trackDataPresent listedTerminalType transactionLimit hasOnDeviceCvm onDeviceCvm amountOf bcdFrom firstBytes acceptsAfl wholeEntries aflEntries validEntry sumOverEntries placeValue rowOffset rowPlace rowValue
-    objectValueIn findRow rowPast dictionaryRows every both either if
+unfolding fitAlong placeLengthAndValueFitRow lengthAndDigitsFitRow digitsMatchForm isNumeric isCompressedNumeric isDigitsThenFs nibbles inFreshRanges inGpoRanges inRecordRanges inCryptogramRanges inChecksumRanges inEndedRanges reasonMatchesOutcome inRunningRanges
+    allRequiredAtStartPresent isPresentIfRequiredAtStart lastResponseObjectsAbsent expiryPanAndCdol1NonEmpty track2AndBitmapsNonEmpty listedTerminalType transactionLimit cardAndKernelSupportOnDeviceCvm aipAndConfigurationSupportOnDeviceCvm amountOf appendDecimalDigits firstBytesZeroPadded acceptsAfl aflLengthIsMultipleOf4 aflEntries validEntry sumOverEntries valueInPlace rowOffset rowPlaceBytes rowValue
+    objectValueIn findRow rowFoundShifted dictionaryRows every both either if
 kept = record {
   gpo = ranges-along waitsOnGpo;
-  first = ranges-along waitsOnFirst;
-  emv-within = ranges-along (waitsOnLast emvAip amountBelow);
-  emv-above = ranges-along (waitsOnLast emvAip amountOver);
-  mag-stripe-within = ranges-along (waitsOnLast magStripeAip amountBelow);
-  mag-stripe-above = ranges-along (waitsOnLast magStripeAip amountOver);
-  emv-pdol = ranges-along (waitsOnLastWithPdol emvAip);
-  mag-stripe-pdol = ranges-along (waitsOnLastWithPdol magStripeAip);
+  first = ranges-along waitsOnFirstOfTwoRecords;
+  emv-within = ranges-along (waitsOnOnlyRecord emvAip bcdUnitsBelowLimit);
+  emv-above = ranges-along (waitsOnOnlyRecord emvAip bcdUnitsOverLimit);
+  mag-stripe-within = ranges-along (waitsOnOnlyRecord magStripeAip bcdUnitsBelowLimit);
+  mag-stripe-above = ranges-along (waitsOnOnlyRecord magStripeAip bcdUnitsOverLimit);
+  emv-pdol = ranges-along (waitsOnOnlyRecordWithPdol emvAip);
+  mag-stripe-pdol = ranges-along (waitsOnOnlyRecordWithPdol magStripeAip);
   cryptogram = λ c. ranges-along (waitsOnCryptogram c);
-  sound = ranges-along (waitsOnChecksum soundTrack);
-  unsound = ranges-along (waitsOnChecksum unsoundTrack);
-  ended = ranges-along hasEnded;
+  sound = ranges-along (waitsOnChecksum trackWithSeparator);
+  unsound = ranges-along (waitsOnChecksum trackWithoutSeparator);
+  ended = ranges-along sessionStopped;
   broken-fresh = ranges-along freshOutOfRanges;
-  broken-gpo = ranges-along gpoOutOfRanges;
+  broken-gpo = ranges-along waitsOnGpoOutOfRanges;
   broken-ended = ranges-along endedOutOfRanges;
 }

@@ -16,11 +16,11 @@ use Rattle.session.specs.Calls.{Call, answer, callStep, commandSent}
 -- ---- the calls
 
 -- the least command buffer, and one byte less
-abbrev pub fullBuffer : Buffer
-fullBuffer = replicate 261 0
+abbrev pub bufferOf261 : Buffer
+bufferOf261 = replicate 261 0
 
-abbrev pub shortBuffer : Buffer
-shortBuffer = replicate 260 0
+abbrev pub bufferOf260 : Buffer
+bufferOf260 = replicate 260 0
 
 -- what a call returns
 unfoldable pub resultOf : Session → Call → CallResult
@@ -31,15 +31,15 @@ unfoldable pub commandOf : Session → Call → List CommandBytes
 commandOf s c = commandSent (callStep s c .reply .answer) (callStep s c .buffer)
 
 -- with the least buffer: what card bytes get, one by one
-unfoldable pub resultOn : Session → Response → CallResult
-resultOn s card = callStep s (answer card fullBuffer) .reply .answer
+unfoldable pub resultOfAnswer : Session → Response → CallResult
+resultOfAnswer s card = callStep s (answer card bufferOf261) .reply .answer
 
-unfoldable pub resultsOn : Session → List Response → List CallResult
-resultsOn s cards = map (resultOn s) cards
+unfoldable pub resultsOfAnswers : Session → List Response → List CallResult
+resultsOfAnswers s cards = map (resultOfAnswer s) cards
 
 -- what the store holds of a tag after an answer
-unfoldable pub valueAfter : Session → Response → Tag → StoredValue
-valueAfter s card tag = objectValue (storeBytes (callStep s (answer card fullBuffer) .reply .session)) tag
+unfoldable pub storedValueAfterAnswer : Session → Response → Tag → StoredValue
+storedValueAfterAnswer s card tag = objectValue (storeBytes (callStep s (answer card bufferOf261) .reply .session)) tag
 
 -- ---- what is returned
 
@@ -55,11 +55,11 @@ commandResult n = CallResult.Command (record { size = n })
 abbrev pub outcomeResult : Outcome → Reason → CvmNumber → CallResult
 outcomeResult o reason cvm = CallResult.Outcome (outcomeParameters (endingOf o reason) cvm)
 
-abbrev pub endedWith : Reason → CallResult
-endedWith reason = outcomeResult Outcome.Ended reason 15
+abbrev pub endedResultWithoutCvm : Reason → CallResult
+endedResultWithoutCvm reason = outcomeResult Outcome.Ended reason 15
 
-abbrev pub endedResultWithPin : Reason → CallResult
-endedResultWithPin reason = outcomeResult Outcome.Ended reason 2
+abbrev pub endedResultWithOnlinePin : Reason → CallResult
+endedResultWithOnlinePin reason = outcomeResult Outcome.Ended reason 2
 
 -- ---- the card's bytes
 
@@ -71,8 +71,8 @@ abbrev pub with6A82 : Bytes → Response
 with6A82 body = body ++ (0x6A ∷ 0x82 ∷ [])
 
 -- contents in a 77, with status 90 00
-abbrev pub answer77 : Bytes → Response
-answer77 contents = with9000 (objectBytes 0x77 contents)
+abbrev pub answerWithContentsIn77 : Bytes → Response
+answerWithContentsIn77 contents = with9000 (objectBytes 0x77 contents)
 
 -- an answer of 259 bytes: one object of a tag of one byte, with padding after its contents, and status 90 00
 abbrev pub answerOf259Bytes : Tag → Bytes → Response
@@ -87,13 +87,13 @@ abbrev pub truncatedObject : Tag → Bytes
 truncatedObject tag = tag ∷ 0x05 ∷ []
 
 -- a body with a byte after its one object
-abbrev pub byteBehind : Bytes → Bytes
-byteBehind body = body ++ (0x00 ∷ [])
+abbrev pub withTrailingByte : Bytes → Bytes
+withTrailingByte body = body ++ (0x00 ∷ [])
 
 -- a body inside a template that no answer has
-abbrev pub wrappedBody : Bytes → Bytes
-wrappedBody body = objectBytes 0x61 body
+abbrev pub wrappedIn61 : Bytes → Bytes
+wrappedIn61 body = objectBytes 0x61 body
 
 -- the TVR, which is not the card's to set
-abbrev pub tvrFromCard : Bytes
-tvrFromCard = objectBytes 0x95 (0x00 ∷ [])
+abbrev pub tvrObjectFromCard : Bytes
+tvrObjectFromCard = objectBytes 0x95 (0x00 ∷ [])

@@ -13,70 +13,71 @@ use Rattle.analysis.specs.declared.choice.Choice.{Choice}
 use Rattle.session_record.specs.declared.CallResult.{CallResult}
 use Rattle.session_record.specs.declared.Outcome.{Outcome}
 use Rattle.session_record.specs.declared.Session.{Session}
-use Rattle.worked_examples.specs.Sessions.{objectsInBytes, waitsOnCryptogram}
-use Rattle.worked_examples.specs.Calls.{resultOn, resultsOn, valueAfter, outcomeResult, endedResultWithPin}
-use Rattle.worked_examples.specs.Calls.{with9000, with6A82, answer77}
-use Rattle.worked_examples.specs.ReadingOrder.{ReadingOrder, ReadingBefore}
+use Rattle.worked_examples.specs.Sessions.{encodedTagValues, waitsOnCryptogram}
+use Rattle.worked_examples.specs.Calls.{resultOfAnswer, resultsOfAnswers, storedValueAfterAnswer, outcomeResult, endedResultWithOnlinePin}
+use Rattle.worked_examples.specs.Calls.{with9000, with6A82, answerWithContentsIn77}
+use Rattle.worked_examples.specs.ReadingOrder.{ReasonsInReadingOrder, ReadingReasonsBeforeLaterReason}
 
 -- 9F27, 9F36 and 9F26
 abbrev pub cryptogramObjects : Byte → Bytes
 cryptogramObjects cid =
-    objectsInBytes
+    encodedTagValues
     ((0x9F27, cid ∷ []) ∷ (0x9F36, 0x00 ∷ 0x01 ∷ [])
     ∷ (0x9F26, 0x11 ∷ 0x22 ∷ 0x33 ∷ 0x44 ∷ 0x55 ∷ 0x66 ∷ 0x77 ∷ 0x88 ∷ []) ∷ [])
 
 -- AAC, TC, ARQC and the reserved type
-abbrev pub cryptogramTypes : List Response
-cryptogramTypes = map (λ cid. answer77 (cryptogramObjects cid)) (0x00 ∷ 0x40 ∷ 0x80 ∷ 0xC0 ∷ [])
+abbrev pub answersOfEachCryptogramType : List Response
+answersOfEachCryptogramType =
+    map (λ cid. answerWithContentsIn77 (cryptogramObjects cid)) (0x00 ∷ 0x40 ∷ 0x80 ∷ 0xC0 ∷ [])
 
 -- the outcomes; each reports the CVM that the session holds
-abbrev pub declined : CallResult
-declined = outcomeResult Outcome.Declined 0 2
+abbrev pub declinedResultWithOnlinePin : CallResult
+declinedResultWithOnlinePin = outcomeResult Outcome.Declined 0 2
 
-abbrev pub onlineRequest : CallResult
-onlineRequest = outcomeResult Outcome.OnlineRequest 0 2
+abbrev pub onlineRequestResultWithOnlinePin : CallResult
+onlineRequestResultWithOnlinePin = outcomeResult Outcome.OnlineRequest 0 2
 
-abbrev pub approved : CallResult
-approved = outcomeResult Outcome.Approved 0 2
+abbrev pub approvedResultWithOnlinePin : CallResult
+approvedResultWithOnlinePin = outcomeResult Outcome.Approved 0 2
 
-abbrev pub notAllowed : CallResult
-notAllowed = endedResultWithPin 8
+abbrev pub cryptogramTypeNotAllowedResult : CallResult
+cryptogramTypeNotAllowedResult = endedResultWithOnlinePin 8
 
 -- what is awaited in the other fields: an ARQC was requested, so that a TC is not allowed
 abbrev pub waitsOnArqc : Session
 waitsOnArqc = waitsOnCryptogram Choice.Online
 
 -- under 80: 9F27, 9F36, 9F26, and after them 9F10
-abbrev pub under80 : Bytes
-under80 =
+abbrev pub cryptogramUnder80 : Bytes
+cryptogramUnder80 =
     objectBytes 0x80
     (0x80 ∷ 0x00 ∷ 0x2A ∷ 0x11 ∷ 0x22 ∷ 0x33 ∷ 0x44 ∷ 0x55 ∷ 0x66 ∷ 0x77 ∷ 0x88 ∷ 0xAA ∷ 0xBB ∷ [])
 
 pub record CryptogramExamples : Type 0 where
   -- by what was requested: AAC, TC, ARQC and the reserved type
-  pub decline-asked : resultsOn (waitsOnCryptogram Choice.Decline) cryptogramTypes
-      ≡ declined ∷ notAllowed ∷ notAllowed ∷ notAllowed ∷ []
-  pub online-asked : resultsOn waitsOnArqc cryptogramTypes ≡ declined ∷ notAllowed ∷ onlineRequest ∷ notAllowed ∷ []
-  pub offline-asked : resultsOn (waitsOnCryptogram Choice.Offline) cryptogramTypes
-      ≡ declined ∷ approved ∷ onlineRequest ∷ notAllowed ∷ []
+  pub decline-asked : resultsOfAnswers (waitsOnCryptogram Choice.Decline) answersOfEachCryptogramType
+      ≡ declinedResultWithOnlinePin ∷ cryptogramTypeNotAllowedResult ∷ cryptogramTypeNotAllowedResult ∷ cryptogramTypeNotAllowedResult ∷ []
+  pub online-asked : resultsOfAnswers waitsOnArqc answersOfEachCryptogramType ≡ declinedResultWithOnlinePin ∷ cryptogramTypeNotAllowedResult ∷ onlineRequestResultWithOnlinePin ∷ cryptogramTypeNotAllowedResult ∷ []
+  pub offline-asked : resultsOfAnswers (waitsOnCryptogram Choice.Offline) answersOfEachCryptogramType
+      ≡ declinedResultWithOnlinePin ∷ approvedResultWithOnlinePin ∷ onlineRequestResultWithOnlinePin ∷ cryptogramTypeNotAllowedResult ∷ []
   -- the order
-  pub reading : ReadingOrder waitsOnArqc 0x77 0x70 endedResultWithPin
-  pub missing : ReadingBefore waitsOnArqc 0x77 [] endedResultWithPin
-  pub cryptogram-type : ReadingBefore waitsOnArqc 0x77 (cryptogramObjects 0x40) endedResultWithPin
-  pub body-type : resultOn waitsOnArqc (with9000 (objectBytes 0x80 (0x40 ∷ 0x00 ∷ 0x2A ∷ []))) ≡ endedResultWithPin 2
+  pub reading : ReasonsInReadingOrder waitsOnArqc 0x77 0x70 endedResultWithOnlinePin
+  pub missing : ReadingReasonsBeforeLaterReason waitsOnArqc 0x77 [] endedResultWithOnlinePin
+  pub cryptogram-type : ReadingReasonsBeforeLaterReason waitsOnArqc 0x77 (cryptogramObjects 0x40) endedResultWithOnlinePin
+  pub body-type : resultOfAnswer waitsOnArqc (with9000 (objectBytes 0x80 (0x40 ∷ 0x00 ∷ 0x2A ∷ []))) ≡ endedResultWithOnlinePin 2
   -- a type that is not allowed without 9F26; an AAC without 9F36 and 9F26, and none of the three: a decline does not
   -- come before an object that is missing
   pub missing-others :
-      resultsOn waitsOnArqc
-      (answer77 (objectBytes 0x9F27 (0x40 ∷ []) ++ objectBytes 0x9F36 (0x00 ∷ 0x01 ∷ []))
-      ∷ answer77 (objectBytes 0x9F27 (0x00 ∷ [])) ∷ answer77 [] ∷ [])
-      ≡ replicate 3 (endedResultWithPin 4)
+      resultsOfAnswers waitsOnArqc
+      (answerWithContentsIn77 (objectBytes 0x9F27 (0x40 ∷ []) ++ objectBytes 0x9F36 (0x00 ∷ 0x01 ∷ []))
+      ∷ answerWithContentsIn77 (objectBytes 0x9F27 (0x00 ∷ [])) ∷ answerWithContentsIn77 [] ∷ [])
+      ≡ replicate 3 (endedResultWithOnlinePin 4)
   -- under 80
-  pub under80-says : resultOn waitsOnArqc (with9000 under80) ≡ onlineRequest
-  pub under80-9F27 : valueAfter waitsOnArqc (with9000 under80) 0x9F27 ≡ present (0x80 ∷ [])
-  pub under80-9F36 : valueAfter waitsOnArqc (with9000 under80) 0x9F36 ≡ present (0x00 ∷ 0x2A ∷ [])
-  pub under80-9F26 : valueAfter waitsOnArqc (with9000 under80) 0x9F26
+  pub under80-says : resultOfAnswer waitsOnArqc (with9000 cryptogramUnder80) ≡ onlineRequestResultWithOnlinePin
+  pub under80-9F27 : storedValueAfterAnswer waitsOnArqc (with9000 cryptogramUnder80) 0x9F27 ≡ present (0x80 ∷ [])
+  pub under80-9F36 : storedValueAfterAnswer waitsOnArqc (with9000 cryptogramUnder80) 0x9F36 ≡ present (0x00 ∷ 0x2A ∷ [])
+  pub under80-9F26 : storedValueAfterAnswer waitsOnArqc (with9000 cryptogramUnder80) 0x9F26
       ≡ present (0x11 ∷ 0x22 ∷ 0x33 ∷ 0x44 ∷ 0x55 ∷ 0x66 ∷ 0x77 ∷ 0x88 ∷ [])
-  pub under80-9F10 : valueAfter waitsOnArqc (with9000 under80) 0x9F10 ≡ present (0xAA ∷ 0xBB ∷ [])
+  pub under80-9F10 : storedValueAfterAnswer waitsOnArqc (with9000 cryptogramUnder80) 0x9F10 ≡ present (0xAA ∷ 0xBB ∷ [])
   -- nothing of an answer is kept that gives a reason of the reading
-  pub none-kept : valueAfter waitsOnArqc (with6A82 under80) 0x9F27 ≡ absent
+  pub none-kept : storedValueAfterAnswer waitsOnArqc (with6A82 cryptogramUnder80) 0x9F27 ≡ absent

@@ -8,24 +8,24 @@ use Rattle.basics.specs.Types.{Bytes, Tag, Reason}
 use Rattle.tlv.specs.Encoding.{objectBytes}
 use Rattle.session_record.specs.declared.CallResult.{CallResult}
 use Rattle.session_record.specs.declared.Session.{Session}
-use Rattle.worked_examples.specs.Calls.{resultOn, with9000, with6A82, answerOf259Bytes, tooLongAnswer}
-use Rattle.worked_examples.specs.Calls.{truncatedObject, byteBehind, wrappedBody, tvrFromCard}
+use Rattle.worked_examples.specs.Calls.{resultOfAnswer, with9000, with6A82, answerOf259Bytes, tooLongAnswer}
+use Rattle.worked_examples.specs.Calls.{truncatedObject, withTrailingByte, wrappedIn61, tvrObjectFromCard}
 
 -- two reasons of the reading, or one and an object missing; the tag `other` is outside in no answer of this kind
-pub record ReadingOrder (s : Session) (outer other : Tag) (ended : Reason → CallResult) : Type 0 where
-  pub length-status : resultOn s tooLongAnswer ≡ ended 2
-  pub length-objects : resultOn s (answerOf259Bytes outer tvrFromCard) ≡ ended 2
-  pub status-encoding : resultOn s (with6A82 (truncatedObject outer)) ≡ ended 1
-  pub status-outer-tag : resultOn s (with6A82 (objectBytes other [])) ≡ ended 1
-  pub status-objects : resultOn s (with6A82 (objectBytes outer tvrFromCard)) ≡ ended 1
-  pub encoding-objects : resultOn s (with9000 (byteBehind (objectBytes outer tvrFromCard))) ≡ ended 2
-  pub outer-tag-objects : resultOn s (with9000 (objectBytes other tvrFromCard)) ≡ ended 2
-  pub outer-tag-missing : resultOn s (with9000 (objectBytes other [])) ≡ ended 2
+pub record ReasonsInReadingOrder (session : Session) (outerTag wrongOuterTag : Tag) (endedFor : Reason → CallResult) : Type 0 where
+  pub length-status : resultOfAnswer session tooLongAnswer ≡ endedFor 2
+  pub length-objects : resultOfAnswer session (answerOf259Bytes outerTag tvrObjectFromCard) ≡ endedFor 2
+  pub status-encoding : resultOfAnswer session (with6A82 (truncatedObject outerTag)) ≡ endedFor 1
+  pub status-outer-tag : resultOfAnswer session (with6A82 (objectBytes wrongOuterTag [])) ≡ endedFor 1
+  pub status-objects : resultOfAnswer session (with6A82 (objectBytes outerTag tvrObjectFromCard)) ≡ endedFor 1
+  pub encoding-objects : resultOfAnswer session (with9000 (withTrailingByte (objectBytes outerTag tvrObjectFromCard))) ≡ endedFor 2
+  pub outer-tag-objects : resultOfAnswer session (with9000 (objectBytes wrongOuterTag tvrObjectFromCard)) ≡ endedFor 2
+  pub outer-tag-missing : resultOfAnswer session (with9000 (objectBytes wrongOuterTag [])) ≡ endedFor 2
 
 -- each reason of the reading before one that comes after it, which these contents alone give
-pub record ReadingBefore (s : Session) (outer : Tag) (contents : Bytes) (ended : Reason → CallResult) : Type 0 where
-  pub length : resultOn s (answerOf259Bytes outer contents) ≡ ended 2
-  pub status : resultOn s (with6A82 (objectBytes outer contents)) ≡ ended 1
-  pub encoding : resultOn s (with9000 (byteBehind (objectBytes outer contents))) ≡ ended 2
-  pub outer-tag : resultOn s (with9000 (wrappedBody (objectBytes outer contents))) ≡ ended 2
-  pub objects : resultOn s (with9000 (objectBytes outer (contents ++ tvrFromCard))) ≡ ended 3
+pub record ReadingReasonsBeforeLaterReason (session : Session) (outerTag : Tag) (contentsWithLaterReason : Bytes) (endedFor : Reason → CallResult) : Type 0 where
+  pub length : resultOfAnswer session (answerOf259Bytes outerTag contentsWithLaterReason) ≡ endedFor 2
+  pub status : resultOfAnswer session (with6A82 (objectBytes outerTag contentsWithLaterReason)) ≡ endedFor 1
+  pub encoding : resultOfAnswer session (with9000 (withTrailingByte (objectBytes outerTag contentsWithLaterReason))) ≡ endedFor 2
+  pub outer-tag : resultOfAnswer session (with9000 (wrappedIn61 (objectBytes outerTag contentsWithLaterReason))) ≡ endedFor 2
+  pub objects : resultOfAnswer session (with9000 (objectBytes outerTag (contentsWithLaterReason ++ tvrObjectFromCard))) ≡ endedFor 3

@@ -21,44 +21,45 @@ abbrev pub TagValue : Type 0
 TagValue = Tag × Value
 
 -- an amount of so many units, BCD, with no cents
-abbrev pub units : Byte → Value
-units n = 0 ∷ 0 ∷ 0 ∷ 0 ∷ n ∷ 0x00 ∷ []
+abbrev pub amountOfBcdUnits : Byte → Value
+amountOfBcdUnits n = 0 ∷ 0 ∷ 0 ∷ 0 ∷ n ∷ 0x00 ∷ []
 
 -- what a start must bring, by the units of its amount and DF811B; every limit is 25.00
-abbrev pub startObjects : Byte → Byte → List TagValue
-startObjects amount configuration =
+abbrev pub startObjectsOfUnitsAndConfiguration : Byte → Byte → List TagValue
+startObjectsOfUnitsAndConfiguration amount configuration =
     (0x9A, 0x25 ∷ 0x12 ∷ 0x31 ∷ []) ∷ (0x9C, 0x00 ∷ [])
-    ∷ (0x9F02, units amount)
+    ∷ (0x9F02, amountOfBcdUnits amount)
     ∷ (0x9F09, 0x00 ∷ 0x02 ∷ []) ∷ (0x9F1A, 0x08 ∷ 0x40 ∷ [])
     ∷ (0x9F33, 0xE0 ∷ 0x68 ∷ 0xC8 ∷ []) ∷ (0x9F35, 0x22 ∷ [])
     ∷ (0x9F37, 0x01 ∷ 0x02 ∷ 0x03 ∷ 0x04 ∷ []) ∷ (0x9F6A, 0x00 ∷ 0x00 ∷ 0x34 ∷ 0x56 ∷ [])
     ∷ (0xDF811B, configuration ∷ [])
     ∷ (0xDF8120, replicate 5 0) ∷ (0xDF8121, replicate 5 0) ∷ (0xDF8122, replicate 5 0)
-    ∷ (0xDF8123, units 0x25) ∷ (0xDF8124, units 0x25) ∷ (0xDF8125, units 0x25) ∷ (0xDF8126, units 0x25)
+    ∷ (0xDF8123, amountOfBcdUnits 0x25) ∷ (0xDF8124, amountOfBcdUnits 0x25) ∷ (0xDF8125, amountOfBcdUnits 0x25) ∷ (0xDF8126, amountOfBcdUnits 0x25)
     ∷ []
 
 -- objects concatenated, as a start brings them
-abbrev pub objectsInBytes : List TagValue → Bytes
-objectsInBytes [] = []
-objectsInBytes ((t, v) ∷ more) = objectBytes t v ++ objectsInBytes more
+abbrev pub encodedTagValues : List TagValue → Bytes
+encodedTagValues [] = []
+encodedTagValues ((t, v) ∷ more) = objectBytes t v ++ encodedTagValues more
 
 -- the amount is 10.00, within the limit, or 30.00, above it
-abbrev pub amountBelow : Byte
-amountBelow = 0x10
+abbrev pub bcdUnitsBelowLimit : Byte
+bcdUnitsBelowLimit = 0x10
 
-abbrev pub amountOver : Byte
-amountOver = 0x30
+abbrev pub bcdUnitsOverLimit : Byte
+bcdUnitsOverLimit = 0x30
 
 -- DF811B: mag-stripe mode is carried, or off (byte 1 b8)
-abbrev pub magStripeCarried : Byte
-magStripeCarried = 0x00
+abbrev pub configurationMagStripeOn : Byte
+configurationMagStripeOn = 0x00
 
-abbrev pub magStripeOff : Byte
-magStripeOff = 0x80
+abbrev pub configurationMagStripeOff : Byte
+configurationMagStripeOff = 0x80
 
 -- after a start the TVR is zero
-abbrev pub startedObjects : Byte → Byte → List TagValue
-startedObjects amount configuration = (0x95, replicate 5 0) ∷ startObjects amount configuration
+abbrev pub objectsAfterStart : Byte → Byte → List TagValue
+objectsAfterStart amount configuration =
+    (0x95, replicate 5 0) ∷ startObjectsOfUnitsAndConfiguration amount configuration
 
 -- 82 of EMV mode and of mag-stripe mode
 abbrev pub emvAip : Value
@@ -74,16 +75,16 @@ oneRecordAfl = 0x08 ∷ 0x01 ∷ 0x01 ∷ 0x00 ∷ []
 abbrev pub twoRecordAfl : AflBytes
 twoRecordAfl = 0x08 ∷ 0x01 ∷ 0x02 ∷ 0x00 ∷ []
 
-abbrev pub badAfl : AflBytes
-badAfl = 0x00 ∷ 0x01 ∷ 0x01 ∷ 0x00 ∷ []
+abbrev pub aflOfFileZero : AflBytes
+aflOfFileZero = 0x00 ∷ 0x01 ∷ 0x01 ∷ 0x00 ∷ []
 
 -- after GPO
-abbrev pub openedObjects : Value → AflBytes → Byte → List TagValue
-openedObjects aip afl amount = (0x82, aip) ∷ (0x94, afl) ∷ startedObjects amount magStripeCarried
+abbrev pub objectsAfterGpo : Value → AflBytes → Byte → List TagValue
+objectsAfterGpo aip afl amount = (0x82, aip) ∷ (0x94, afl) ∷ objectsAfterStart amount configurationMagStripeOn
 
 -- expiry date, account number and a CDOL1 of 95, as the card's record has them
-abbrev pub accountObjects : List TagValue
-accountObjects =
+abbrev pub requiredEmvRecordObjects : List TagValue
+requiredEmvRecordObjects =
     (0x5F24, 0x30 ∷ 0x12 ∷ 0x31 ∷ []) ∷ (0x5A, 0x54 ∷ 0x13 ∷ 0x33 ∷ 0x90 ∷ []) ∷ (0x8C, 0x95 ∷ 0x05 ∷ []) ∷ []
 
 -- track 2, its bitmaps and the counter's digits; the track can take them only where it has a separator D
@@ -91,13 +92,13 @@ abbrev pub trackObjects : Value → List TagValue
 trackObjects track =
     (0x9F6B, track) ∷ (0x9F65, 0x00 ∷ 0x0E ∷ []) ∷ (0x9F66, 0x0F ∷ 0xF0 ∷ []) ∷ (0x9F67, 0x04 ∷ []) ∷ []
 
-abbrev pub soundTrack : Value
-soundTrack =
+abbrev pub trackWithSeparator : Value
+trackWithSeparator =
     0x54 ∷ 0x13 ∷ 0x12 ∷ 0x34 ∷ 0x56 ∷ 0x78 ∷ 0x48 ∷ 0x00 ∷ 0xD2 ∷ 0x51 ∷ 0x21 ∷ 0x01
     ∷ 0x00 ∷ 0x00 ∷ 0x00 ∷ 0x00 ∷ 0x00 ∷ 0x00 ∷ 0x0F ∷ []
 
-abbrev pub unsoundTrack : Value
-unsoundTrack = 0x54 ∷ 0x13 ∷ []
+abbrev pub trackWithoutSeparator : Value
+trackWithoutSeparator = 0x54 ∷ 0x13 ∷ []
 
 -- ---- sessions
 
@@ -107,7 +108,7 @@ waitsOn w n b = sessionOf (Phase.Waiting w) n b
 
 -- the store after a start, with mag-stripe mode off, and the session that waits on GPO with it
 abbrev pub startedStore : StoreBytes
-startedStore = storing (startedObjects amountBelow magStripeOff)
+startedStore = storing (objectsAfterStart bcdUnitsBelowLimit configurationMagStripeOff)
 
 abbrev pub waitsOnGpo : Session
 waitsOnGpo = waitsOn AwaitedResponse.Gpo 1 startedStore
@@ -117,31 +118,32 @@ abbrev pub waitsOnRecord : List TagValue → Session
 waitsOnRecord objects = waitsOn (AwaitedResponse.Record (record { number = 1; limit = 2500 })) 2 (storing objects)
 
 -- the first of two; and the only one, by the mode and the amount
-abbrev pub waitsOnFirst : Session
-waitsOnFirst = waitsOnRecord (openedObjects emvAip twoRecordAfl amountBelow)
+abbrev pub waitsOnFirstOfTwoRecords : Session
+waitsOnFirstOfTwoRecords = waitsOnRecord (objectsAfterGpo emvAip twoRecordAfl bcdUnitsBelowLimit)
 
-abbrev pub waitsOnLast : Value → Byte → Session
-waitsOnLast aip amount = waitsOnRecord (openedObjects aip oneRecordAfl amount)
+abbrev pub waitsOnOnlyRecord : Value → Byte → Session
+waitsOnOnlyRecord aip amount = waitsOnRecord (objectsAfterGpo aip oneRecordAfl amount)
 
 -- the same within the limit, with a PDOL of 9A in the store
-abbrev pub waitsOnLastWithPdol : Value → Session
-waitsOnLastWithPdol aip = waitsOnRecord ((0x9F38, 0x9A ∷ 0x03 ∷ []) ∷ openedObjects aip oneRecordAfl amountBelow)
+abbrev pub waitsOnOnlyRecordWithPdol : Value → Session
+waitsOnOnlyRecordWithPdol aip =
+    waitsOnRecord ((0x9F38, 0x9A ∷ 0x03 ∷ []) ∷ objectsAfterGpo aip oneRecordAfl bcdUnitsBelowLimit)
 
 -- waiting on the cryptogram that was requested by a choice; the CVM is an online PIN, number 2
 abbrev pub waitsOnCryptogram : Choice → Session
 waitsOnCryptogram choice =
     waitsOn (AwaitedResponse.Cryptogram (record { choice = choice; cvm = Cvm.OnlinePin; limit = 2500 })) 3
-    (storing ((0x9F34, 0x42 ∷ 0x03 ∷ 0x00 ∷ []) ∷ accountObjects ++ openedObjects emvAip oneRecordAfl amountBelow))
+    (storing ((0x9F34, 0x42 ∷ 0x03 ∷ 0x00 ∷ []) ∷ requiredEmvRecordObjects ++ objectsAfterGpo emvAip oneRecordAfl bcdUnitsBelowLimit))
 
 -- waiting on the checksum, with a track
 abbrev pub waitsOnChecksum : Value → Session
 waitsOnChecksum track =
     waitsOn (AwaitedResponse.Checksum (record { limit = 2500 })) 3
-    (storing (trackObjects track ++ openedObjects magStripeAip oneRecordAfl amountBelow))
+    (storing (trackObjects track ++ objectsAfterGpo magStripeAip oneRecordAfl bcdUnitsBelowLimit))
 
 -- ended by the terminal
-abbrev pub hasEnded : Session
-hasEnded = sessionOf (Phase.Ended (endingOf Outcome.Ended 10)) 1 startedStore
+abbrev pub sessionStopped : Session
+sessionStopped = sessionOf (Phase.Ended (endingOf Outcome.Ended 10)) 1 startedStore
 
 -- ---- sessions out of their ranges
 
@@ -150,8 +152,8 @@ abbrev pub freshOutOfRanges : Session
 freshOutOfRanges = sessionOf Phase.Fresh 1 (storeBytes freshSession)
 
 -- waiting on GPO, and ended, with two commands and 131 counted
-abbrev pub gpoOutOfRanges : Session
-gpoOutOfRanges = waitsOn AwaitedResponse.Gpo 2 startedStore
+abbrev pub waitsOnGpoOutOfRanges : Session
+waitsOnGpoOutOfRanges = waitsOn AwaitedResponse.Gpo 2 startedStore
 
 abbrev pub endedOutOfRanges : Session
 endedOutOfRanges = sessionOf (Phase.Ended (endingOf Outcome.Ended 10)) 131 startedStore

@@ -6,7 +6,7 @@ ghost use Rattle.worked_examples.specs.Records.{RecordExamples, MagStrip
 ghost use Rattle.worked_examples.specs.Cryptogram.{CryptogramExamples};
 ghost use Rattle.worked_examples.specs.Checksum.{ChecksumExamples};
 ghost use Rattle.worked_examples.specs.Encodings.{EncodingExamples};
-ghost use Rattle.worked_examples.specs.Lists.{ListExamples};
+ghost use Rattle.worked_examples.specs.Lists.{DolExamples};
 ghost use Rattle.worked_examples.specs.Refusals.{RefusalExamples};
 ghost use Rattle.worked_examples.specs.Journal.{JournalExamples};
 ghost use Rattle.worked_examples.specs.CallLists.{CallListExamples};
@@ -19,7 +19,7 @@ pub fn examples_hold()
     ensures cryptogram { λ _. ⌜ CryptogramExamples ⌝ }
     ensures checksum { λ _. ⌜ ChecksumExamples ⌝ }
     ensures encodings { λ _. ⌜ EncodingExamples ⌝ }
-    ensures lists { λ _. ⌜ ListExamples ⌝ }
+    ensures lists { λ _. ⌜ DolExamples ⌝ }
     ensures refusals { λ _. ⌜ RefusalExamples ⌝ }
     ensures journal { λ _. ⌜ JournalExamples ⌝ }
     ensures call_lists { λ _. ⌜ CallListExamples ⌝ }

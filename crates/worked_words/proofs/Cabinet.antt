@@ -3,52 +3,52 @@ use mathlib.Core.Path.{_≡_, refl, ap, _∙_}
 use mathlib.Core.List.{List, []}
 use Prim.Native.Nat.{ℕ}
 use lib.Dec.{lit≤}
-use Rattle.basics.specs.Recursion.{recurse, recurseBy}
+use Rattle.basics.specs.Recursion.{recurseWithFuelFromLength, recurseWithFuel}
 use Rattle.basics.specs.Choice.{if, both, either, every}
-use Rattle.basics.specs.Number.{bigEndianFrom, nibbles}
-use Rattle.tlv.specs.Tag.{tagSize, tagSecondByte, tagThirdByte, tagAt, tagFirstByte, isTemplate, isPrivate}
-use Rattle.tlv.specs.Length.{lengthOneByte, lengthTwoBytes, lengthAt}
+use Rattle.basics.specs.Number.{appendBigEndianBytes, nibbles}
+use Rattle.tlv.specs.Tag.{tagSize, tagSizeFromSecondByte, tagSizeFromThirdByte, tagAt, tagFirstByte, isTemplate, isPrivate}
+use Rattle.tlv.specs.Length.{lengthAfter81, lengthAfter82, lengthAt}
 use Rattle.tlv.specs.Object.{headerOf}
-use Rattle.tlv.specs.Primitives.{objectBefore, primitiveOf, primitiveObjects}
+use Rattle.tlv.specs.Primitives.{prependObject, primitiveAtFront, primitiveObjects}
 use Rattle.tlv.specs.Encoding.{tagBytes, lengthBytes}
-use Rattle.dictionary.specs.Rows.{dictionaryRows, rowPast, findRow}
-use Rattle.dictionary.specs.Named.{rowNumberOf}
-use Rattle.dictionary.specs.Form.{numeric, digitsThenFs, compressed, digitsFit, fitsRow}
+use Rattle.dictionary.specs.Rows.{dictionaryRows, rowFoundShifted, findRow}
+use Rattle.dictionary.specs.Named.{rowNumberOfTagOrZero}
+use Rattle.dictionary.specs.Form.{isNumeric, isDigitsThenFs, isCompressedNumeric, digitsMatchForm, lengthAndDigitsFitRow}
 use Rattle.dictionary.specs.TerminalType.{listedTerminalType}
-use Rattle.store.specs.Place.{rowOffset, rowPlace, placeValue, rowValue, putRow, objectValueIn}
-use Rattle.dol.specs.Entries.{entryWithLength, dolEntryAt, entryBefore, entriesNext, dolEntries}
-use Rattle.dol.specs.Filling.{truncated, paddingByte, padded, fittedTo, dolEntryBytes, dolData, dolDataBy}
-use Rattle.command.specs.WithList.{gpoCommandOf, getProcessingOptions, carriedIn, generateAc, udolOrDefault, computeCryptographicChecksum}
-use Rattle.session_record.specs.Numbers.{outcomeOfReason}
-use Rattle.session_record.specs.Ranges.{isPresentIfRequired, allRequiredPresent, cryptogramDataPresent, trackDataPresent}
-use Rattle.start_data.specs.StartData.{terminalTypeListed, settableByStart, setObject, setObjects, loadStart}
-use Rattle.session.specs.Steps.{Step, stepOf, withTvr, withFindings}
-use Rattle.session.specs.Start.{askGpo, startCall}
-use Rattle.analysis.specs.Value.{firstBytes}
-use Rattle.analysis.specs.Digits.{bcdFrom, amountOf}
+use Rattle.store.specs.Place.{rowOffset, rowPlaceBytes, valueInPlace, rowValue, putRow, objectValueIn}
+use Rattle.dol.specs.Entries.{dolEntryWithLength, dolEntryAt, prependDolEntry, dolEntriesStep, dolEntries}
+use Rattle.dol.specs.Filling.{truncatedToLength, paddingByte, paddedToLength, fittedToLength, dolEntryBytes, dolData, dolDataIfParsed}
+use Rattle.command.specs.WithList.{gpoCommandOfFilled, getProcessingOptions, commandIfDataIs1To255Bytes, generateAc, udolOrDefault, computeCryptographicChecksum}
+use Rattle.session_record.specs.Numbers.{outcomeOfNonzeroReason}
+use Rattle.session_record.specs.Ranges.{isPresentIfRequiredAtStart, allRequiredAtStartPresent, expiryPanAndCdol1NonEmpty, track2AndBitmapsNonEmpty}
+use Rattle.start_data.specs.StartData.{isListedIfTerminalType, startMaySetObjectInRow, setStartObject, setStartObjects, loadStartBytes}
+use Rattle.session.specs.Steps.{Step, stepOfEffect, storeWithTvr, storeWithFindings}
+use Rattle.session.specs.Start.{requestGpo, startEffect}
+use Rattle.analysis.specs.Value.{firstBytesZeroPadded}
+use Rattle.analysis.specs.Digits.{appendDecimalDigits, amountOf}
 use Rattle.session_record.specs.Session.{freshSession, storeBytes}
 use Rattle.session_record.proofs.Phases.{fresh-keeps}
 use Rattle.layout.specs.Word.{commandWord}
 use Rattle.session.proofs.Laws.{admitted-in}
-use Rattle.worked_examples.specs.Calls.{fullBuffer}
-use Rattle.cabinet.specs.State.{cabinetHeldIn}
-use Rattle.cabinet.specs.Calls.{cabinetAdmitted, sessionToStart, reservesAmount, startAccepted, cabinetOpenWord}
-use Rattle.worked_words.specs.Cabinet.{startWord, CabinetWords}
+use Rattle.worked_examples.specs.Calls.{bufferOf261}
+use Rattle.cabinet.specs.State.{decodedCabinetIfValid}
+use Rattle.cabinet.specs.Calls.{admitCabinetCall, sessionForNewStart, cabinetStartIfAmountRemains, cabinetStartByResult, cabinetOpenWord}
+use Rattle.worked_words.specs.Cabinet.{startWordOnFreshCabinet, CabinetWordExamples}
 
 -- the word of a start by its step
 abbrev wordBy : ℕ → Step → ℕ
-wordBy left st = startAccepted (st .reply .answer) st left [] fullBuffer .word
+wordBy left st = cabinetStartByResult (st .reply .answer) st left [] bufferOf261 .word
 
-word-of : (bytes : List ℕ) (left : ℕ) {w : ℕ} → wordBy left (stepOf freshSession fullBuffer (startCall (freshSession .phase) (storeBytes freshSession) bytes)) ≡ w → startWord bytes left ≡ w
-unfolding startWord sessionToStart if
-word-of bytes left e = ap (wordBy left) (admitted-in freshSession fullBuffer _ (lit≤ tt) fresh-keeps) ∙ e
+word-of : (bytes : List ℕ) (left : ℕ) {w : ℕ} → wordBy left (stepOfEffect freshSession bufferOf261 (startEffect (freshSession .phase) (storeBytes freshSession) bytes)) ≡ w → startWordOnFreshCabinet bytes left ≡ w
+unfolding startWordOnFreshCabinet sessionForNewStart if
+word-of bytes left e = ap (wordBy left) (admitted-in freshSession bufferOf261 _ (lit≤ tt) fresh-keeps) ∙ e
 
-pub words : CabinetWords
-unfolding recurse recurseBy if both either every bigEndianFrom nibbles tagSize tagSecondByte tagThirdByte tagAt tagFirstByte isTemplate isPrivate lengthOneByte lengthTwoBytes lengthAt headerOf
-    objectBefore primitiveOf primitiveObjects tagBytes lengthBytes dictionaryRows rowPast findRow rowNumberOf numeric digitsThenFs compressed digitsFit fitsRow listedTerminalType rowOffset rowPlace
-    placeValue rowValue putRow objectValueIn entryWithLength dolEntryAt entryBefore entriesNext dolEntries truncated paddingByte padded fittedTo dolEntryBytes dolData dolDataBy gpoCommandOf
-    getProcessingOptions carriedIn generateAc udolOrDefault computeCryptographicChecksum outcomeOfReason isPresentIfRequired allRequiredPresent cryptogramDataPresent trackDataPresent
-    terminalTypeListed settableByStart setObject setObjects loadStart withTvr withFindings askGpo firstBytes bcdFrom amountOf commandWord cabinetHeldIn cabinetAdmitted reservesAmount cabinetOpenWord
+pub words : CabinetWordExamples
+unfolding recurseWithFuelFromLength recurseWithFuel if both either every appendBigEndianBytes nibbles tagSize tagSizeFromSecondByte tagSizeFromThirdByte tagAt tagFirstByte isTemplate isPrivate lengthAfter81 lengthAfter82 lengthAt headerOf
+    prependObject primitiveAtFront primitiveObjects tagBytes lengthBytes dictionaryRows rowFoundShifted findRow rowNumberOfTagOrZero isNumeric isDigitsThenFs isCompressedNumeric digitsMatchForm lengthAndDigitsFitRow listedTerminalType rowOffset rowPlaceBytes
+    valueInPlace rowValue putRow objectValueIn dolEntryWithLength dolEntryAt prependDolEntry dolEntriesStep dolEntries truncatedToLength paddingByte paddedToLength fittedToLength dolEntryBytes dolData dolDataIfParsed gpoCommandOfFilled
+    getProcessingOptions commandIfDataIs1To255Bytes generateAc udolOrDefault computeCryptographicChecksum outcomeOfNonzeroReason isPresentIfRequiredAtStart allRequiredAtStartPresent expiryPanAndCdol1NonEmpty track2AndBitmapsNonEmpty
+    isListedIfTerminalType startMaySetObjectInRow setStartObject setStartObjects loadStartBytes storeWithTvr storeWithFindings requestGpo firstBytesZeroPadded appendDecimalDigits amountOf commandWord decodedCabinetIfValid admitCabinetCall cabinetStartIfAmountRemains cabinetOpenWord
 words = record {
   opened = refl;
   left-none = refl;

@@ -10,43 +10,43 @@ use Rattle.basics.specs.Types.{Bytes, StoreBytes, Response, ResultWord}
 use Rattle.session_record.specs.declared.Outcome.{Outcome}
 use Rattle.session_record.specs.declared.Session.{Session}
 use Rattle.session_record.specs.Session.{freshSession}
-use Rattle.layout.specs.Layout.{recordSize, encodedSession, decodedSession}
+use Rattle.layout.specs.Layout.{sessionRecordSize, encodedSession, decodedSession}
 use Rattle.layout.specs.Word.{resultWord}
 use Rattle.find.specs.Find.{findTag}
 use Rattle.find.specs.Word.{findWord}
 use Rattle.explain.specs.declared.Stage.{Stage}
-use Rattle.explain.specs.declared.Holder.{Holder}
+use Rattle.explain.specs.declared.ActionCodeHolder.{ActionCodeHolder}
 use Rattle.explain.specs.declared.Explanation.{Explanation}
 use Rattle.explain.specs.Word as explain
-use Rattle.host.specs.Hosted.{hostOpenWord, hostStart, hostAnswer, countWord}
-use Rattle.host.specs.Object.{objectCopiedFrom, objectOfSession}
-use Rattle.host.specs.Explain.{explainWord}
+use Rattle.host.specs.Hosted.{hostOpenWord, hostStart, hostAnswer, commandCountOrAllOnes}
+use Rattle.host.specs.Object.{objectCopiedFromStore, objectCopiedFromSession}
+use Rattle.host.specs.Explain.{explanationWordOrRefusal}
 use Rattle.host.specs.Version.{versionWord}
-use Rattle.worked_examples.specs.Sessions.{emvAip, oneRecordAfl, badAfl, waitsOnGpo}
-use Rattle.worked_examples.specs.Calls.{fullBuffer, shortBuffer, commandResult, outcomeResult, refusalResult}
+use Rattle.worked_examples.specs.Sessions.{emvAip, oneRecordAfl, aflOfFileZero, waitsOnGpo}
+use Rattle.worked_examples.specs.Calls.{bufferOf261, bufferOf260, commandResult, outcomeResult, refusalResult}
 use Rattle.worked_examples.specs.Calls.{with9000, with6A82}
-use Rattle.worked_examples.specs.Gpo.{gpoTemplate}
+use Rattle.worked_examples.specs.Gpo.{gpoBodyIn77}
 
 -- a session's record with a byte after it
-abbrev pub sessionInBytes : Session → Bytes
-sessionInBytes s = encodedSession s ++ (0xEE ∷ [])
+abbrev pub encodedSessionWithTrailingByte : Session → Bytes
+encodedSessionWithTrailingByte s = encodedSession s ++ (0xEE ∷ [])
 
 -- the word of an answer on a session in bytes
-unfoldable pub answerWord : Session → Response → ResultWord
-answerWord s card = hostAnswer card (sessionInBytes s) fullBuffer .word
+unfoldable pub hostAnswerWord : Session → Response → ResultWord
+hostAnswerWord s card = hostAnswer card (encodedSessionWithTrailingByte s) bufferOf261 .word
 
 -- a store whose first place, that of 50, holds two bytes; and one where it is present and empty
-abbrev pub storeOfTwo : StoreBytes
-storeOfTwo = 3 ∷ 0xA1 ∷ 0xA2 ∷ []
+abbrev pub storeWithTwoBytesOf50 : StoreBytes
+storeWithTwoBytesOf50 = 3 ∷ 0xA1 ∷ 0xA2 ∷ []
 
-abbrev pub storeOfNone : StoreBytes
-storeOfNone = 1 ∷ []
+abbrev pub storeWithEmpty50 : StoreBytes
+storeWithEmpty50 = 1 ∷ []
 
 -- 5A in a 70
-abbrev pub accountRecord : Bytes
-accountRecord = 0x70 ∷ 0x04 ∷ 0x5A ∷ 0x02 ∷ 0x54 ∷ 0x13 ∷ []
+abbrev pub panRecord : Bytes
+panRecord = 0x70 ∷ 0x04 ∷ 0x5A ∷ 0x02 ∷ 0x54 ∷ 0x13 ∷ []
 
-pub record HostWords : Type 0 where
+pub record HostWordExamples : Type 0 where
   -- what a call returns: commands; each outcome; each refusal
   pub commands : map resultWord (commandResult 5 ∷ commandResult 261 ∷ []) ≡ 5 ∷ 261 ∷ []
   pub outcomes :
@@ -57,30 +57,30 @@ pub record HostWords : Type 0 where
   pub refusals : map (λ n. resultWord (refusalResult n)) (20 ∷ 21 ∷ 22 ∷ 23 ∷ 24 ∷ 25 ∷ [])
       ≡ 0x20014 ∷ 0x20015 ∷ 0x20016 ∷ 0x20017 ∷ 0x20018 ∷ 0x20019 ∷ []
   -- opening one byte less than a record, and as many as a record
-  pub opened : hostOpenWord (replicate (recordSize - 1) 0) ∷ hostOpenWord (replicate recordSize 0) ∷ []
+  pub opened : hostOpenWord (replicate (sessionRecordSize - 1) 0) ∷ hostOpenWord (replicate sessionRecordSize 0) ∷ []
       ≡ 0x20019 ∷ 0 ∷ []
   -- a call on bytes: too short a buffer before bytes that hold no record, for a start and an answer
-  pub start-buffer-record : hostStart [] [] shortBuffer .word ≡ 0x20016
-  pub start-record : hostStart [] [] fullBuffer .word ≡ 0x20019
-  pub answer-buffer-record : hostAnswer [] [] shortBuffer .word ≡ 0x20016
-  pub answer-record : hostAnswer [] [] fullBuffer .word ≡ 0x20019
+  pub start-buffer-record : hostStart [] [] bufferOf260 .word ≡ 0x20016
+  pub start-record : hostStart [] [] bufferOf261 .word ≡ 0x20019
+  pub answer-buffer-record : hostAnswer [] [] bufferOf260 .word ≡ 0x20016
+  pub answer-record : hostAnswer [] [] bufferOf261 .word ≡ 0x20019
   -- a record command, reason 5, reason 1, and a refusal of the session
-  pub answer-command : answerWord waitsOnGpo (with9000 (gpoTemplate emvAip oneRecordAfl)) ≡ 5
-  pub answer-afl : answerWord waitsOnGpo (with9000 (gpoTemplate emvAip badAfl)) ≡ 0x0F010305
-  pub answer-status : answerWord waitsOnGpo (with6A82 (gpoTemplate emvAip oneRecordAfl)) ≡ 0x0F010301
-  pub answer-phase : answerWord freshSession (0x6A ∷ 0x82 ∷ []) ≡ 0x20015
+  pub answer-command : hostAnswerWord waitsOnGpo (with9000 (gpoBodyIn77 emvAip oneRecordAfl)) ≡ 5
+  pub answer-afl : hostAnswerWord waitsOnGpo (with9000 (gpoBodyIn77 emvAip aflOfFileZero)) ≡ 0x0F010305
+  pub answer-status : hostAnswerWord waitsOnGpo (with6A82 (gpoBodyIn77 emvAip oneRecordAfl)) ≡ 0x0F010301
+  pub answer-phase : hostAnswerWord freshSession (0x6A ∷ 0x82 ∷ []) ≡ 0x20015
   -- no bytes; a session that has handed out one command
-  pub count-none : countWord (decodedSession []) ≡ 0xFFFFFFFF
-  pub count-one : countWord (decodedSession (sessionInBytes waitsOnGpo)) ≡ 1
+  pub count-none : commandCountOrAllOnes (decodedSession []) ≡ 0xFFFFFFFF
+  pub count-one : commandCountOrAllOnes (decodedSession (encodedSessionWithTrailingByte waitsOnGpo)) ≡ 1
   -- an object: no record; a tag that the dictionary does not have; absent; too little room; two bytes; there and empty
-  pub object-refused : objectOfSession (decodedSession []) 0x50 [] .word ≡ 0x20019
-  pub object-unknown : objectCopiedFrom storeOfTwo 0x5F60 [] .word ≡ 0x40000
-  pub object-absent : objectCopiedFrom storeOfTwo 0x57 [] .word ≡ 0x30000
-  pub object-needed : objectCopiedFrom storeOfTwo 0x50 (0xEE ∷ []) .word ≡ 0x50002
-  pub object-value : objectCopiedFrom storeOfTwo 0x50 (0xEE ∷ 0xEE ∷ []) .word ≡ 2
-  pub object-empty : objectCopiedFrom storeOfNone 0x50 [] .word ≡ 0
+  pub object-refused : objectCopiedFromSession (decodedSession []) 0x50 [] .word ≡ 0x20019
+  pub object-unknown : objectCopiedFromStore storeWithTwoBytesOf50 0x5F60 [] .word ≡ 0x40000
+  pub object-absent : objectCopiedFromStore storeWithTwoBytesOf50 0x57 [] .word ≡ 0x30000
+  pub object-needed : objectCopiedFromStore storeWithTwoBytesOf50 0x50 (0xEE ∷ []) .word ≡ 0x50002
+  pub object-value : objectCopiedFromStore storeWithTwoBytesOf50 0x50 (0xEE ∷ 0xEE ∷ []) .word ≡ 2
+  pub object-empty : objectCopiedFromStore storeWithEmpty50 0x50 [] .word ≡ 0
   -- an explanation: no record; each case; each stage and holder
-  pub explain-none : explainWord (decodedSession []) ≡ 0x20019
+  pub explain-none : explanationWordOrRefusal (decodedSession []) ≡ 0x20019
   pub explain-cases :
       map explain.explanationWord
       (Explanation.Refused ∷ Explanation.Reason 6 ∷ Explanation.NoChoice ∷ Explanation.LowerCryptogram ∷ [])
@@ -91,11 +91,11 @@ pub record HostWords : Type 0 where
       ≡ 0x600FF ∷ 0x610FF ∷ 0x620FF ∷ 0x630FF ∷ []
   pub explain-forced :
       map (λ h. explain.explanationWord (Explanation.Forced (record { stage = Stage.Online; bit = 9; holder = h })))
-      (Holder.Card ∷ Holder.Terminal ∷ Holder.Both ∷ [])
+      (ActionCodeHolder.Card ∷ ActionCodeHolder.Terminal ∷ ActionCodeHolder.Both ∷ [])
       ≡ 0x63109 ∷ 0x63209 ∷ 0x63309 ∷ []
   -- a search: the place and the length, a tag that is not present, bytes that are truncated
   pub found :
-      map findWord (findTag 0x5A accountRecord ∷ findTag 0x57 accountRecord ∷ findTag 0x5A (0x70 ∷ 0x04 ∷ []) ∷ [])
+      map findWord (findTag 0x5A panRecord ∷ findTag 0x57 panRecord ∷ findTag 0x5A (0x70 ∷ 0x04 ∷ []) ∷ [])
       ≡ 0x0000000400000002 ∷ 0xFFFFFFFFFFFFFFFF ∷ 0xFFFFFFFFFFFFFFFE ∷ []
   -- 0.1.0, and version 5 of the layout
   pub version : versionWord ≡ 0x00010005

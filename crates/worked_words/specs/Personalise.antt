@@ -20,23 +20,23 @@ twoRecordEntry = 0x08 ∷ 0x01 ∷ 0x02 ∷ 0x00 ∷ []
 abbrev pub badSecondEntry : AflBytes
 badSecondEntry = 0x08 ∷ 0x01 ∷ 0x02 ∷ 0x00 ∷ 0x10 ∷ 0x00 ∷ 0x01 ∷ 0x00 ∷ []
 
-abbrev pub placedInFirst : Bytes
-placedInFirst = 0x01 ∷ 0x01 ∷ 0x01 ∷ 0x02 ∷ []
+abbrev pub bothPlacedInRecord1 : Bytes
+bothPlacedInRecord1 = 0x01 ∷ 0x01 ∷ 0x01 ∷ 0x02 ∷ []
 
-abbrev pub placedInThird : Bytes
-placedInThird = 0x01 ∷ 0x01 ∷ 0x03 ∷ 0x02 ∷ []
+abbrev pub secondPlacedInRecord3 : Bytes
+secondPlacedInRecord3 = 0x01 ∷ 0x01 ∷ 0x03 ∷ 0x02 ∷ []
 
 -- the word of objects, entries and placements with buffers of so many bytes
 abbrev pub personaliseExampleWord : Bytes → AflBytes → Bytes → Length → Length → ℕ
 personaliseExampleWord objects entries placements records afl =
     personaliseWord (personaliseResult (cardPlan objects entries placements) (replicate records 0) (replicate afl 0))
 
-pub record PersonaliseWords : Type 0 where
+pub record PersonaliseWordExamples : Type 0 where
   -- 13 bytes of records and 4 of AFL
-  pub written : personaliseExampleWord twoObjects twoRecordEntry placedInFirst 32768 248 ≡ 0x000000040000000D
+  pub written : personaliseExampleWord twoObjects twoRecordEntry bothPlacedInRecord1 32768 248 ≡ 0x000000040000000D
   -- each refusal, with those after it given too
-  pub short-records : personaliseExampleWord (0x95 ∷ []) badSecondEntry placedInThird 32767 247 ≡ 0x0001000000000000
-  pub short-afl : personaliseExampleWord (0x95 ∷ []) badSecondEntry placedInThird 32768 247 ≡ 0x0002000000000000
-  pub bad-list : personaliseExampleWord (0x95 ∷ []) badSecondEntry placedInThird 32768 248 ≡ 0x0003000000000000
-  pub bad-entry : personaliseExampleWord twoObjects badSecondEntry placedInThird 32768 248 ≡ 0x0004000000000002
-  pub bad-record : personaliseExampleWord twoObjects twoRecordEntry placedInThird 32768 248 ≡ 0x0005000000000003
+  pub short-records : personaliseExampleWord (0x95 ∷ []) badSecondEntry secondPlacedInRecord3 32767 247 ≡ 0x0001000000000000
+  pub short-afl : personaliseExampleWord (0x95 ∷ []) badSecondEntry secondPlacedInRecord3 32768 247 ≡ 0x0002000000000000
+  pub bad-list : personaliseExampleWord (0x95 ∷ []) badSecondEntry secondPlacedInRecord3 32768 248 ≡ 0x0003000000000000
+  pub bad-entry : personaliseExampleWord twoObjects badSecondEntry secondPlacedInRecord3 32768 248 ≡ 0x0004000000000002
+  pub bad-record : personaliseExampleWord twoObjects twoRecordEntry secondPlacedInRecord3 32768 248 ≡ 0x0005000000000003

@@ -5,13 +5,13 @@ use borrow.Author.Needs.{needs}
 use mathlib.Core.Path.{_≡_, refl, sym, _∙_}
 use native.Mathlib.Omega.{arith}
 use lib.ListN.{length}
-use Rattle.afl.specs.Records.{aflRecords, nthRecord}
+use Rattle.afl.specs.Records.{aflRecords, recordAtIndex}
 use Rattle.afl.proofs.Walk.{tail-less, seek-here, seek-past, seek-end}
 use Rattle.afl.proofs.seek.Statement.{statement}
 use Rattle.afl.proofs.seek.Tie as tie
 
 abbrev Inv-loop : tie.InvT-loop
-Inv-loop afl place rest₀ left₀ rest left = nthRecord left₀ (aflRecords rest₀) ≡ nthRecord left (aflRecords rest)
+Inv-loop afl place rest₀ left₀ rest left = recordAtIndex left₀ (aflRecords rest₀) ≡ recordAtIndex left (aflRecords rest)
 
 abbrev μ-loop : tie.MeasureT-loop
 μ-loop afl place rest₀ left₀ rest left = length rest

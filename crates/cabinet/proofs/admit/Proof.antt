@@ -6,16 +6,16 @@ use mathlib.Core.Path.{sym, ap, _∙_}
 use Prim.Native.Nat.{ℕ}
 use Rattle.basics.proofs.Laws.{if-yes, if-no}
 use Rattle.cabinet.specs.declared.CabinetAdmission.{CabinetAdmission}
-use Rattle.cabinet.specs.Inner.{cabinetAdmission}
+use Rattle.cabinet.specs.Inner.{admissionByStateAndBufferSize}
 use Rattle.cabinet.proofs.admit.Statement.{statement}
 use Rattle.cabinet.proofs.admit.Tie as tie
 
 returns : tie.Need-returns
-unfolding cabinetAdmission
+unfolding admissionByStateAndBufferSize
 returns c = ap (λ (w : ℕ). CabinetAdmission.Refused w) (c .refusal-word .ensures) ∙ sym (if-yes _ _ (lt-ltb _ _ (c .before .if1 .taken)))
 
 returns-2 : tie.Need-returns-2
-unfolding cabinetAdmission
+unfolding admissionByStateAndBufferSize
 returns-2 c = c .holding-in .ensures ∙ sym (if-no _ _ (le-ltb _ _ (c .before .if1 .left)))
 
 pub admit-spec : {M : Type 1} → statement M

@@ -5,7 +5,7 @@ use borrow.Author.Tests.{not-true, not-false}
 use mathlib.Core.Path.{sym, ap, _∙_}
 use native.Mathlib.Omega.{arith}
 use Rattle.basics.proofs.Laws.{if-yes, if-no}
-use Rattle.cabinet.specs.Calls.{remainingWord}
+use Rattle.cabinet.specs.Calls.{remainingAmountOrAllOnes}
 use Rattle.cabinet.proofs.Laws.{Told, state-refused, state-taken}
 use Rattle.cabinet.proofs.cabinet_left.Statement.{statement}
 use Rattle.cabinet.proofs.cabinet_left.Tie as tie
@@ -15,16 +15,16 @@ told : (c : tie.After-known-told) → Told (c .before .before .before .before .b
 told c = state-taken _ _ (sym (c .before .before .before .holding-in .ensures) ∙ c .before .admission .given .1)
 
 returns : tie.Need-returns
-returns c = sym (ap remainingWord (state-refused _ _ (sym (c .before .before .holding-in .ensures) ∙ c .enum-told .given .1) .held))
+returns c = sym (ap remainingAmountOrAllOnes (state-refused _ _ (sym (c .before .before .holding-in .ensures) ∙ c .enum-told .given .1) .held))
 
-part-keeps-end : tie.Need-part-parts-in-ranges-end
+part-keeps-end : tie.Need-part-session-parts-in-ranges-end
 part-keeps-end c = let k = told c in omega (arith, k .enough)
 
 returns-2 : tie.Need-returns-2
-returns-2 c = sym (ap remainingWord (told (c .before .before .before) .held ∙ if-no _ _ (sym (c .before .parts-in-ranges .ensures) ∙ not-true _ (c .if1 .taken))))
+returns-2 c = sym (ap remainingAmountOrAllOnes (told (c .before .before .before) .held ∙ if-no _ _ (sym (c .before .session-parts-in-ranges .ensures) ∙ not-true _ (c .if1 .taken))))
 
 returns-3 : tie.Need-returns-3
-returns-3 c = sym (ap remainingWord (told (c .before .before .before) .held ∙ if-yes _ _ (sym (c .before .parts-in-ranges .ensures) ∙ not-false _ (c .if1 .left))))
+returns-3 c = sym (ap remainingAmountOrAllOnes (told (c .before .before .before) .held ∙ if-yes _ _ (sym (c .before .session-parts-in-ranges .ensures) ∙ not-false _ (c .if1 .left))))
 
 pub cabinet-left-spec : {M : Type 1} → statement M
 cabinet-left-spec =

@@ -10,10 +10,10 @@ use Rattle.basics.proofs.Laws.{if-yes, if-no}
 use Rattle.session_record.specs.declared.Phase.{Phase}
 use Rattle.session_record.specs.Session.{sessionOf, freshSession}
 use Rattle.session_record.proofs.Phases.{store-size, fresh-keeps}
-use Rattle.layout.specs.Layout.{withSessionRecord}
+use Rattle.layout.specs.Layout.{sessionWrittenOverFrontIfRoom}
 use Rattle.cabinet.specs.declared.Amounts.{Amounts}
 use Rattle.cabinet.specs.Calls.{cabinetOpenWord, cabinetOpenState}
-use Rattle.cabinet.specs.Inner.{withAmounts}
+use Rattle.cabinet.specs.Inner.{stateWithAmounts}
 use Rattle.cabinet.proofs.State.{amounts-behind}
 use Rattle.cabinet.proofs.cabinet_open.Statement.{statement}
 use Rattle.cabinet.proofs.cabinet_open.Tie as tie
@@ -42,7 +42,7 @@ returns-3 c =
       word = sym (if-no _ _ e ∙ if-no _ _ t);
       state =
           c .before .before .put-amounts .ensures
-          ∙ ap (withAmounts amounts) (c .before .before .before .before .before .before .encode-record .ensures .bytes ∙ ap (λ (b : List ℕ). withSessionRecord (sessionOf Phase.Fresh 0 b) l) (c .before .before .before .before .before .before .before .before .before .before .empty .ensures))
+          ∙ ap (stateWithAmounts amounts) (c .before .before .before .before .before .before .encode-record .ensures .bytes ∙ ap (λ (b : List ℕ). sessionWrittenOverFrontIfRoom (sessionOf Phase.Fresh 0 b) l) (c .before .before .before .before .before .before .before .before .before .before .empty .ensures))
           ∙ amounts-behind freshSession (store-size freshSession fresh-keeps) l amounts h
           ∙ sym (if-no _ _ e ∙ if-no _ _ t);
     }

@@ -3,7 +3,7 @@
 use borrow.Author.Needs.{needs}
 use mathlib.Core.Path.{sym, subst}
 use native.Mathlib.Omega.{arith}
-use Rattle.cabinet.specs.Calls.{DidCabinetCall, startOnCabinet}
+use Rattle.cabinet.specs.Calls.{ReturnsCabinetResult, startOnCabinet}
 use Rattle.cabinet.proofs.Laws.{over-refused, over-taken, over-ranged}
 use Rattle.cabinet.proofs.cabinet_start.Statement.{statement}
 use Rattle.cabinet.proofs.cabinet_start.Tie as tie
@@ -23,7 +23,7 @@ returns-2 : tie.Need-returns-2
 returns-2 c =
     let a = c .before .before .before .before .before .before .before .before .before .before .before .before .before .before .before .args in
     let k = over-taken (a .state .now) (a .command .now) _ (c .before .before .before .before .before .before .before .before .before .before .admit .ensures) (c .before .before .before .before .before .before .before .before .admission2 .given .1) in
-    subst (DidCabinetCall _ _ _) (sym (over-ranged (a .state .now) (a .command .now) (startOnCabinet (a .terminal .now) (a .state .now) (a .command .now)) _ k)) (c .before .before .before .before .start-held .ensures)
+    subst (ReturnsCabinetResult _ _ _) (sym (over-ranged (a .state .now) (a .command .now) (startOnCabinet (a .terminal .now) (a .state .now) (a .command .now)) _ k)) (c .before .before .before .before .start-held .ensures)
 
 pub cabinet-start-spec : {M : Type 1} → statement M
 cabinet-start-spec =

@@ -5,7 +5,7 @@ use mathlib.Core.Path.{ap₂, _∙_}
 use mathlib.Core.List.{List}
 use Prim.Native.Nat.{ℕ}
 use Rattle.cabinet.specs.declared.Amounts.{Amounts}
-use Rattle.cabinet.specs.Inner.{withAmounts}
+use Rattle.cabinet.specs.Inner.{stateWithAmounts}
 use Rattle.cabinet.proofs.Laws.{not-refused, finished-taken}
 use Rattle.cabinet.proofs.finish.Statement.{statement}
 use Rattle.cabinet.proofs.finish.Tie as tie
@@ -15,7 +15,7 @@ returns-2 c =
     let a = c .before .before .before .before .before .before .before .before .before .before .before .before .args in (
       c .result-word2 .ensures,
       c .before .before .before .put-amounts .ensures
-          ∙ ap₂ (λ (x : Amounts) (y : List ℕ). withAmounts x y) (c .before .before .before .before .before .settled .ensures) (c .before .before .before .before .before .before .before .before .put-head .ensures)
+          ∙ ap₂ (λ (x : Amounts) (y : List ℕ). stateWithAmounts x y) (c .before .before .before .before .before .settled .ensures) (c .before .before .before .before .before .before .before .before .write-record-head .ensures)
           ∙ finished-taken (a .transition .answer) (a .transition) (a .amounts) (a .state .now) (not-refused (a .transition .answer) (c .before .before .before .before .before .before .before .before .before .before .match .keys2)),
     )
 

@@ -7,7 +7,7 @@ use native.Mathlib.Omega.{arith}
 use lib.ListN.{length}
 use lib.Seq.{length-take-le}
 use Rattle.session_record.specs.declared.CallResult.{CallResult}
-use Rattle.cabinet.specs.Inner.{commandSizeIn, commandHandedOver}
+use Rattle.cabinet.specs.Inner.{commandSizeOrZero, commandCopiedToBuffer}
 use Rattle.cabinet.proofs.Laws.{handed-command, handed-nothing}
 use Rattle.cabinet.proofs.hand_over.Statement.{statement}
 use Rattle.cabinet.proofs.hand_over.Tie as tie
@@ -18,7 +18,7 @@ sized : (c : tie.After-known-told) → let a = c .before .before .before .before
 sized c =
     let s = c .before .before .before .before .before in
     let e = c .before .answer .given .1 in
-    (subst (λ (x : CallResult). commandSizeIn x ≤ length (s .args .first .now)) e (s .pre .0), subst (λ (x : CallResult). commandSizeIn x ≤ length (s .args .command .now)) e (s .pre .1))
+    (subst (λ (x : CallResult). commandSizeOrZero x ≤ length (s .args .first .now)) e (s .pre .0), subst (λ (x : CallResult). commandSizeOrZero x ≤ length (s .args .command .now)) e (s .pre .1))
 
 returns : tie.Need-returns
 returns c = let a = c .before .before .before .args in handed-nothing (a .answer) (a .first .now) (a .command .now) (c .match .keys2)
@@ -37,7 +37,7 @@ returns-2 c =
     let k = c .before .before .before .before .before in
     let a = k .before .before .before .before .before .args in
     handed-command (k .before .answer .given .0 .0) (a .first .now) (a .command .now) _ (sized k .0) (c .before .before .copy .ensures .1)
-    ∙ sym (ap (λ (x : CallResult). commandHandedOver x (a .first .now) (a .command .now)) (k .before .answer .given .1))
+    ∙ sym (ap (λ (x : CallResult). commandCopiedToBuffer x (a .first .now) (a .command .now)) (k .before .answer .given .1))
 
 pub hand-over-spec : {M : Type 1} → statement M
 hand-over-spec =

@@ -10,7 +10,7 @@ use Rattle.session_record.specs.Session.{sessionOf}
 use Rattle.layout.specs.Layout.{decodedSession}
 use Rattle.layout.proofs.Laws.{held-none}
 use Rattle.cabinet.specs.declared.CabinetAdmission.{CabinetAdmission}
-use Rattle.cabinet.specs.State.{mostAmount, remainingIn, reservedIn}
+use Rattle.cabinet.specs.State.{greatestTwelveDigitAmount, remainingInCabinetState, reservedInCabinetState}
 use Rattle.cabinet.proofs.Laws.{storeIn, head-session, holding-short, holding-none, holding-undue, holding-over, holding-fits}
 use Rattle.cabinet.proofs.holding_in.Statement.{statement}
 use Rattle.cabinet.proofs.holding_in.Tie as tie
@@ -22,18 +22,18 @@ returns-2 : tie.Need-returns-2
 returns-2 c =
     let d = c .before .before in
     ap (λ (w : ℕ). CabinetAdmission.Refused w) (d .before .before .refusal-word .ensures)
-    ∙ sym (holding-none _ (d .before .if1 .left) (held-none _ (sym (d .head-in .ensures) ∙ c .enum-told .given .1)))
+    ∙ sym (holding-none _ (d .before .if1 .left) (held-none _ (sym (d .decode-record-head .ensures) ∙ c .enum-told .given .1)))
 
 -- the session of the head
 session : (c : tie.After-known-told) → let l = c .before .before .before .before .before .before .before .args .state .now in let h = c .before .held .given .0 .0 in
     decodedSession l ≡ some (sessionOf (h .phase) (h .count) (storeIn l))
-session c = head-session _ _ (sym (c .before .before .before .head-in .ensures) ∙ c .before .held .given .1)
+session c = head-session _ _ (sym (c .before .before .before .decode-record-head .ensures) ∙ c .before .held .given .1)
 
 -- the test of the sum is that of the bytes
 summed : (c : tie.After-is-within) → let l = c .before .before .before .before .before .before .before .before .before .before .before .before .before .before .before .args .state .now in
-    leb (remainingIn l + reservedIn l) mostAmount ≡ c .is-within .result
+    leb (remainingInCabinetState l + reservedInCabinetState l) greatestTwelveDigitAmount ≡ c .is-within .result
 summed c =
-    sym (c .is-within .ensures ∙ ap₂ (λ (n a : ℕ). leb (n + a) mostAmount) (c .before .before .before .before .before .before .eight .ensures) (c .before .before .before .before .eight2 .ensures))
+    sym (c .is-within .ensures ∙ ap₂ (λ (n a : ℕ). leb (n + a) greatestTwelveDigitAmount) (c .before .before .before .before .before .before .eight .ensures) (c .before .before .before .before .eight2 .ensures))
 
 returns-3 : tie.Need-returns-3
 returns-3 c =

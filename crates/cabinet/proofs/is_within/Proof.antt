@@ -7,19 +7,19 @@ use Prim.Native.Nat.{_+_, _-_}
 use native.Mathlib.Omega.{arith}
 use lib.Dec.{leb}
 use Rattle.basics.proofs.Laws.{bool-cases}
-use Rattle.cabinet.specs.State.{mostAmount}
+use Rattle.cabinet.specs.State.{greatestTwelveDigitAmount}
 use Rattle.cabinet.proofs.is_within.Statement.{statement}
 use Rattle.cabinet.proofs.is_within.Tie as tie
 
 returns : tie.Need-returns
-returns c = let a = c .before .args in sym (lt-leb (a .remaining + a .reserved) mostAmount (omega arith))
+returns c = let a = c .before .args in sym (lt-leb (a .remaining + a .reserved) greatestTwelveDigitAmount (omega arith))
 
 returns-2 : tie.Need-returns-2
 returns-2 c =
     let a = c .before .args in
-    elim (bool-cases (leb (a .remaining) (mostAmount - a .reserved))) [
-      | inl t ↦ t ∙ sym (le-leb (a .remaining + a .reserved) mostAmount (omega (arith, leb-true (a .remaining) (mostAmount - a .reserved) t)))
-      | inr t ↦ t ∙ sym (lt-leb (a .remaining + a .reserved) mostAmount (omega (arith, leb-false (a .remaining) (mostAmount - a .reserved) t)))
+    elim (bool-cases (leb (a .remaining) (greatestTwelveDigitAmount - a .reserved))) [
+      | inl t ↦ t ∙ sym (le-leb (a .remaining + a .reserved) greatestTwelveDigitAmount (omega (arith, leb-true (a .remaining) (greatestTwelveDigitAmount - a .reserved) t)))
+      | inr t ↦ t ∙ sym (lt-leb (a .remaining + a .reserved) greatestTwelveDigitAmount (omega (arith, leb-false (a .remaining) (greatestTwelveDigitAmount - a .reserved) t)))
     ]
 
 pub is-within-spec : {M : Type 1} → statement M

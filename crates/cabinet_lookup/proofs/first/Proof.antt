@@ -7,14 +7,14 @@ use Prim.Native.Nat.{_-_}
 use native.Mathlib.Omega.{arith}
 use lib.ListN.{length}
 use Rattle.tlv.specs.declared.ObjectFront.the-variants as front
-use Rattle.tlv.specs.Primitives.{primitiveOf}
+use Rattle.tlv.specs.Primitives.{primitiveAtFront}
 use Rattle.tlv.proofs.Laws.{tail}
 use Rattle.cabinet_lookup.proofs.Laws.{Reached, begin, stopped, bounds, met, passed}
 use Rattle.cabinet_lookup.proofs.first.Statement.{statement}
 use Rattle.cabinet_lookup.proofs.first.Tie as tie
 use Rattle.cabinet_lookup.proofs.first.Reads as reads
 use Rattle.cabinet_lookup.proofs.first.Lts as lts
-use Rattle.tlv.proofs.primitive.Reads as primitive-reads
+use Rattle.tlv.proofs.primitive_at_front.Reads as primitive-reads
 
 abbrev Inv-loop : tie.InvT-loop
 Inv-loop bytes tag at₀ at = Reached tag bytes at
@@ -27,12 +27,12 @@ abbrev At-object : Type 0
 At-object = lts.After-front (primitive-reads.Asked, primitive-reads.Learnt) reads.Pre reads.Post Inv-loop μ-loop
 
 next-at : (c : At-object)
-    → primitiveOf (tail (c .before .before .before .before .before .before .args .bytes .now) (c .before .before .before .before .loop .at))
+    → primitiveAtFront (tail (c .before .before .before .before .before .before .args .bytes .now) (c .before .before .before .before .loop .at))
     ≡ front.Object (c .front .given .0 .0)
-next-at c = sym (c .before .before .primitive .ensures) ∙ c .front .given .1
+next-at c = sym (c .before .before .primitive-at-front .ensures) ∙ c .front .given .1
 
 returns : tie.Need-returns Inv-loop μ-loop
-returns c = sym (stopped _ _ (c .before .before .before .before .loop .inv) (sym (c .before .before .primitive .ensures) ∙ c .enum-told .given .1))
+returns c = sym (stopped _ _ (c .before .before .before .before .loop .inv) (sym (c .before .before .primitive-at-front .ensures) ∙ c .enum-told .given .1))
 
 returns-2 : tie.Need-returns-2 Inv-loop μ-loop
 returns-2 c =

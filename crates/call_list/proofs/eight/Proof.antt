@@ -4,7 +4,7 @@ use mathlib.Core.Path.{sym, ap}
 use native.Mathlib.Omega.{arith}
 use lib.Seq.{length-take-le}
 use borrow.Author.Needs.{needs}
-use Rattle.basics.specs.Number.{bigEndian}
+use Rattle.basics.specs.Number.{bigEndianNumber}
 use Rattle.tlv.proofs.Laws.{tail-is}
 use Rattle.call_list.proofs.Number.{eight-number}
 use Rattle.call_list.proofs.eight.Statement.{statement}
@@ -19,7 +19,7 @@ four-requires c κs = length-take-le 4 (c .before .before .args .s .now) (omega 
 returns : tie.Need-returns
 returns c = let st = c .before .before .before .before .before in
     let s = st .args .s .now in
-    omega (arith, eight-number s (st .pre), ap bigEndian (tail-is s 4))
+    omega (arith, eight-number s (st .pre), ap bigEndianNumber (tail-is s 4))
 
 pub eight-spec : {M : Type 1} → statement M
 eight-spec =

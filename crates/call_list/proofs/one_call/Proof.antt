@@ -6,17 +6,17 @@ use native.Mathlib.Omega.{arith}
 use lib.ListN.{length}
 use borrow.Author.Needs.{needs}
 use Rattle.call_list.specs.declared.CallHeader.{CallHeader}
-use Rattle.call_list.specs.Encoding.{callEnd}
+use Rattle.call_list.specs.Encoding.{callEndOffset}
 use Rattle.call_list.proofs.Read.{whole-size, whole-end}
 use Rattle.call_list.proofs.Loop.{turned}
 use Rattle.call_list.proofs.one_call.Statement.{statement}
 use Rattle.call_list.proofs.one_call.Tie as tie
 
 -- the call lies inside the slice
-inside : (c : tie.After-header-of) → callEnd (c .header-of .result) ≤ length (c .before .before .before .before .args .calls .now)
+inside : (c : tie.After-header-of) → callEndOffset (c .header-of .result) ≤ length (c .before .before .before .before .args .calls .now)
 inside c =
     let st = c .before .before .before .before in
-    subst (λ (x : CallHeader). callEnd x ≤ length (st .args .calls .now)) (sym (c .header-of .ensures)) (whole-end _ (st .pre .0))
+    subst (λ (x : CallHeader). callEndOffset x ≤ length (st .args .calls .now)) (sym (c .header-of .ensures)) (whole-end _ (st .pre .0))
 
 header-of-requires : tie.Need-header-of-requires
 header-of-requires c κs = whole-size _ (c .before .before .before .pre .0)

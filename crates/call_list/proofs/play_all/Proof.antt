@@ -9,8 +9,8 @@ use native.Mathlib.Omega.{arith}
 use lib.ListN.{length, take, drop, length-take, length-drop}
 use borrow.Author.Needs.{needs}
 use Rattle.tlv.proofs.Laws.{tail-is}
-use Rattle.call_list.specs.Encoding.{isWholeCall, callsOf}
-use Rattle.call_list.specs.Inner.{callsRead, PlaysOneCall}
+use Rattle.call_list.specs.Encoding.{beginsWithWholeCall, parsedCalls}
+use Rattle.call_list.specs.Inner.{callsOrEmpty, PlaysOneCall}
 use Rattle.call_list.proofs.Read.{whole-end}
 use Rattle.call_list.proofs.Whole.{ready-read}
 use Rattle.call_list.proofs.Loop.{Going, going-start, going-whole, going-room, going-transition, going-end}
@@ -19,13 +19,13 @@ use Rattle.call_list.proofs.play_all.Tie as tie
 
 abbrev Inv-loop : tie.InvT-loop
 Inv-loop calls₀ replies₀ session₀ at₀ out₀ calls replies session at out =
-    Going calls₀ replies₀ (callsRead (callsOf calls₀)) calls replies session at out × (length calls ≡ length calls₀) × (length replies ≡ length replies₀)
+    Going calls₀ replies₀ (callsOrEmpty (parsedCalls calls₀)) calls replies session at out × (length calls ≡ length calls₀) × (length replies ≡ length replies₀)
 
 abbrev μ-loop : tie.MeasureT-loop
 μ-loop calls₀ replies₀ session₀ at₀ out₀ calls replies session at out = length calls - at
 
 -- in the loop a whole call is next, and there is room for its reply
-whole-at : (c : tie.In-loop Inv-loop μ-loop) → isWholeCall (drop (c .before .loop .at) (c .before .loop .calls)) ≡ true
+whole-at : (c : tie.In-loop Inv-loop μ-loop) → beginsWithWholeCall (drop (c .before .loop .at) (c .before .loop .calls)) ≡ true
 whole-at c = going-whole _ _ _ _ _ _ _ _ (c .before .loop .inv .0) (c .loop-test .taken)
 
 room-at : (c : tie.In-loop Inv-loop μ-loop) → c .before .loop .out + 4 ≤ length (c .before .loop .replies)
@@ -65,7 +65,7 @@ part-one-call-end-2 c = let k = room-at (c .before) in omega arith
 
 one-call-requires : tie.Need-one-call-requires Inv-loop μ-loop
 one-call-requires c κs = let lp = c .before .before .before .loop in
-    (ap isWholeCall (tail-is (lp .calls) (lp .at)) ∙ whole-at (c .before .before),
+    (ap beginsWithWholeCall (tail-is (lp .calls) (lp .at)) ∙ whole-at (c .before .before),
     omega (arith, length-take (length (lp .replies) - lp .out) (drop (lp .out) (lp .replies)), length-drop (lp .out) (lp .replies), room-at (c .before .before)))
 
 add-at : tie.Need-add-at Inv-loop μ-loop

@@ -5,15 +5,15 @@ use mathlib.Core.Option.{some}
 use native.Mathlib.Omega.{arith}
 use lib.ListN.{length}
 use borrow.Author.Needs.{needs}
-use Rattle.call_list.specs.Encoding.{callsOf}
-use Rattle.call_list.specs.Inner.{callsRead}
+use Rattle.call_list.specs.Encoding.{parsedCalls}
+use Rattle.call_list.specs.Inner.{callsOrEmpty}
 use Rattle.call_list.proofs.Back.{read-back}
 use Rattle.call_list.proofs.Whole.{counted-none, counted-some, ready, runs-none, runs-short, runs-played}
 use Rattle.call_list.proofs.play_list.Statement.{statement}
 use Rattle.call_list.proofs.play_list.Tie as tie
 
 -- past the count the bytes are a list of so many calls
-counted : (c : tie.After-n) → let x = callsOf (c .before .before .before .before .before .before .args .calls .now) in (x ≡ some (callsRead x)) × (length (callsRead x) ≡ c .n .given .0 .0)
+counted : (c : tie.After-n) → let x = parsedCalls (c .before .before .before .before .before .before .args .calls .now) in (x ≡ some (callsOrEmpty x)) × (length (callsOrEmpty x) ≡ c .n .given .0 .0)
 counted c = counted-some _ _ (sym (c .before .before .count-calls .ensures) ∙ c .n .given .1)
 
 returns : tie.Need-returns

@@ -5,7 +5,7 @@ use mathlib.Core.List.{List}
 use mathlib.Core.Option.{Option}
 use Prim.Native.Nat.{ℕ}
 use borrow.Author.Needs.{needs}
-use Rattle.command.specs.WithList.{dolCommandOf, dolReason, bufferWithCommand}
+use Rattle.command.specs.WithList.{dolCommandOf, reasonDolIfNoCommand, bufferWithCommand}
 use Rattle.command.proofs.Parts.{checksum-own, checksum-default}
 use Rattle.command.proofs.compute_cryptographic_checksum.Statement.{statement}
 use Rattle.command.proofs.compute_cryptographic_checksum.Tie as tie
@@ -16,7 +16,7 @@ returns c =
     let t = c .before .before .before .before in
     let a = t .before .before .before .before .args in
     let e = sym (checksum-own (a .store .now) _ (t .before .value .ensures) (t .if1 .taken)) in
-    (w .0 ∙ ap dolCommandOf e, (w .1 .0 ∙ ap (λ (x : Option (List ℕ)). bufferWithCommand x (a .buffer .now)) e, w .1 .1 ∙ ap dolReason e))
+    (w .0 ∙ ap dolCommandOf e, (w .1 .0 ∙ ap (λ (x : Option (List ℕ)). bufferWithCommand x (a .buffer .now)) e, w .1 .1 ∙ ap reasonDolIfNoCommand e))
 
 returns-2 : tie.Need-returns-2
 returns-2 c =
@@ -24,7 +24,7 @@ returns-2 c =
     let t = c .before .before .before .before .before in
     let a = t .before .before .before .before .args in
     let e = sym (checksum-default (a .store .now) _ (t .before .value .ensures) (t .if1 .left)) in
-    (w .0 ∙ ap dolCommandOf e, (w .1 .0 ∙ ap (λ (x : Option (List ℕ)). bufferWithCommand x (a .buffer .now)) e, w .1 .1 ∙ ap dolReason e))
+    (w .0 ∙ ap dolCommandOf e, (w .1 .0 ∙ ap (λ (x : Option (List ℕ)). bufferWithCommand x (a .buffer .now)) e, w .1 .1 ∙ ap reasonDolIfNoCommand e))
 
 pub compute-cryptographic-checksum-spec : {M : Type 1} → statement M
 compute-cryptographic-checksum-spec =

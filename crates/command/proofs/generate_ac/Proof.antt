@@ -5,7 +5,7 @@ use mathlib.Core.List.{List}
 use mathlib.Core.Option.{Option}
 use Prim.Native.Nat.{ℕ}
 use borrow.Author.Needs.{needs}
-use Rattle.command.specs.WithList.{dolCommandOf, dolReason, bufferWithCommand}
+use Rattle.command.specs.WithList.{dolCommandOf, reasonDolIfNoCommand, bufferWithCommand}
 use Rattle.command.proofs.Parts.{cryptogram-of}
 use Rattle.command.proofs.generate_ac.Statement.{statement}
 use Rattle.command.proofs.generate_ac.Tie as tie
@@ -16,7 +16,7 @@ returns c =
     let t = c .before .before .before .before in
     let a = t .before .before .before .args in
     let e = sym (cryptogram-of (a .p1) (a .store .now) _ (t .value .ensures)) in
-    (w .0 ∙ ap dolCommandOf e, (w .1 .0 ∙ ap (λ (x : Option (List ℕ)). bufferWithCommand x (a .buffer .now)) e, w .1 .1 ∙ ap dolReason e))
+    (w .0 ∙ ap dolCommandOf e, (w .1 .0 ∙ ap (λ (x : Option (List ℕ)). bufferWithCommand x (a .buffer .now)) e, w .1 .1 ∙ ap reasonDolIfNoCommand e))
 
 pub generate-ac-spec : {M : Type 1} → statement M
 generate-ac-spec =

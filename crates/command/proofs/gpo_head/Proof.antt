@@ -6,7 +6,7 @@ use Prim.Native.Nat.{ℕ, _+_}
 use native.Mathlib.Omega.{arith}
 use lib.ListN.{length, length-set}
 use borrow.Author.Needs.{needs}
-use Rattle.dol.specs.Measure.{writtenOver}
+use Rattle.dol.specs.Measure.{bufferWithBytesAt}
 use Rattle.dol.proofs.Buffer.{over-sets}
 use Rattle.command.proofs.Parts.{head-short, head-long}
 use Rattle.command.proofs.gpo_head.Statement.{statement}
@@ -16,13 +16,13 @@ returns : tie.Need-returns
 returns c =
     let a = c .before .args in
     let e = head-short (a .n) (c .if1 .taken) in
-    (ap (λ (l : List ℕ). 5 + length l) (sym e), over-sets (a .buffer .now) 5 (0x83 ∷ a .n ∷ []) (omega arith) ∙ ap (writtenOver (a .buffer .now) 5) (sym e))
+    (ap (λ (l : List ℕ). 5 + length l) (sym e), over-sets (a .buffer .now) 5 (0x83 ∷ a .n ∷ []) (omega arith) ∙ ap (bufferWithBytesAt (a .buffer .now) 5) (sym e))
 
 returns-2 : tie.Need-returns-2
 returns-2 c =
     let a = c .before .args in
     let e = head-long (a .n) (c .if1 .left) (c .before .pre .0) in
-    (ap (λ (l : List ℕ). 5 + length l) (sym e), over-sets (a .buffer .now) 5 (0x83 ∷ 0x81 ∷ a .n ∷ []) (omega arith) ∙ ap (writtenOver (a .buffer .now) 5) (sym e))
+    (ap (λ (l : List ℕ). 5 + length l) (sym e), over-sets (a .buffer .now) 5 (0x83 ∷ 0x81 ∷ a .n ∷ []) (omega arith) ∙ ap (bufferWithBytesAt (a .buffer .now) 5) (sym e))
 
 pub gpo-head-spec : {M : Type 1} → statement M
 gpo-head-spec =

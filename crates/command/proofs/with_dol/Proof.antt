@@ -7,8 +7,8 @@ use lib.ListN.{length}
 use borrow.Author.Needs.{needs}
 use Rattle.dictionary.specs.Rows.{dictionaryRows}
 use Rattle.dol.specs.Entries.{dolEntries}
-use Rattle.command.specs.WithList.{commandWith, carriedIn, commandWithDol}
-use Rattle.dol.specs.Measure.{writtenOver}
+use Rattle.command.specs.WithList.{proprietaryCommand, commandIfDataIs1To255Bytes, commandWithDol}
+use Rattle.dol.specs.Measure.{bufferWithBytesAt}
 use Rattle.dol.proofs.Buffer.{over-some}
 use Rattle.command.proofs.Parts.{Fills, fills, unfit, dol-broken, dol-empty, dol-long, dol-some, command-length, command-front, none-written, some-written}
 use Rattle.command.proofs.with_dol.Statement.{statement}
@@ -23,18 +23,18 @@ filling c = fills dictionaryRows _ _ _ (sym (c .before .before .measure .ensures
 returns : tie.Need-returns
 returns c =
     let a = c .before .before .before .before .before .before .args in
-    let f = commandWith (a .ins) (a .p1) (a .p2) in
+    let f = proprietaryCommand (a .ins) (a .p1) (a .p2) in
     let p = sym (c .before .before .measure .ensures) ∙ c .enum-told .given .1 in
     none-written (commandWithDol f (a .list .now) (a .store .now)) (a .buffer .now)
-    (unfit dictionaryRows (a .store .now) _ (carriedIn f) (dol-broken f) (dol-long f) p)
+    (unfit dictionaryRows (a .store .now) _ (commandIfDataIs1To255Bytes f) (dol-broken f) (dol-long f) p)
 
 returns-2 : tie.Need-returns-2
 returns-2 c =
     let a = c .before .before .before .before .before .before .before .before .args in
-    let f = commandWith (a .ins) (a .p1) (a .p2) in
+    let f = proprietaryCommand (a .ins) (a .p1) (a .p2) in
     let v = filling (c .before .before) in
     none-written (commandWithDol f (a .list .now) (a .store .now)) (a .buffer .now)
-    (ap (carriedIn f) (v .is) ∙ dol-empty f (v .bytes) (v .long ∙ c .if1 .taken))
+    (ap (commandIfDataIs1To255Bytes f) (v .is) ∙ dol-empty f (v .bytes) (v .long ∙ c .if1 .taken))
 
 fill-requires : tie.Need-fill-requires
 fill-requires c κs = filling (c .before .before .before) .room _ _ (let f = filling (c .before .before .before) in omega arith)
@@ -46,15 +46,15 @@ returns-3 : tie.Need-returns-3
 returns-3 c =
     let st = c .before .before .before .before .before .before .before .before .before .before .before .before .before .before .before .before in
     let a = st .args in
-    let f = commandWith (a .ins) (a .p1) (a .p2) in
+    let f = proprietaryCommand (a .ins) (a .p1) (a .p2) in
     let v = filling (c .before .before .before .before .before .before .before .before .before .before) in
     let n = c .before .before .before .before .before .before .before .before .before .before .measured .given .0 .0 in
     let cl = c .before .before .close in
     let h : 5 + length (v .bytes) < length (a .buffer .now) = omega (arith, st .pre, v .long, v .few) in
     let e : 5 + n ≡ 5 + length (v .bytes) = omega (arith, v .long) in
-    let y : c .before .before .before .before .before .before .fill .last .1 .1 .0 ≡ writtenOver (a .buffer .now) 5 (v .bytes) = c .before .before .before .before .before .before .fill .ensures ∙ over-some _ _ _ _ (v .is) in
+    let y : c .before .before .before .before .before .before .fill .last .1 .1 .0 ≡ bufferWithBytesAt (a .buffer .now) 5 (v .bytes) = c .before .before .before .before .before .before .fill .ensures ∙ over-some _ _ _ _ (v .is) in
     some-written (commandWithDol f (a .list .now) (a .store .now)) (f (v .bytes)) (a .buffer .now) _ (cl .result)
-    (ap (carriedIn f) (v .is)
+    (ap (commandIfDataIs1To255Bytes f) (v .is)
     ∙ dol-some f (v .bytes) (omega (arith, c .before .before .before .before .before .before .before .before .if1 .left, v .long)) (omega (arith, v .long, v .few)))
     (cl .ensures .0 ∙ command-length (a .ins) (a .p1) (a .p2) (a .buffer .now) (v .bytes) (5 + n) h e)
     (command-front (a .ins) (a .p1) (a .p2) (a .buffer .now) (v .bytes) (5 + n) h e _ _ y (cl .ensures .1))

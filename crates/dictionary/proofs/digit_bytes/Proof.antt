@@ -6,13 +6,13 @@ use Prim.Native.Nat.{_+_, _-_, _≤_}
 use native.Mathlib.Omega.{arith}
 use lib.ListN.{length, drop}
 use borrow.Author.Tests.{not-true, not-false}
-use Rattle.dictionary.specs.Inner.{digitBytes}
+use Rattle.dictionary.specs.Inner.{leadingDecimalBytes}
 use Rattle.dictionary.proofs.Digits.{stop-here, go-on, all-passed}
 use Rattle.dictionary.proofs.digit_bytes.Statement.{statement}
 use Rattle.dictionary.proofs.digit_bytes.Tie as tie
 
 abbrev Inv-loop : tie.InvT-loop
-Inv-loop v i₀ i = (i ≤ length v) × (digitBytes v ≡ i + digitBytes (drop i v))
+Inv-loop v i₀ i = (i ≤ length v) × (leadingDecimalBytes v ≡ i + leadingDecimalBytes (drop i v))
 
 abbrev μ-loop : tie.MeasureT-loop
 μ-loop v i₀ i = length v - i

@@ -11,7 +11,7 @@ use lib.ListN.{length, take, drop, length-take}
 use Rattle.dictionary.specs.declared.RowFound.{RowFound}
 use Rattle.dictionary.specs.Rows.{Row, dictionaryRows, rowCount, findRow}
 use Rattle.dictionary.specs.Rule.{risingTags}
-use Rattle.dictionary.specs.Search.{searchOf, tagsOf}
+use Rattle.dictionary.specs.Search.{halvingSearchResult, tagsOf}
 use Rattle.dictionary.proofs.Lent.{row-found}
 use Rattle.dictionary.proofs.Part.{tags-length, part-known, part-unknown, halved-known, halved-unknown}
 use Rattle.dictionary.proofs.find_row.Statement.{statement}
@@ -23,10 +23,10 @@ in-table : (t n a : ℕ) {ts : List ℕ} {x : RowFound} → ts ≡ tagsOf dictio
     → (table : List Row) → tagsOf table ≡ take n (drop a (tagsOf dictionaryRows)) → risingTags table ≡ true → x ≡ findRow table t
 in-table t n a e h table q = h table (q ∙ ap (λ (l : List ℕ). take n (drop a l)) (sym e))
 
-same-part : (t n a : ℕ) {ts : List ℕ} → ts ≡ tagsOf dictionaryRows → searchOf (take n (drop a ts)) t ≡ searchOf (take n (drop a (tagsOf dictionaryRows))) t
-same-part t n a e = ap (λ (l : List ℕ). searchOf (take n (drop a l)) t) e
+same-part : (t n a : ℕ) {ts : List ℕ} → ts ≡ tagsOf dictionaryRows → halvingSearchResult (take n (drop a ts)) t ≡ halvingSearchResult (take n (drop a (tagsOf dictionaryRows))) t
+same-part t n a e = ap (λ (l : List ℕ). halvingSearchResult (take n (drop a l)) t) e
 
-part-search-end : tie.Need-part-search-end
+part-search-end : tie.Need-part-search-tags-end
 part-search-end c = let e = ap length (c .before .before .pre) ∙ tags-length in omega (arith, c .part-of .ensures .1 .1)
 
 -- of a part there are no more tags than in the table
@@ -38,7 +38,7 @@ returns c =
     let l = c .before .before .before .before .before in
     let pre = l .before .before .pre in
     let p = l .part-of in
-    let s = c .before .before .before .search .ensures in
+    let s = c .before .before .before .search-tags .ensures in
     let known = c .before .found .given .1 in (
       part-known _ (p .ensures .0) (in-table _ (p .result .to - p .result .from) (p .result .from) pre (s .1 .0)) known,
       (
@@ -55,7 +55,7 @@ returns-2 c =
     let l = c .before .before .before .before in
     let pre = l .before .before .pre in
     let p = l .part-of in
-    let s = c .before .before .search .ensures in
+    let s = c .before .before .search-tags .ensures in
     let unknown = c .enum-told .given .1 in (
       part-unknown _ (p .ensures .0) (in-table _ (p .result .to - p .result .from) (p .result .from) pre (s .1 .0)) unknown,
       (

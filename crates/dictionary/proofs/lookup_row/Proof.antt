@@ -11,7 +11,7 @@ use Rattle.dictionary.proofs.lookup_row.Tie as tie
 returns : tie.Need-returns
 unfolding dictionaryRows
 returns c =
-    let s = c .search .ensures in
+    let s = c .search-tags .ensures in
     (s .1 .0 dictionaryRows refl (proper-rising dictionaryRows rows-proper), (s .0, (s .1 .1 .0, rows-proper)))
 
 pub lookup-row-spec : {M : Type 1} → statement M

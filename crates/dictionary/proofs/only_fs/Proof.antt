@@ -9,18 +9,18 @@ use lib.Seq.{drop-cons}
 use borrow.Author.Tests.{eq-eqb, ne-eqb}
 use Rattle.basics.specs.Choice.{every}
 use Rattle.basics.proofs.Laws.{both-true, both-no-left}
-use Rattle.dictionary.specs.Inner.{onlyFs}
+use Rattle.dictionary.specs.Inner.{allBytesFF}
 use Rattle.dictionary.proofs.only_fs.Statement.{statement}
 use Rattle.dictionary.proofs.only_fs.Tie as tie
 
 abbrev Inv-loop : tie.InvT-loop
-Inv-loop v from i₀ i = onlyFs (drop from v) ≡ onlyFs (drop i v)
+Inv-loop v from i₀ i = allBytesFF (drop from v) ≡ allBytesFF (drop i v)
 
 abbrev μ-loop : tie.MeasureT-loop
 μ-loop v from i₀ i = length v - i
 
 returns : tie.Need-returns Inv-loop μ-loop
-unfolding onlyFs every
+unfolding allBytesFF every
 returns c =
     let lp = c .before .before .before .loop in
     let v = c .before .before .before .before .args .v .now in
@@ -28,7 +28,7 @@ returns c =
     sym (lp .inv ∙ rw (drop-cons v (lp .i) 0) (both-no-left _ _ (ne-eqb _ _ (c .if1 .taken))))
 
 loop-again : tie.Need-loop-again Inv-loop μ-loop
-unfolding onlyFs every
+unfolding allBytesFF every
 loop-again c =
     let lp = c .before .before .before .loop in
     let v = c .before .before .before .before .args .v .now in
@@ -36,7 +36,7 @@ loop-again c =
     lp .inv ∙ rw (add-one, drop-cons v (lp .i) 0) (both-true _ (eq-eqb _ _ (c .if1 .left)))
 
 returns-2 : tie.Need-returns-2 Inv-loop μ-loop
-unfolding onlyFs every
+unfolding allBytesFF every
 returns-2 c =
     let lp = c .before .loop in
     let v = c .before .before .args .v .now in

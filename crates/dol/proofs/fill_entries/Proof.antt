@@ -9,7 +9,7 @@ use borrow.Author.Needs.{needs}
 use Rattle.dictionary.specs.Rows.{dictionaryRows}
 use Rattle.dol.specs.Entries.{dolEntries}
 use Rattle.dol.specs.Filling.{dolFilled}
-use Rattle.dol.specs.Measure.{DolFits, dolWrittenOver}
+use Rattle.dol.specs.Measure.{FilledDolFitsAt, bufferWithFilledDolAt}
 use Rattle.dol.proofs.Entries.{entry-inside}
 use Rattle.dol.proofs.Writing.{no-room, entry-room, fill-end, fill-step}
 use Rattle.dol.proofs.fill_entries.Statement.{statement}
@@ -17,8 +17,8 @@ use Rattle.dol.proofs.fill_entries.Tie as tie
 
 abbrev Inv-loop : tie.InvT-loop
 Inv-loop list store buffer₀ at tags codes rest₀ to₀ buffer rest to =
-    (dolWrittenOver buffer₀ at (dolFilled dictionaryRows store list) ≡ dolWrittenOver buffer to (dolFilled dictionaryRows store rest)) × (length buffer ≡ length buffer₀)
-    × DolFits (dolEntries rest) to (length buffer)
+    (bufferWithFilledDolAt buffer₀ at (dolFilled dictionaryRows store list) ≡ bufferWithFilledDolAt buffer to (dolFilled dictionaryRows store rest)) × (length buffer ≡ length buffer₀)
+    × FilledDolFitsAt (dolEntries rest) to (length buffer)
 
 abbrev μ-loop : tie.MeasureT-loop
 μ-loop list store buffer₀ at tags codes rest₀ to₀ buffer rest to = length rest

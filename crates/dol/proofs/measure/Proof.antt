@@ -8,13 +8,13 @@ use lib.ListN.{length, drop, length-take, length-drop}
 use borrow.Author.Needs.{needs}
 use Rattle.tlv.proofs.Laws.{tail-is}
 use Rattle.dol.specs.Entries.{dolEntries}
-use Rattle.dol.specs.Measure.{dolMeasured}
+use Rattle.dol.specs.Measure.{dolTotalIfAtMost255}
 use Rattle.dol.proofs.Entries.{entry-inside, measuredFrom, measured-from, measured-end, measured-broken, measured-more, measured-long}
 use Rattle.dol.proofs.measure.Statement.{statement}
 use Rattle.dol.proofs.measure.Tie as tie
 
 abbrev Inv-loop : tie.InvT-loop
-Inv-loop list rest₀ total₀ rest askedTotal = (dolMeasured (dolEntries list) ≡ measuredFrom askedTotal (dolEntries rest)) × (askedTotal ≤ 255)
+Inv-loop list rest₀ total₀ rest askedTotal = (dolTotalIfAtMost255 (dolEntries list) ≡ measuredFrom askedTotal (dolEntries rest)) × (askedTotal ≤ 255)
 
 abbrev μ-loop : tie.MeasureT-loop
 μ-loop list rest₀ total₀ rest askedTotal = length rest
@@ -26,7 +26,7 @@ inside c = entry-inside _ _ _ (sym (c .before .before .entry-at .ensures) ∙ c 
 -- the list is measured on after it
 on : (c : tie.After-widen Inv-loop μ-loop) →
     let lp = c .before .before .before .before .before .before .loop in
-    dolMeasured (dolEntries (c .before .before .before .before .before .before .before .before .args .list .now))
+    dolTotalIfAtMost255 (dolEntries (c .before .before .before .before .before .before .before .before .args .list .now))
     ≡ measuredFrom (lp .total + c .widen .result) (dolEntries (drop (c .before .before .front .given .0 .1 .0) (lp .rest .now)))
 on c =
     let lp = c .before .before .before .before .before .before .loop in

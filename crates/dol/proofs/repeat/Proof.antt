@@ -4,13 +4,13 @@ use mathlib.Core.Path.{_≡_, refl, sym, ap, _∙_}
 use Prim.Native.Nat.{ℕ, _+_, _-_, _≤_, _<_}
 use native.Mathlib.Omega.{arith}
 use lib.ListN.{length, replicate, length-set}
-use Rattle.dol.specs.Measure.{writtenOver}
+use Rattle.dol.specs.Measure.{bufferWithBytesAt}
 use Rattle.dol.proofs.Buffer.{over-nothing, repeat-more}
 use Rattle.dol.proofs.repeat.Statement.{statement}
 use Rattle.dol.proofs.repeat.Tie as tie
 
 abbrev Inv-loop : tie.InvT-loop
-Inv-loop byte n buffer₀ at i₀ buffer i = (i ≤ n) × (length buffer ≡ length buffer₀) × (buffer ≡ writtenOver buffer₀ at (replicate i byte))
+Inv-loop byte n buffer₀ at i₀ buffer i = (i ≤ n) × (length buffer ≡ length buffer₀) × (buffer ≡ bufferWithBytesAt buffer₀ at (replicate i byte))
 
 abbrev μ-loop : tie.MeasureT-loop
 μ-loop byte n buffer₀ at i₀ buffer i = n - i
@@ -27,7 +27,7 @@ returns c =
     let a = c .before .before .args in
     let lp = c .before .loop in
     let e : lp .i ≡ a .n = omega arith in
-    lp .inv .2 ∙ ap (λ (k : ℕ). writtenOver (a .buffer .now) (a .at) (replicate k (a .byte))) e
+    lp .inv .2 ∙ ap (λ (k : ℕ). bufferWithBytesAt (a .buffer .now) (a .at) (replicate k (a .byte))) e
 
 pub repeat-spec : {M : Type 1} → statement M
 repeat-spec =

@@ -10,12 +10,12 @@ use Rattle.explain.proofs.card_asks_mag_stripe.Statement.{statement}
 use Rattle.explain.proofs.card_asks_mag_stripe.Tie as tie
 
 returns : tie.Need-returns
-returns c = sym (both-no-left _ _ (held-is _ _ _ at-82 (c .before .is-there .ensures) (not-true _ (c .if1 .taken))))
+returns c = sym (both-no-left _ _ (held-is _ _ _ at-82 (c .before .is-present .ensures) (not-true _ (c .if1 .taken))))
 
 returns-2 : tie.Need-returns-2
 returns-2 c =
-    ap not (c .is-emv .ensures)
-    ∙ sym (both-true _ (held-is _ _ _ at-82 (c .before .before .is-there .ensures) (not-false _ (c .before .if1 .left))))
+    ap not (c .is-emv-mode .ensures)
+    ∙ sym (both-true _ (held-is _ _ _ at-82 (c .before .before .is-present .ensures) (not-false _ (c .before .if1 .left))))
 
 pub card-asks-mag-stripe-spec : {M : Type 1} → statement M
 card-asks-mag-stripe-spec = tie.close (tie.spec (λ c κs. search needs) returns (λ c κs. search needs) returns-2)

@@ -4,23 +4,23 @@ use mathlib.Core.Path.{sym, ap, ap₂, _∙_}
 use mathlib.Core.Option.{Option}
 use lib.Dec.{eqb}
 use Rattle.session_record.specs.declared.Outcome.{Outcome}
-use Rattle.session.specs.Answer.{cryptogramOutcome}
+use Rattle.session.specs.Answer.{outcomeForCryptogramType}
 use Rattle.session.proofs.Laws.{decides-nothing, decides-on}
-use Rattle.explain.specs.Explain.{decidesOutcome}
+use Rattle.explain.specs.Explain.{isDecisionOutcome}
 use Rattle.explain.proofs.decides.Statement.{statement}
 use Rattle.explain.proofs.decides.Tie as tie
 
 returns : tie.Need-returns
 returns c =
     let a = c .before .before .before .args in
-    sym (ap (λ (d : Option Outcome). decidesOutcome d (a .outcome)) (decides-nothing (cryptogramOutcome (a .choice) (a .kind)) (c .before .before .outcome-for-cryptogram .ensures) (c .enum-told .given .1)))
+    sym (ap (λ (d : Option Outcome). isDecisionOutcome d (a .outcome)) (decides-nothing (outcomeForCryptogramType (a .choice) (a .kind)) (c .before .before .outcome-for-cryptogram-type .ensures) (c .enum-told .given .1)))
 
 returns-2 : tie.Need-returns-2
 returns-2 c =
     let k = c .before .before in
     let f = k .before .before .before in
     ap₂ eqb (c .before .outcome-number .ensures) (c .outcome-number2 .ensures)
-    ∙ sym (ap (λ (d : Option Outcome). decidesOutcome d (f .before .args .outcome)) (decides-on (cryptogramOutcome (f .before .args .choice) (f .before .args .kind)) (f .outcome-for-cryptogram .ensures) (k .before .d .given .1)))
+    ∙ sym (ap (λ (d : Option Outcome). isDecisionOutcome d (f .before .args .outcome)) (decides-on (outcomeForCryptogramType (f .before .args .choice) (f .before .args .kind)) (f .outcome-for-cryptogram-type .ensures) (k .before .d .given .1)))
 
 pub decides-spec : {M : Type 1} → statement M
 decides-spec =

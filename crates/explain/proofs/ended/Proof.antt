@@ -13,21 +13,21 @@ use Rattle.session_record.proofs.Tags.{held-is}
 use Rattle.analysis.proofs.ByRow.{bytes-by-row}
 use Rattle.analysis.specs.Choice.{generateAcP1}
 use Rattle.analysis.specs.declared.choice.Choice.{Choice}
-use Rattle.session.specs.Answer.{cryptogramOutcome}
-use Rattle.explain.specs.declared.Deciding.{Deciding}
-use Rattle.explain.specs.Explain.{storedChoice, decidingIn, cryptogramRank, storedCryptogramType, requestedType, decidesOutcome}
+use Rattle.session.specs.Answer.{outcomeForCryptogramType}
+use Rattle.explain.specs.declared.DecidingStage.{DecidingStage}
+use Rattle.explain.specs.Explain.{recomputedChoice, decidingStageIfItsDataPresent, rankOfCryptogramType, storedCryptogramType, requestedCryptogramType, isDecisionOutcome}
 use Rattle.explain.proofs.Laws.{ended-reason, ended-nothing, ended-lacks, ended-other, ended-lower, ended-stage}
 use Rattle.explain.proofs.ended.Statement.{statement}
 use Rattle.explain.proofs.ended.Tie as tie
 
 -- the stage that decided
 decided : (c : tie.After-known-told) → let f = c .before .before .before in
-    decidingIn (f .before .before .before .before .args .bytes .now) ≡ Deciding.At (c .before .stage .given .0 .0)
+    decidingStageIfItsDataPresent (f .before .before .before .before .args .bytes .now) ≡ DecidingStage.At (c .before .stage .given .0 .0)
 decided c = let f = c .before .before .before in sym (f .deciding-in .ensures) ∙ c .before .stage .given .1
 
 -- 9F27 is present
 there : (c : tie.Else2) → hasObject (c .before .before .before .before .before .before .before .before .before .args .bytes .now) 0x9F27 ≡ true
-there c = held-is _ _ _ at-9F27 (c .before .is-there .ensures) (not-false _ (c .if2 .left))
+there c = held-is _ _ _ at-9F27 (c .before .is-present .ensures) (not-false _ (c .if2 .left))
 
 -- the type that was read is the stored one's
 type-is : (c : tie.After-byte-at) → let a = c .before .before .before .before .before .before .before .before .before .before .before .args in
@@ -37,19 +37,19 @@ type-is c =
 
 -- what was asked of the decision
 decides-is : (c : tie.After-decides) → let a = c .before .before .before .before .before .before .before .before .before .before .before .before .before .args in
-    c .decides .result ≡ decidesOutcome (cryptogramOutcome (storedChoice (a .bytes .now)) (storedCryptogramType (a .bytes .now))) (a .end .outcome)
+    c .decides .result ≡ isDecisionOutcome (outcomeForCryptogramType (recomputedChoice (a .bytes .now)) (storedCryptogramType (a .bytes .now))) (a .end .outcome)
 decides-is c =
     let a = c .before .before .before .before .before .before .before .before .before .before .before .before .before .args in
     c .decides .ensures
-    ∙ ap₂ (λ (x : Choice) (n : ℕ). decidesOutcome (cryptogramOutcome x n) (a .end .outcome)) (c .before .choice-in .ensures) (type-is (c .before .before))
+    ∙ ap₂ (λ (x : Choice) (n : ℕ). isDecisionOutcome (outcomeForCryptogramType x n) (a .end .outcome)) (c .before .choice-in .ensures) (type-is (c .before .before))
 
 -- the ranks that were compared
 ranks : (c : tie.After-cryptogram-rank2) → let a = c .before .before .before .before .before .before .before .before .before .before .before .before .before .before .before .before .before .args in
-    (c .before .before .cryptogram-rank .result ≡ cryptogramRank (storedCryptogramType (a .bytes .now))) × (c .cryptogram-rank2 .result ≡ cryptogramRank (requestedType (storedChoice (a .bytes .now))))
+    (c .before .before .cryptogram-rank .result ≡ rankOfCryptogramType (storedCryptogramType (a .bytes .now))) × (c .cryptogram-rank2 .result ≡ rankOfCryptogramType (requestedCryptogramType (recomputedChoice (a .bytes .now))))
 ranks c =
     let d = c .before .before .before .before in (
-      c .before .before .cryptogram-rank .ensures ∙ ap cryptogramRank (type-is (d .before .before)),
-      c .cryptogram-rank2 .ensures ∙ ap (λ (n : ℕ). cryptogramRank (n / 64)) (c .before .p1 .ensures ∙ ap generateAcP1 (d .before .choice-in .ensures)),
+      c .before .before .cryptogram-rank .ensures ∙ ap rankOfCryptogramType (type-is (d .before .before)),
+      c .cryptogram-rank2 .ensures ∙ ap (λ (n : ℕ). rankOfCryptogramType (n / 64)) (c .before .generate-ac-p1 .ensures ∙ ap generateAcP1 (d .before .choice-in .ensures)),
     )
 
 returns : tie.Need-returns
@@ -63,7 +63,7 @@ returns-2 c =
 returns-3 : tie.Need-returns-3
 returns-3 c =
     let k = c .before .before in
-    sym (ended-lacks _ _ (k .before .before .before .before .if1 .left) _ (decided k) (held-is _ _ _ at-9F27 (c .before .is-there .ensures) (not-true _ (c .if2 .taken))))
+    sym (ended-lacks _ _ (k .before .before .before .before .if1 .left) _ (decided k) (held-is _ _ _ at-9F27 (c .before .is-present .ensures) (not-true _ (c .if2 .taken))))
 
 returns-4 : tie.Need-returns-4
 returns-4 c =

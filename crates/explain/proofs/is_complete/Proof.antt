@@ -11,28 +11,28 @@ use Rattle.store.specs.Held.{hasObject}
 use Rattle.session_record.proofs.Tags.{held-is}
 use Rattle.analysis.proofs.ByRow.{there-by-row}
 use Rattle.explain.specs.declared.Stage.{Stage}
-use Rattle.explain.specs.Explain.{tacOfStage, stageNeeds}
+use Rattle.explain.specs.Explain.{tacTagsOfStageAfterDenial, tagsNeededByStage}
 use Rattle.explain.proofs.Laws.{every-one}
 use Rattle.explain.proofs.is_complete.Statement.{statement}
 use Rattle.explain.proofs.is_complete.Tie as tie
 
 -- past the first two objects
 past : (c : tie.Else2) (stage : Stage) → let a = c .before .before .before .before .before .args in
-    a .stage ≡ stage → every (hasObject (a .bytes .now)) (stageNeeds (a .stage)) ≡ every (hasObject (a .bytes .now)) (tacOfStage stage)
+    a .stage ≡ stage → every (hasObject (a .bytes .now)) (tagsNeededByStage (a .stage)) ≡ every (hasObject (a .bytes .now)) (tacTagsOfStageAfterDenial stage)
 unfolding every
 past c stage e =
     let b = c .before .before .before .before .before .args .bytes .now in
-    both-true _ (held-is _ _ _ at-95 (c .before .before .before .is-there .ensures) (not-false _ (c .before .before .if1 .left)))
-    ∙ both-true _ (held-is _ _ _ at-DF8121 (c .before .is-there2 .ensures) (not-false _ (c .if2 .left)))
-    ∙ ap (λ (g : Stage). every (hasObject b) (tacOfStage g)) e
+    both-true _ (held-is _ _ _ at-95 (c .before .before .before .is-present .ensures) (not-false _ (c .before .before .if1 .left)))
+    ∙ both-true _ (held-is _ _ _ at-DF8121 (c .before .is-present2 .ensures) (not-false _ (c .if2 .left)))
+    ∙ ap (λ (g : Stage). every (hasObject b) (tacTagsOfStageAfterDenial g)) e
 
 returns : tie.Need-returns
 unfolding every
-returns c = sym (both-no-left _ _ (held-is _ _ _ at-95 (c .before .is-there .ensures) (not-true _ (c .if1 .taken))))
+returns c = sym (both-no-left _ _ (held-is _ _ _ at-95 (c .before .is-present .ensures) (not-true _ (c .if1 .taken))))
 
 returns-2 : tie.Need-returns-2
 unfolding every
-returns-2 c = sym (both-no-right _ _ (both-no-left _ _ (held-is _ _ _ at-DF8121 (c .before .is-there2 .ensures) (not-true _ (c .if2 .taken)))))
+returns-2 c = sym (both-no-right _ _ (both-no-left _ _ (held-is _ _ _ at-DF8121 (c .before .is-present2 .ensures) (not-true _ (c .if2 .taken)))))
 
 returns-3 : tie.Need-returns-3
 unfolding every
@@ -44,11 +44,11 @@ returns-4 c = sym (past (c .before .before) Stage.OnlineOnly (c .enum-told2 .giv
 
 returns-5 : tie.Need-returns-5
 returns-5 c =
-    there-by-row _ 0xDF8120 at-DF8120 (c .is-there3 .ensures) ∙ sym (past (c .before .before .before) Stage.Default (c .before .enum-told3 .given .1) ∙ every-one _ _)
+    there-by-row _ 0xDF8120 at-DF8120 (c .is-present3 .ensures) ∙ sym (past (c .before .before .before) Stage.Default (c .before .enum-told3 .given .1) ∙ every-one _ _)
 
 returns-6 : tie.Need-returns-6
 returns-6 c =
-    there-by-row _ 0xDF8122 at-DF8122 (c .is-there4 .ensures) ∙ sym (past (c .before .before .before) Stage.Online (c .before .enum-told4 .given .1) ∙ every-one _ _)
+    there-by-row _ 0xDF8122 at-DF8122 (c .is-present4 .ensures) ∙ sym (past (c .before .before .before) Stage.Online (c .before .enum-told4 .given .1) ∙ every-one _ _)
 
 pub is-complete-spec : {M : Type 1} → statement M
 is-complete-spec =

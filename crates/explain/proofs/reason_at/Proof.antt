@@ -5,35 +5,35 @@ use mathlib.Core.Path.{sym, ap, _∙_}
 use native.Mathlib.Omega.{arith}
 use Rattle.analysis.specs.declared.choice.ActionCodes.{ActionCodes}
 use Rattle.explain.specs.declared.Explanation.{Explanation}
-use Rattle.explain.specs.declared.Holder.{Holder}
-use Rattle.explain.specs.Explain.{bitHolder, actionCodesOfStage, explainedByBit, explainedAt}
+use Rattle.explain.specs.declared.ActionCodeHolder.{ActionCodeHolder}
+use Rattle.explain.specs.Explain.{actionCodeHolderOfBit, actionCodesOfStage, explanationByBit, explanationAtStage}
 use Rattle.explain.proofs.Laws.{found-at, bit-within}
 use Rattle.explain.proofs.reason_at.Statement.{statement}
 use Rattle.explain.proofs.reason_at.Tie as tie
 
 returns : tie.Need-returns
-unfolding explainedAt
+unfolding explanationAtStage
 returns c =
     let f = c .before .before in
     let a = f .before .before .before .before .args in
-    sym (ap (explainedByBit (a .stage) (actionCodesOfStage (a .bytes .now) (a .stage)))
-    (found-at _ (f .stage-bit .ensures) (f .before .result-in .ensures) _ (f .before .before .pair-at .ensures) (c .enum-told .given .1)))
+    sym (ap (explanationByBit (a .stage) (actionCodesOfStage (a .bytes .now) (a .stage)))
+    (found-at _ (f .lowest-tvr-bit-in-codes .ensures) (f .before .result-in .ensures) _ (f .before .before .pair-at .ensures) (c .enum-told .given .1)))
 
 cast-bit : tie.Need-cast-bit
 cast-bit c =
     let k = c .before .before in
-    omega (arith, bit-within _ _ (k .before .before .stage-bit .ensures) (k .i .given .1))
+    omega (arith, bit-within _ _ (k .before .before .lowest-tvr-bit-in-codes .ensures) (k .i .given .1))
 
 returns-2 : tie.Need-returns-2
-unfolding explainedAt
+unfolding explanationAtStage
 returns-2 c =
     let k = c .before .before in
     let f = k .before .before in
     let a = f .before .before .before .before .args in
-    ap (λ (h : Holder). Explanation.Forced (record { stage = a .stage; bit = k .i .given .0 .0; holder = h }))
-    (c .holder-of .ensures ∙ ap (λ (p : ActionCodes). bitHolder p (k .i .given .0 .0)) (f .before .before .pair-at .ensures))
-    ∙ sym (ap (explainedByBit (a .stage) (actionCodesOfStage (a .bytes .now) (a .stage)))
-    (found-at _ (f .stage-bit .ensures) (f .before .result-in .ensures) _ (f .before .before .pair-at .ensures) (k .i .given .1)))
+    ap (λ (h : ActionCodeHolder). Explanation.Forced (record { stage = a .stage; bit = k .i .given .0 .0; holder = h }))
+    (c .holder-of .ensures ∙ ap (λ (p : ActionCodes). actionCodeHolderOfBit p (k .i .given .0 .0)) (f .before .before .pair-at .ensures))
+    ∙ sym (ap (explanationByBit (a .stage) (actionCodesOfStage (a .bytes .now) (a .stage)))
+    (found-at _ (f .lowest-tvr-bit-in-codes .ensures) (f .before .result-in .ensures) _ (f .before .before .pair-at .ensures) (k .i .given .1)))
 
 pub reason-at-spec : {M : Type 1} → statement M
 reason-at-spec =

@@ -3,13 +3,13 @@
 use borrow.Author.Needs.{needs}
 use mathlib.Core.Path.{ap, subst⁻¹, _∙_}
 use Rattle.find.specs.Word.{findWord}
-use Rattle.find.specs.Inner.{SpanFits}
+use Rattle.find.specs.Inner.{FoundSpanWithin65535Bytes}
 use Rattle.find.proofs.InTree.{find-inside}
 use Rattle.find.proofs.find_word.Statement.{statement}
 use Rattle.find.proofs.find_word.Tie as tie
 
 word-requires : tie.Need-word-requires
-word-requires c κs = subst⁻¹ SpanFits (c .find .ensures .0) (find-inside _ _)
+word-requires c κs = subst⁻¹ FoundSpanWithin65535Bytes (c .find .ensures .0) (find-inside _ _)
 
 returns : tie.Need-returns
 returns c = c .word .ensures ∙ ap findWord (c .before .find .ensures .0)

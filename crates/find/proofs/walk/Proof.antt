@@ -7,15 +7,15 @@ use mathlib.Core.Path.{_≡_, refl, sym, _∙_}
 use Prim.Native.Nat.{_+_, _-_, _*_}
 use native.Mathlib.Omega.{arith}
 use lib.ListN.{length}
-use Rattle.tlv.specs.declared.Following.the-variants.{Inner}
-use Rattle.tlv.specs.Tree.{nextOf}
+use Rattle.tlv.specs.declared.NextInTemplate.the-variants.{Inner}
+use Rattle.tlv.specs.Tree.{nextInTemplate}
 use Rattle.find.proofs.Steps.{part, Reached, begin, done, failed, close, deep, leaf, push, bounds}
 use Rattle.find.proofs.walk.Statement.{statement}
 use Rattle.find.proofs.walk.Tie as tie
 use Rattle.find.proofs.walk.Reads as reads
 use Rattle.find.proofs.walk.Lts as lts
 use Rattle.find.proofs.first.Reads as first-reads
-use Rattle.tlv.proofs.behind_padding.Reads as next-reads
+use Rattle.tlv.proofs.next_behind_padding.Reads as next-reads
 
 abbrev Inv-loop : tie.InvT-loop
 Inv-loop bytes tag ends₀ depth₀ at₀ end₀ found₀ ends depth at end found = Reached bytes tag ends depth at end found
@@ -28,20 +28,20 @@ abbrev At-object : Type 0
 At-object = lts.After-following (next-reads.Asked, next-reads.Learnt, first-reads.Asked, first-reads.Learnt) reads.Pre reads.Post Inv-loop μ-loop
 
 next-at : (c : At-object)
-    → nextOf (part (c .before .before .before .before .before .before .args .bytes .now) (c .before .before .before .before .loop .at) (c .before .before .before .before .loop .end))
+    → nextInTemplate (part (c .before .before .before .before .before .before .args .bytes .now) (c .before .before .before .before .loop .at) (c .before .before .before .before .loop .end))
     ≡ Inner (c .following .given .0 .0)
-next-at c = sym (c .before .before .behind-padding .ensures) ∙ c .following .given .1
+next-at c = sym (c .before .before .next-behind-padding .ensures) ∙ c .following .given .1
 
 returns : tie.Need-returns Inv-loop μ-loop
-returns c = failed (c .before .before .before .before .loop .inv) (sym (c .before .before .behind-padding .ensures) ∙ c .enum-told .given .1)
+returns c = failed (c .before .before .before .before .loop .inv) (sym (c .before .before .next-behind-padding .ensures) ∙ c .enum-told .given .1)
 
 returns-2 : tie.Need-returns-2 Inv-loop μ-loop
 returns-2 c =
-    done (c .before .before .before .before .before .loop .inv) (sym (c .before .before .before .behind-padding .ensures) ∙ c .before .enum-told2 .given .1) (c .if1 .taken)
+    done (c .before .before .before .before .before .loop .inv) (sym (c .before .before .before .next-behind-padding .ensures) ∙ c .before .enum-told2 .given .1) (c .if1 .taken)
 
 loop-again : tie.Need-loop-again Inv-loop μ-loop
 loop-again c =
-    close (c .before .before .before .before .before .loop .inv) (sym (c .before .before .before .behind-padding .ensures) ∙ c .before .enum-told2 .given .1) (c .if1 .left)
+    close (c .before .before .before .before .before .loop .inv) (sym (c .before .before .before .next-behind-padding .ensures) ∙ c .before .enum-told2 .given .1) (c .if1 .left)
 
 returns-3 : tie.Need-returns-3 Inv-loop μ-loop
 returns-3 c =

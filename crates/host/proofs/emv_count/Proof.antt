@@ -4,7 +4,7 @@ use borrow.Author.Needs.{needs}
 use mathlib.Core.Path.{sym, ap, _∙_}
 use Rattle.layout.specs.Layout.{decodedSession}
 use Rattle.layout.proofs.Laws.{held-none}
-use Rattle.host.specs.Hosted.{countWord}
+use Rattle.host.specs.Hosted.{commandCountOrAllOnes}
 use Rattle.host.proofs.Laws.{counts-record}
 use Rattle.host.proofs.emv_count.Statement.{statement}
 use Rattle.host.proofs.emv_count.Tie as tie
@@ -12,13 +12,13 @@ use Rattle.host.proofs.emv_count.Tie as tie
 returns : tie.Need-returns
 returns c =
     let h = c .before .before in
-    sym (ap countWord (held-none (decodedSession (h .before .before .args .session .now)) (sym (h .head-in .ensures) ∙ c .enum-told .given .1)))
+    sym (ap commandCountOrAllOnes (held-none (decodedSession (h .before .before .args .session .now)) (sym (h .decode-record-head .ensures) ∙ c .enum-told .given .1)))
 
 returns-2 : tie.Need-returns-2
 returns-2 c =
     let t = c .before in
     let h = t .before .before .before in
-    c .widen32 .ensures .0 ∙ sym (counts-record (decodedSession (h .before .before .args .session .now)) _ (sym (h .head-in .ensures) ∙ t .before .held .given .1))
+    c .widen32 .ensures .0 ∙ sym (counts-record (decodedSession (h .before .before .args .session .now)) _ (sym (h .decode-record-head .ensures) ∙ t .before .held .given .1))
 
 pub emv-count-spec : {M : Type 1} → statement M
 emv-count-spec =

@@ -7,7 +7,7 @@ use Prim.Native.Nat.{ℕ}
 use Rattle.basics.proofs.Laws.{if-yes, if-no}
 use Rattle.session_record.specs.declared.Phase.{Phase}
 use Rattle.session_record.specs.Session.{sessionOf}
-use Rattle.layout.specs.Layout.{withSessionRecord}
+use Rattle.layout.specs.Layout.{sessionWrittenOverFrontIfRoom}
 use Rattle.host.proofs.emv_open.Statement.{statement}
 use Rattle.host.proofs.emv_open.Tie as tie
 
@@ -17,7 +17,7 @@ returns c =
     let m = k .before .before .before .before in
     record {
       word = sym (if-yes _ _ (sym (k .encode-record .ensures .enough) ∙ c .if1 .taken));
-      session = k .encode-record .ensures .bytes ∙ ap (λ (b : List ℕ). withSessionRecord (sessionOf Phase.Fresh 0 b) (m .before .before .args .session .now)) (m .empty .ensures);
+      session = k .encode-record .ensures .bytes ∙ ap (λ (b : List ℕ). sessionWrittenOverFrontIfRoom (sessionOf Phase.Fresh 0 b) (m .before .before .args .session .now)) (m .empty .ensures);
     }
 
 returns-2 : tie.Need-returns-2
@@ -26,7 +26,7 @@ returns-2 c =
     let m = k .before .before .before .before in
     record {
       word = c .refusal-word .ensures ∙ sym (if-no _ _ (sym (k .encode-record .ensures .enough) ∙ c .before .if1 .left));
-      session = k .encode-record .ensures .bytes ∙ ap (λ (b : List ℕ). withSessionRecord (sessionOf Phase.Fresh 0 b) (m .before .before .args .session .now)) (m .empty .ensures);
+      session = k .encode-record .ensures .bytes ∙ ap (λ (b : List ℕ). sessionWrittenOverFrontIfRoom (sessionOf Phase.Fresh 0 b) (m .before .before .args .session .now)) (m .empty .ensures);
     }
 
 pub emv-open-spec : {M : Type 1} → statement M

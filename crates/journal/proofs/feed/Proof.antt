@@ -7,14 +7,14 @@ use Prim.Native.Nat.{_-_}
 use borrow.Author.Tests.{not-true}
 use lib.ListN.{length, take}
 use lib.Seq.{take-all}
-use Rattle.journal.specs.Inner.{checkerPushedAll}
+use Rattle.journal.specs.Inner.{checkerAfterBytes}
 use Rattle.journal.proofs.Follow.{pushed-none, pushed-more, stays-all, fed}
 use borrow.Author.Needs.{needs}
 use Rattle.journal.proofs.feed.Statement.{statement}
 use Rattle.journal.proofs.feed.Tie as tie
 
 abbrev Inv-loop : tie.InvT-loop
-Inv-loop part next₀ i₀ next i = next ≡ checkerPushedAll next₀ (take i part)
+Inv-loop part next₀ i₀ next i = next ≡ checkerAfterBytes next₀ (take i part)
 
 abbrev μ-loop : tie.MeasureT-loop
 μ-loop part next₀ i₀ next i = length part - i

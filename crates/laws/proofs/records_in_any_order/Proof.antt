@@ -8,13 +8,13 @@ use lib.ListN.{length}
 use Rattle.dol.proofs.Fitting.{padded-twice, fitted-twice}
 use Rattle.dol.proofs.Filling.{filled-join}
 use Rattle.laws.proofs.Contents.{contents-agree}
-use Rattle.laws.specs.Lists.{PaddedOnce}
+use Rattle.laws.specs.Lists.{FittingTwiceIsFittingOnce}
 use Rattle.laws.proofs.Answers.{answers-agree, whole, accepted-whole}
 use Rattle.laws.proofs.Room.{room, most-held}
 use Rattle.laws.proofs.records_in_any_order.Statement.{statement}
 use Rattle.laws.proofs.records_in_any_order.Tie as tie
 
-padded-once : (form m n : ℕ) (v : List ℕ) → length v ≤ m → m ≤ n → PaddedOnce form m n v
+padded-once : (form m n : ℕ) (v : List ℕ) → length v ≤ m → m ≤ n → FittingTwiceIsFittingOnce form m n v
 padded-once form m n v h k = record { padding = padded-twice form m n v h k; fitting = fitted-twice form m n v h k }
 
 returns : tie.Need-returns

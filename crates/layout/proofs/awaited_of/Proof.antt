@@ -4,20 +4,20 @@ use borrow.Author.Needs.{needs}
 use borrow.Author.Tests.{eq-eqb, ne-eqb}
 use mathlib.Core.Path.{sym, _∙_}
 use Rattle.basics.proofs.Laws.{if-yes, if-no}
-use Rattle.layout.specs.Layout.{awaitedOfCode}
+use Rattle.layout.specs.Layout.{awaitedOfPhaseFields}
 use Rattle.layout.proofs.awaited_of.Statement.{statement}
 use Rattle.layout.proofs.awaited_of.Tie as tie
 
 returns : tie.Need-returns
-unfolding awaitedOfCode
+unfolding awaitedOfPhaseFields
 returns c = sym (if-yes _ _ (eq-eqb _ _ (c .if1 .taken)))
 
 returns-2 : tie.Need-returns-2
-unfolding awaitedOfCode
+unfolding awaitedOfPhaseFields
 returns-2 c = sym (if-no _ _ (ne-eqb _ _ (c .before .if1 .left)) ∙ if-yes _ _ (eq-eqb _ _ (c .if2 .taken)))
 
 returns-3 : tie.Need-returns-3
-unfolding awaitedOfCode
+unfolding awaitedOfPhaseFields
 returns-3 c =
     let k = c .before .before in
     rw (c .before .choice-from .ensures, c .cvm-from .ensures)
@@ -25,7 +25,7 @@ returns-3 c =
     ∙ if-yes _ _ (eq-eqb _ _ (k .if3 .taken)))))
 
 returns-4 : tie.Need-returns-4
-unfolding awaitedOfCode
+unfolding awaitedOfPhaseFields
 returns-4 c =
     sym (if-no _ _ (ne-eqb _ _ (c .before .before .if1 .left)) ∙ (if-no _ _ (ne-eqb _ _ (c .before .if2 .left))
     ∙ if-no _ _ (ne-eqb _ _ (c .if3 .left))))

@@ -3,8 +3,8 @@
 use borrow.Author.Needs.{needs}
 use mathlib.Core.Path.{ap, _∙_}
 use lib.ListN.{getD}
-use Rattle.basics.specs.Number.{bigEndian}
-use Rattle.layout.specs.Layout.{phaseCode}
+use Rattle.basics.specs.Number.{bigEndianNumber}
+use Rattle.layout.specs.Layout.{phaseFields}
 use Rattle.layout.proofs.code_in.Statement.{statement}
 use Rattle.layout.proofs.code_in.Tie as tie
 
@@ -12,7 +12,7 @@ returns : tie.Need-returns
 returns c =
     let f = c .before .before .before .before in
     let l = f .before .before .before .args .bytes .now in
-    ap (phaseCode (getD l 1 0) (getD l 2 0) (getD l 3 0) (getD l 5 0)) (f .limit-from .ensures ∙ ap bigEndian (f .before .limit-in .ensures))
+    ap (phaseFields (getD l 1 0) (getD l 2 0) (getD l 3 0) (getD l 5 0)) (f .limit-from .ensures ∙ ap bigEndianNumber (f .before .limit-in .ensures))
 
 pub code-in-spec : {M : Type 1} → statement M
 code-in-spec =

@@ -5,28 +5,28 @@ use borrow.Author.Tests.{ne-eqb}
 use mathlib.Core.Path.{sym, ap, _∙_}
 use Rattle.basics.specs.Choice.{if}
 use Rattle.basics.proofs.Laws.{if-no}
-use Rattle.layout.specs.Layout.{withNumber, outcomeFrom}
+use Rattle.layout.specs.Layout.{elementWithNumber, outcomeOfNumber}
 use Rattle.layout.proofs.outcome_from.Statement.{statement}
 use Rattle.layout.proofs.outcome_from.Tie as tie
 
 returns : tie.Need-returns
-unfolding withNumber if
-returns c = sym (ap outcomeFrom (c .match .keys1))
+unfolding elementWithNumber if
+returns c = sym (ap outcomeOfNumber (c .match .keys1))
 
 returns-2 : tie.Need-returns-2
-unfolding withNumber if
-returns-2 c = sym (ap outcomeFrom (c .match .keys2))
+unfolding elementWithNumber if
+returns-2 c = sym (ap outcomeOfNumber (c .match .keys2))
 
 returns-3 : tie.Need-returns-3
-unfolding withNumber if
-returns-3 c = sym (ap outcomeFrom (c .match .keys3))
+unfolding elementWithNumber if
+returns-3 c = sym (ap outcomeOfNumber (c .match .keys3))
 
 returns-4 : tie.Need-returns-4
-unfolding withNumber if
-returns-4 c = sym (ap outcomeFrom (c .match .keys4))
+unfolding elementWithNumber if
+returns-4 c = sym (ap outcomeOfNumber (c .match .keys4))
 
 returns-5 : tie.Need-returns-5
-unfolding withNumber
+unfolding elementWithNumber
 returns-5 c =
     let r = c .match .rest in
     sym (if-no _ _ (ne-eqb _ _ (r .0 .0 .0 .1)) ∙ (if-no _ _ (ne-eqb _ _ (r .0 .0 .1)) ∙ (if-no _ _ (ne-eqb _ _ (r .0 .1)) ∙ if-no _ _ (ne-eqb _ _ (r .1)))))

@@ -4,22 +4,22 @@ use borrow.Author.Needs.{needs}
 use borrow.Author.Tests.{eq-eqb, ne-eqb}
 use mathlib.Core.Path.{sym, _∙_}
 use Rattle.basics.proofs.Laws.{if-yes, if-no}
-use Rattle.layout.specs.Layout.{phaseOfCode}
+use Rattle.layout.specs.Layout.{phaseOfPhaseFields}
 use Rattle.layout.proofs.phase_of.Statement.{statement}
 use Rattle.layout.proofs.phase_of.Tie as tie
 
 returns : tie.Need-returns
-unfolding phaseOfCode
+unfolding phaseOfPhaseFields
 returns c = sym (if-yes _ _ (eq-eqb _ _ (c .if1 .taken)))
 
 returns-2 : tie.Need-returns-2
-unfolding phaseOfCode
+unfolding phaseOfPhaseFields
 returns-2 c =
     rw (c .outcome-from .ensures)
     (sym (if-no _ _ (ne-eqb _ _ (c .before .before .if1 .left)) ∙ if-yes _ _ (eq-eqb _ _ (c .before .if2 .taken))))
 
 returns-3 : tie.Need-returns-3
-unfolding phaseOfCode
+unfolding phaseOfPhaseFields
 returns-3 c =
     rw (c .awaited-of .ensures)
     (sym (if-no _ _ (ne-eqb _ _ (c .before .before .if1 .left)) ∙ if-no _ _ (ne-eqb _ _ (c .before .if2 .left))))

@@ -7,7 +7,7 @@ use native.Mathlib.Omega.{arith}
 use native.Mathlib.Nat.{mod-lt}
 use lib.ListN.{length}
 use Rattle.basics.specs.Number.{nibbles}
-use Rattle.mag_stripe.specs.Bitmap.{bitmapPlaces}
+use Rattle.mag_stripe.specs.Bitmap.{bitmapPlacesFromOne}
 use Rattle.mag_stripe.proofs.Nibbles.{length-nibbles}
 use Rattle.mag_stripe.proofs.Writing.{Copying, copying-start, copying-one, copying-some, copying-place, copying-end}
 use Rattle.mag_stripe.proofs.copy.Statement.{statement}
@@ -15,7 +15,7 @@ use Rattle.mag_stripe.proofs.copy.Tie as tie
 
 abbrev Inv-loop : tie.InvT-loop
 Inv-loop track₀ end bitmap count number base rest₀ left₀ copied₀ track rest left copied =
-    (length track ≡ length track₀) × Copying end base number count (bitmapPlaces bitmap) (nibbles track₀) copied left (bitmapPlaces rest) (nibbles track)
+    (length track ≡ length track₀) × Copying end base number count (bitmapPlacesFromOne bitmap) (nibbles track₀) copied left (bitmapPlacesFromOne rest) (nibbles track)
 
 abbrev μ-loop : tie.MeasureT-loop
 μ-loop track₀ end bitmap count number base rest₀ left₀ copied₀ track rest left copied = count - copied

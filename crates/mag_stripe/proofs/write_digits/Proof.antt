@@ -8,8 +8,8 @@ use native.Mathlib.Omega.{arith}
 use lib.ListN.{length, length-drop}
 use Rattle.basics.specs.Number.{nibbles}
 use Rattle.mag_stripe.specs.declared.DiscretionaryData.{DiscretionaryData}
-use Rattle.mag_stripe.specs.Bitmap.{bitmapPlaces}
-use Rattle.mag_stripe.specs.Digits.{trackDigits, digitsWritten}
+use Rattle.mag_stripe.specs.Bitmap.{bitmapPlacesFromOne}
+use Rattle.mag_stripe.specs.Digits.{trackDigits, placedDigitsWrittenBeforeEnd}
 use Rattle.mag_stripe.proofs.Nibbles.{length-nibbles}
 use Rattle.mag_stripe.proofs.Sound.{Sound, sound-gives, Room, room}
 use Rattle.mag_stripe.proofs.Writing.{upTo-drop, all-written}
@@ -54,7 +54,7 @@ copy-requires-3 c κs =
     let q = k₁ .before .before .before in
     let r = has-room q in
     let n = q .bit-count2 .result - q .before .widen .result in
-    let ps = bitmapPlaces (at-start q .args .bitmaps .punatc) in
+    let ps = bitmapPlacesFromOne (at-start q .args .bitmaps .punatc) in
     let rest = k₂ .copy2 .ensures .0 in
     (omega (arith, ap length rest ∙ length-drop n ps, q .bit-count2 .ensures, q .before .widen .ensures, is-sound q .counter),
      ((longer _ _ _ (k₂ .copy2 .kept .0 ∙ k₁ .copy .kept .0) (r .inside), rw rest (upTo-drop _ n ps (r .number))), (omega arith, omega arith)))
@@ -95,11 +95,11 @@ returns c =
     all-written (a .bitmaps) (a .values) (q .before .before .before .discretionary-of .result .end)
     (q .before .before .bit-count .result) (q .bit-count2 .result - q .before .widen .result) (q .before .widen .result)
     (nibbles (a .track .now)) (nibbles (k₁ .copy .last .0)) (nibbles (k₂ .copy2 .last .0)) (nibbles (k₃ .copy3 .last .0))
-    (nibbles (p .put-nibble .last .0)) (bitmapPlaces (k₂ .copy2 .result))
+    (nibbles (p .put-nibble .last .0)) (bitmapPlacesFromOne (k₂ .copy2 .result))
     (q .before .before .bit-count .ensures .0) (omega (arith, q .bit-count2 .ensures, q .before .widen .ensures)) (q .before .widen .ensures .0)
     (is-sound q .counter)
     (k₁ .copy .ensures .1) (k₂ .copy2 .ensures .1) (k₂ .copy2 .ensures .0) (k₃ .copy3 .ensures .1) (p .put-nibble .ensures)
-    ∙ ap (λ (d : DiscretionaryData). digitsWritten (d .end) (trackDigits (a .bitmaps) (a .values)) (nibbles (a .track .now)))
+    ∙ ap (λ (d : DiscretionaryData). placedDigitsWrittenBeforeEnd (d .end) (trackDigits (a .bitmaps) (a .values)) (nibbles (a .track .now)))
     (q .before .before .before .discretionary-of .ensures)
 
 pub write-digits-spec : {M : Type 1} → statement M

@@ -3,8 +3,8 @@
 use borrow.Author.Needs.{needs}
 use mathlib.Core.Path.{sym, ap, _∙_}
 use mathlib.Core.Bool.{Bool}
-use Rattle.personalise.specs.Outcome.{cardPlan, recordsAfter, aflAfter}
-use Rattle.personalise.specs.Word.{personaliseWord, isWrittenWord}
+use Rattle.personalise.specs.Outcome.{cardPlan, recordsBufferAfter, aflBufferAfter}
+use Rattle.personalise.specs.Word.{personaliseWord, isPersonaliseWordOfWritten}
 use Rattle.personalise.proofs.Stages.{says-written}
 use Rattle.personalise.proofs.emv_personalise.Statement.{statement}
 use Rattle.personalise.proofs.emv_personalise.Tie as tie
@@ -14,10 +14,10 @@ returns c =
     let p = c .before .before .before .before .before in
     let a = p .before .before .before .before .before .before .before .before .args in
     let q = p .personalise .ensures in
-    let w = sym (ap isWrittenWord (c .word .ensures) ∙ says-written (p .personalise .result) (q .1 .1 .1 .0)) in (
+    let w = sym (ap isPersonaliseWordOfWritten (c .word .ensures) ∙ says-written (p .personalise .result) (q .1 .1 .1 .0)) in (
       c .word .ensures ∙ ap personaliseWord (q .0),
-      (q .1 .0 ∙ ap (λ (b : Bool). recordsAfter b (cardPlan (a .objects .now) (a .entries .now) (a .placements .now)) (a .records .now)) w,
-      q .1 .1 .0 ∙ ap (λ (b : Bool). aflAfter b (a .entries .now) (a .afl .now)) w),
+      (q .1 .0 ∙ ap (λ (b : Bool). recordsBufferAfter b (cardPlan (a .objects .now) (a .entries .now) (a .placements .now)) (a .records .now)) w,
+      q .1 .1 .0 ∙ ap (λ (b : Bool). aflBufferAfter b (a .entries .now) (a .afl .now)) w),
     )
 
 pub emv-personalise-spec : {M : Type 1} → statement M

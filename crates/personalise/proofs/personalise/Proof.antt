@@ -11,9 +11,9 @@ use lib.ListN.{getD}
 use Rattle.personalise.specs.Placements.{placementsIn}
 use Rattle.personalise.specs.declared.PersonaliseResult.{PersonaliseResult}
 use Rattle.personalise.specs.declared.PersonaliseResult.the-variants.{ShortRecords, ShortAfl, BadList}
-use Rattle.personalise.specs.Outcome.{CardPlan, cardPlan, personaliseResult, recordsAfter, aflAfter}
-use Rattle.personalise.specs.Word.{SmallResult, isWritten}
-use Rattle.personalise.specs.Read.{CardHoldsIfWritten}
+use Rattle.personalise.specs.Outcome.{CardPlan, cardPlan, personaliseResult, recordsBufferAfter, aflBufferAfter}
+use Rattle.personalise.specs.Word.{PersonaliseFieldsWithinBounds, isWritten}
+use Rattle.personalise.specs.Read.{CardReadsBackAsObjectsIfWritten}
 use Rattle.personalise.proofs.Holding.{holds}
 use Rattle.personalise.proofs.Stages.{short-records, short-afl, bad-list, good-list, usable, records-stay, afl-stays, small}
 use Rattle.personalise.proofs.personalise.Statement.{statement}
@@ -21,9 +21,9 @@ use Rattle.personalise.proofs.personalise.Tie as tie
 
 -- an answer and two buffers that are those of the definition promise the rest
 promise : (p : CardPlan) (r l : List ℕ) → ((i : ℕ) → getD (p .placements) i 0 < 256) → (a : PersonaliseResult) (x y : List ℕ)
-    → a ≡ personaliseResult p r l → x ≡ recordsAfter (isWritten a) p r → y ≡ aflAfter (isWritten a) (p .entries) l
-    → (a ≡ personaliseResult p r l) × ((x ≡ recordsAfter (isWritten a) p r) × ((y ≡ aflAfter (isWritten a) (p .entries) l) × (SmallResult a × CardHoldsIfWritten p a x y)))
-promise p r l b a x y e f g = (e, (f, (g, (subst SmallResult (sym e) (small p r l), holds p r l b a e x y f g))))
+    → a ≡ personaliseResult p r l → x ≡ recordsBufferAfter (isWritten a) p r → y ≡ aflBufferAfter (isWritten a) (p .entries) l
+    → (a ≡ personaliseResult p r l) × ((x ≡ recordsBufferAfter (isWritten a) p r) × ((y ≡ aflBufferAfter (isWritten a) (p .entries) l) × (PersonaliseFieldsWithinBounds a × CardReadsBackAsObjectsIfWritten p a x y)))
+promise p r l b a x y e f g = (e, (f, (g, (subst PersonaliseFieldsWithinBounds (sym e) (small p r l), holds p r l b a e x y f g))))
 
 returns : tie.Need-returns
 returns c =

@@ -5,7 +5,7 @@ use borrow.Author.Needs.{needs}
 use mathlib.Core.Path.{sym, _∙_}
 use native.Mathlib.Omega.{arith}
 use Rattle.personalise.specs.Placements.{placementsIn}
-use Rattle.personalise.specs.Objects.{listedObjects}
+use Rattle.personalise.specs.Objects.{parsedObjectsOrEmpty}
 use Rattle.personalise.specs.Outcome.{cardPlan}
 use Rattle.personalise.proofs.Rules.{afl-most, total-most}
 use Rattle.personalise.proofs.Least.{fitting-of}
@@ -23,7 +23,7 @@ write-all-requires c κs =
     let m = total-most (a .entries .now) (st .pre .1 .1) in
     let e = k .count-records .ensures .0 in
     (st .pre .0, (st .pre .1 .0, ((e, omega (arith, m, e), omega (arith, afl-most (a .entries .now) (st .pre .1 .1))),
-      fitting-of (listedObjects (a .objects .now)) (placementsIn (a .placements .now)) (k .count-records .result) (sym (b .bad-record .ensures) ∙ n .enum-told .given .1) (omega (arith, m, e)))))
+      fitting-of (parsedObjectsOrEmpty (a .objects .now)) (placementsIn (a .placements .now)) (k .count-records .result) (sym (b .bad-record .ensures) ∙ n .enum-told .given .1) (omega (arith, m, e)))))
 
 returns : tie.Need-returns
 returns c =

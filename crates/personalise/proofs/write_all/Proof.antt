@@ -7,13 +7,13 @@ use Prim.Native.Nat.{ℕ}
 use native.Mathlib.Nat.{zero-add}
 use native.Mathlib.Omega.{arith}
 use lib.ListN.{length}
-use Rattle.basics.specs.Front.{withPrefix}
+use Rattle.basics.specs.Front.{writtenOverFront}
 use Rattle.basics.proofs.Laws.{if-yes}
 use Rattle.afl.specs.Records.{aflRecordCount}
 use Rattle.personalise.specs.declared.PersonaliseResult.the-variants.{Written}
 use Rattle.personalise.specs.Placements.{placementsIn}
-use Rattle.personalise.specs.Objects.{listedObjects}
-use Rattle.personalise.specs.Inner.{firstRecordsBytes}
+use Rattle.personalise.specs.Objects.{parsedObjectsOrEmpty}
+use Rattle.personalise.specs.Inner.{concatenatedFirstRecords}
 use Rattle.personalise.proofs.Over.{over-front}
 use Rattle.personalise.proofs.Stages.{afl-copied}
 use Rattle.personalise.proofs.write_all.Statement.{statement}
@@ -32,10 +32,10 @@ returns c =
     let st = w .before .before .before .before .before .before .before in
     let a = st .args in
     let q = w .put-records .ensures in
-    let b : ℕ → List ℕ = λ n. firstRecordsBytes (listedObjects (a .objects .now)) (placementsIn (a .placements .now)) n in
+    let b : ℕ → List ℕ = λ n. concatenatedFirstRecords (parsedObjectsOrEmpty (a .objects .now)) (placementsIn (a .placements .now)) n in
     let e : b (a .count) ≡ b (aflRecordCount (a .entries .now)) = ap b (st .pre .1 .1 .0 .0) in (
       ap (λ (n : ℕ). Written (record { records = n; afl = length (a .entries .now) })) (q .next ∙ zero-add _ ∙ ap length e),
-      (q .wrote ∙ over-front (a .records .now) (b (a .count)) ∙ ap (λ (v : List ℕ). withPrefix v (a .records .now)) e ∙ sym (if-yes _ _ refl),
+      (q .wrote ∙ over-front (a .records .now) (b (a .count)) ∙ ap (λ (v : List ℕ). writtenOverFront v (a .records .now)) e ∙ sym (if-yes _ _ refl),
       afl-copied (a .entries .now) (a .afl .now) _ (k .copy .ensures .1)),
     )
 

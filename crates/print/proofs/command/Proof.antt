@@ -5,7 +5,7 @@ use lib.ListN.{length-take}
 use Rattle.print.proofs.command.Statement.{statement}
 use Rattle.print.proofs.command.Tie as tie
 
-slice-aggregate-bytes : tie.Need-slice-aggregate-bytes
+slice-aggregate-bytes : tie.Need-slice-aggregate-print-bytes
 slice-aggregate-bytes c = simp length-take (omega arith)
 
 pub command-spec : {M : Type 1} → statement M

@@ -8,8 +8,8 @@ use Prim.Native.Nat.{ℕ, _-_, _<_}
 use native.Mathlib.Omega.{arith}
 use lib.ListN.{length}
 use Rattle.tlv.specs.Tree.{parseTree}
-use Rattle.reading.specs.declared.Walked.{Walked}
-use Rattle.reading.specs.Items.{HasListed, Walks}
+use Rattle.reading.specs.declared.TemplateWalkResult.{TemplateWalkResult}
+use Rattle.reading.specs.Items.{WalkListedItems, WalkListsTree}
 use Rattle.reading.proofs.Items.{part}
 use Rattle.reading.proofs.Runs.{Run, Next, has-listed, stops, ended, padding, failed, bounds, small, list-length}
 use Rattle.reading.proofs.Runs.{deep, number-fits, room}
@@ -35,8 +35,8 @@ walk-below t = and 2 walk-kinds.ps (falls 2 walk-kinds.ps _<_ μ-walk t) walk.Pr
 
 abbrev Inv : walk-lts.InvT-loop
 Inv bytes around levels items₀ end at₀ n₀ k₀ items at n k =
-    Run bytes end end levels around (λ (r : Walked) (l : List ℕ). HasListed bytes l r)
-    (Walks bytes around (parseTree levels (part bytes at₀ end)) n₀ k₀ items₀) at n k items
+    Run bytes end end levels around (λ (r : TemplateWalkResult) (l : List ℕ). WalkListedItems bytes l r)
+    (WalkListsTree bytes around (parseTree levels (part bytes at₀ end)) n₀ k₀ items₀) at n k items
 
 abbrev μ : walk-lts.MeasureT-loop
 μ bytes around levels items₀ end at₀ n₀ k₀ items at n k = end - at

@@ -16,7 +16,7 @@ returns c = let st = c .before .before .before in
 returns-2 : tie.Need-returns-2
 returns-2 c =
     let st = c .before .before .before .before in
-    ap (λ (n : ℕ). leb n 1) (c .length-byte .ensures)
+    ap (λ (n : ℕ). leb n 1) (c .length-plus-one-or-zero .ensures)
         ∙ unmarked (st .args .store .now) (st .args .filled .now) (st .args .row) (st .pre .0) (st .pre .1)
         (c .before .if1 .left)
 

@@ -22,9 +22,9 @@ returns c = said-unknown _ _ _ (c .before .before .before .before .tag-in .ensur
 row-at : (o : tie.After-known-told) → o .before .found .given .0 .0 < rowCount
 row-at o = row-found _ (sym (o .before .before .before .find-row .ensures .0) ∙ o .before .found .given .1)
 
-attributes-at : (o : tie.After-unpacked)
-    → o .unpacked .result ≡ attributesOf (rowAt (o .before .before .before .found .given .0 .0))
-attributes-at o = o .unpacked .ensures
+attributes-at : (o : tie.After-unpack-row-attributes)
+    → o .unpack-row-attributes .result ≡ attributesOf (rowAt (o .before .before .before .found .given .0 .0))
+attributes-at o = o .unpack-row-attributes .ensures
     ∙ lent-row (o .before .before .before .before .before .before .before .before .before .pre .1 .1 .codes)
     (row-at (o .before .before))
 

@@ -32,8 +32,8 @@ judge-item-requires c κs =
     let p = c .before .before .before .before .before .before .before .before .before .pre in
     (next-inside (p .0 .1) (c .before .before .before .before .loop .inv)
         (c .before .before .before .loop-test .taken),
-        (p .1, record { tags = c .before .before .before .before .before .before .tags .ensures;
-        codes = c .before .before .before .before .before .codes .ensures }))
+        (p .1, record { tags = c .before .before .before .before .before .before .dictionary-tags .ensures;
+        codes = c .before .before .before .before .before .packed-row-attributes .ensures }))
 
 is-free-requires : tie.Need-is-free-requires Inv-loop μ-loop
 is-free-requires c κs = let o = c .before .before .before .before in

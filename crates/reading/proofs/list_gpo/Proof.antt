@@ -7,11 +7,11 @@ use Prim.Native.Nat.{ℕ, _+_, _-_, _%_, _≤_}
 use native.Mathlib.Omega.{arith}
 use lib.ListN.{length, take, drop, set}
 use Rattle.reading.specs.declared.Awaited.the-variants.{Gpo}
-use Rattle.reading.specs.declared.Listing.the-variants.{Objects}
+use Rattle.reading.specs.declared.ItemListing.the-variants.{Objects}
 use Rattle.reading.specs.Taking.{PrimitiveItem, primitiveItem}
-use Rattle.reading.specs.Items.{packedItem, mostItems, tally}
-use Rattle.reading.specs.Answer.{gpoParts}
-use Rattle.reading.specs.Inner.{ListsParts}
+use Rattle.reading.specs.Items.{packedItem, mostListedItems, tally}
+use Rattle.reading.specs.Answer.{gpoItemsUnder80}
+use Rattle.reading.specs.Inner.{ListingGivesPrimitiveBodyReading}
 use Rattle.reading.proofs.Parts.{gpo-short, gpo-long, gpo-uneven, gpo-whole}
 use Rattle.reading.proofs.Stages.{set-room, front-part, last-part, parts-none, parts-some}
 use Rattle.reading.proofs.list_gpo.Statement.{statement}
@@ -20,14 +20,14 @@ use Rattle.reading.proofs.list_gpo.Tie as tie
 abbrev parts : List ℕ → List PrimitiveItem
 parts v = primitiveItem 0x77 0x82 (take 2 v) ∷ primitiveItem 0x77 0x94 (drop 2 v) ∷ []
 
-listed : (l : List ℕ) (start n : ℕ) → length l ≡ mostItems → 2 ≤ start → start + n ≤ 256 → {x y : ℕ}
+listed : (l : List ℕ) (start n : ℕ) → length l ≡ mostListedItems → 2 ≤ start → start + n ≤ 256 → {x y : ℕ}
     → x ≡ packedItem 0x82 0x77 start 2
     → y ≡ packedItem 0x94 0x77 (start + 2) (n - 2) → 6 ≤ n → n ≤ 250 → (n - 2) % 4 ≡ 0
-    → ListsParts Gpo gpoParts start n (Objects (tally 1 2)) (set (set l 0 x) 1 y)
-        × (length (set (set l 0 x) 1 y) ≡ mostItems)
+    → ListingGivesPrimitiveBodyReading Gpo gpoItemsUnder80 start n (Objects (tally 1 2)) (set (set l 0 x) 1 y)
+        × (length (set (set l 0 x) 1 y) ≡ mostListedItems)
 listed l start n e a b {x} {y} p q m k u =
     (rw (p, q)
-    (parts-some Gpo gpoParts start n _ 2 parts
+    (parts-some Gpo gpoItemsUnder80 start n _ 2 parts
         (λ v z. gpo-whole v (omega arith) (omega arith) (ap (λ (i : ℕ). (i - 2) % 4) z ∙ u))
     (λ s i. last-part s start n a b i (front-part s start n a b i l e 0x82 2 (omega arith)) 0x94 2 (omega arith)
         (omega arith))),
@@ -35,17 +35,17 @@ listed l start n e a b {x} {y} p q m k u =
 
 returns : tie.Need-returns
 returns c =
-    (parts-none Gpo gpoParts _ _ _ (λ v e. gpo-short v (omega (arith, c .before .if1 .taken))) (c .decided .ensures),
+    (parts-none Gpo gpoItemsUnder80 _ _ _ (λ v e. gpo-short v (omega (arith, c .before .if1 .taken))) (c .decided .ensures),
     c .before .before .pre .0)
 
 returns-2 : tie.Need-returns-2
 returns-2 c =
-    (parts-none Gpo gpoParts _ _ _ (λ v e. gpo-long v (omega (arith, c .before .if2 .taken))) (c .decided2 .ensures),
+    (parts-none Gpo gpoItemsUnder80 _ _ _ (λ v e. gpo-long v (omega (arith, c .before .if2 .taken))) (c .decided2 .ensures),
     c .before .before .before .pre .0)
 
 returns-3 : tie.Need-returns-3
 returns-3 c =
-    (parts-none Gpo gpoParts _ _ _
+    (parts-none Gpo gpoItemsUnder80 _ _ _
         (λ v e. gpo-uneven v (λ z. c .before .if3 .taken (ap (λ (k : ℕ). (k - 2) % 4) (sym e) ∙ z)))
         (c .decided3 .ensures), c .before .before .before .before .pre .0)
 

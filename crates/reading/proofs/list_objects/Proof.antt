@@ -3,7 +3,7 @@
 -- Assumes nothing.
 use borrow.Author.Needs.{needs}
 use native.Mathlib.Omega.{arith}
-use Rattle.reading.specs.Items.{itemsOf}
+use Rattle.reading.specs.Items.{unpackedItems}
 use Rattle.reading.proofs.Stages.{template-listed}
 use Rattle.reading.proofs.list_objects.Statement.{statement}
 use Rattle.reading.proofs.list_objects.Tie as tie
@@ -26,7 +26,7 @@ returns : tie.Need-returns
 returns c = let o = c .before .before .before .open .ensures in (rw (c .before .opened .given .1) at (o .0), o .1)
 
 returns-2 : tie.Need-returns-2
-unfolding itemsOf
+unfolding unpackedItems
 returns-2 c =
     let i = rw (c .before .before .before .before .before .opened2 .given .1) at
         (c .before .before .before .before .before .before .before .open .ensures .0) in

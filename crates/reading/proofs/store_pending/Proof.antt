@@ -8,8 +8,8 @@ use native.Mathlib.Omega.{arith}
 use lib.ListN.{length, getD, take, drop}
 use Rattle.dictionary.specs.Rows.{dictionaryRows, storeSize}
 use Rattle.store.specs.Place.{putRow}
-use Rattle.reading.specs.Items.{valueIn}
-use Rattle.reading.specs.Pending.{pendingRow, withPending, PendingFits}
+use Rattle.reading.specs.Items.{packedItemValueIn}
+use Rattle.reading.specs.Pending.{pendingEntryRow, storeWithPending, PendingEntryFitsRowAndBytes}
 use Rattle.reading.proofs.Items.{code-value}
 use Rattle.reading.proofs.Pending.{after-none, value-fits, value-most, after-one}
 use Rattle.reading.proofs.store_pending.Statement.{statement}
@@ -17,14 +17,14 @@ use Rattle.reading.proofs.store_pending.Tie as tie
 
 abbrev Inv-loop : tie.InvT-loop
 Inv-loop store₀ bytes pending n i₀ store i = (i ≤ n)
-    × ((length store ≡ storeSize) × (store ≡ withPending bytes store₀ (take i pending)))
+    × ((length store ≡ storeSize) × (store ≡ storeWithPending bytes store₀ (take i pending)))
 
 abbrev μ-loop : tie.MeasureT-loop
 μ-loop store₀ bytes pending n i₀ store i = n - i
 
 -- the next value fits its row and lies in the bytes
 fits-at : (o : tie.After-row-in Inv-loop μ-loop)
-    → PendingFits (o .before .before .before .before .before .before .before .before .before .args .bytes .now)
+    → PendingEntryFitsRowAndBytes (o .before .before .before .before .before .before .before .before .before .args .bytes .now)
     (getD (o .before .before .before .before .before .before .before .before .before .args .pending .now)
     (o .before .before .before .before .before .before .loop .i) 0)
 fits-at o = value-fits _ _ _ (o .before .before .before .before .before .before .before .before .before .pre .1)
@@ -41,7 +41,7 @@ ends-at o = let f = fits-at o .inside in
 value-at : (o : tie.After-row-in Inv-loop μ-loop) → let a = o .before .before .before .start-in .result in
     take (a + o .before .before .len-in .result - a)
         (drop a (o .before .before .before .before .before .before .before .before .before .args .bytes .now)) ≡
-        valueIn (o .before .before .before .before .before .before .before .before .before .args .bytes .now)
+        packedItemValueIn (o .before .before .before .before .before .before .before .before .before .args .bytes .now)
         (getD (o .before .before .before .before .before .before .before .before .before .args .pending .now)
         (o .before .before .before .before .before .before .loop .i) 0)
 value-at o = code-value _ _ _ _ (o .before .before .before .start-in .ensures .0)
@@ -62,7 +62,7 @@ loop-again c =
     let p = c .before .before .put .ensures in
     (omega (arith, o .before .before .before .before .before .loop-test .taken), (p .1,
     p .0 ∙ ap₂ (putRow dictionaryRows _) (o .row-in .ensures) (value-at o) 
-    ∙ ap (λ (b : List ℕ). putRow dictionaryRows b (pendingRow x) (valueIn (a .bytes .now) x))
+    ∙ ap (λ (b : List ℕ). putRow dictionaryRows b (pendingEntryRow x) (packedItemValueIn (a .bytes .now) x))
         (o .before .before .before .before .before .before .loop .inv .1 .1)
     ∙ after-one _ (a .store .now) _ _
         (o .before .before .before .before .before .before .before .before .before .pre .1)
@@ -74,7 +74,7 @@ returns c =
     let a = c .before .before .before .before .args in
     let lp = c .before .loop in
     let e : lp .i ≡ a .n = omega (arith, c .loop-test .left) in
-    (lp .inv .1 .1 ∙ ap (λ (i : ℕ). withPending (a .bytes .now) (a .store .now) (take i (a .pending .now))) e,
+    (lp .inv .1 .1 ∙ ap (λ (i : ℕ). storeWithPending (a .bytes .now) (a .store .now) (take i (a .pending .now))) e,
         lp .inv .1 .0)
 
 pub store-pending-spec : {M : Type 1} → statement M

@@ -12,10 +12,10 @@ use Rattle.command.specs.ReadRecord.{readRecordCommand}
 use Rattle.session_record.proofs.Tags.{located-no, located-yes}
 use Rattle.session_record.specs.Ranges.{emvOrMagStripeMode}
 use Rattle.session_record.specs.Session.{commandTransition}
-use Rattle.basics.specs.Reason.{reasonAfl}
+use Rattle.basics.specs.Reason.{reasonAflInvalid}
 use Rattle.analysis.specs.Action.{transactionLimit}
-use Rattle.session.specs.Steps.{fail}
-use Rattle.session.specs.Answer.{awaitedRecord, askFound, aipAndAflPresent, afterGpo}
+use Rattle.session.specs.Steps.{endForReason}
+use Rattle.session.specs.Answer.{awaitedRecordWithLimit, requestKthRecordIfFound, aipAndAflPresent, nextAfterGpoRead}
 use Rattle.session.proofs.Laws.{reply-as, did-next, did-end, is-passed, is-failed, found-as, found-there, gpo-missing, gpo-mode, gpo-afl, gpo-ask}
 use Rattle.session.proofs.after_gpo.Statement.{statement}
 use Rattle.session.proofs.after_gpo.Tie as tie
@@ -28,13 +28,13 @@ carried : (c : tie.After-enum-told3) → emvOrMagStripeMode (c .before .before .
 carried c = is-passed _ (omega arith) (c .before .before .mode-in .ensures) (c .enum-told3 .given .1)
 
 -- past all three, the first record decides
-asked : (c : tie.After-record-at) (x : RecordFound) → let a = c .before .before .before .before .before .before .before .before .before .before .before .before .before .args in c .record-at .result ≡ x
-    → afterGpo (a .bytes .now) ≡ askFound (transactionLimit (a .bytes .now)) 1 (a .bytes .now) (fail reasonAfl (a .bytes .now)) x
+asked : (c : tie.After-kth-record-of-accepted-afl) (x : RecordFound) → let a = c .before .before .before .before .before .before .before .before .before .before .before .before .before .args in c .kth-record-of-accepted-afl .result ≡ x
+    → nextAfterGpoRead (a .bytes .now) ≡ requestKthRecordIfFound (transactionLimit (a .bytes .now)) 1 (a .bytes .now) (endForReason reasonAflInvalid (a .bytes .now)) x
 asked c x e =
     let v = c .before .before .before .before in
     let m = c .before .before .before .before .before in
     gpo-ask _ x (there (m .before .before .before)) (carried m) (located-yes _ (v .value .ensures) (sym (c .before .before .before .check-afl .ensures .0) ∙ c .before .enum-told5 .given .1) .0)
-    (found-as (c .record-at .ensures) e _ 1 (v .value .ensures) refl)
+    (found-as (c .kth-record-of-accepted-afl .ensures) e _ 1 (v .value .ensures) refl)
 
 returns : tie.Need-returns
 returns c = did-end _ _ _ (c .fail-session .ensures) (gpo-missing _ (is-failed _ (omega arith) (c .before .before .before .gpo-data-present .ensures) (c .before .enum-told2 .given .1)))
@@ -53,7 +53,7 @@ returns-4 : tie.Need-returns-4
 returns-4 c = did-end _ _ _ (c .fail-session4 .ensures) (asked (c .before .before .before) RecordFound.Nothing (c .before .enum-told7 .given .1))
 
 ask-record-requires : tie.Need-ask-record-requires
-ask-record-requires c κs = (search needs, found-there _ _ (c .before .before .before .before .before .record-at .ensures) (c .before .before .before .wanted .given .1) .0)
+ask-record-requires c κs = (search needs, found-there _ _ (c .before .before .before .before .before .kth-record-of-accepted-afl .ensures) (c .before .before .before .wanted .given .1) .0)
 
 returns-5 : tie.Need-returns-5
 returns-5 c =
@@ -64,7 +64,7 @@ returns-5 c =
     let a = w .before .before .before .before .before .before .before .before .before .before .before .before .before .before .before .args in
     did-next _ _ (asked (w .before .before) (RecordFound.At r) (w .wanted .given .1))
     (record {
-      reply = reply-as _ (ask .ask-record .ensures .0 ∙ ap (λ (l : ℕ). commandTransition (awaitedRecord l 1) (a .count + 1) (length (readRecordCommand r))) (limit .transaction-limit .ensures));
+      reply = reply-as _ (ask .ask-record .ensures .0 ∙ ap (λ (l : ℕ). commandTransition (awaitedRecordWithLimit l 1) (a .count + 1) (length (readRecordCommand r))) (limit .transaction-limit .ensures));
       buffer = ask .ask-record .ensures .1;
     })
 

@@ -26,7 +26,7 @@ returns c =
     let put = put2 .before .before .before .before .before in
     let f = put .before .before .before .before .before .before .before in
     let a = f .before .before .before .before .args in
-    did-next _ _ (analysed-as (a .store .now) (a .limit) (f .findings-of .ensures .0) (put .before .before .before .choice-for .ensures .0) (put .put .ensures .0) (put2 .put2 .ensures .0))
+    did-next _ _ (analysed-as (a .store .now) (a .limit) (f .findings-of .ensures .0) (put .before .before .before .choice-for-tvr .ensures .0) (put .put .ensures .0) (put2 .put2 .ensures .0))
     (c .before .before .ask-cryptogram .ensures)
 
 pub analyse-spec : {M : Type 1} → statement M

@@ -1,4 +1,4 @@
--- `session::answer` meets its contract: that of `answer_in`, with the store that it left.
+-- `session::answer` meets its contract: that of `answer_on_parts`, with the store that it left.
 -- Assumes nothing.
 use borrow.Author.Needs.{needs}
 use mathlib.Core.Path.{_∙_}
@@ -7,7 +7,7 @@ use Rattle.session.proofs.answer.Tie as tie
 
 returns : tie.Need-returns
 returns c =
-    let d = c .before .before .before .before .answer-in .ensures in
+    let d = c .before .before .before .before .answer-on-parts .ensures in
     record { reply = c .reply-of .ensures ∙ d .reply; buffer = d .buffer }
 
 pub answer-spec : {M : Type 1} → statement M

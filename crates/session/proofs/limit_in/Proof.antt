@@ -8,10 +8,10 @@ use Rattle.session.proofs.limit_in.Statement.{statement}
 use Rattle.session.proofs.limit_in.Tie as tie
 
 returns : tie.Need-returns
-returns c = sym (if-no _ _ (ap not (sym (c .before .above-transaction-limit .ensures) ∙ c .if1 .taken)))
+returns c = sym (if-no _ _ (ap not (sym (c .before .stored-amount-above-limit .ensures) ∙ c .if1 .taken)))
 
 returns-2 : tie.Need-returns-2
-returns-2 c = sym (if-yes _ _ (ap not (sym (c .before .above-transaction-limit .ensures) ∙ c .if1 .left)))
+returns-2 c = sym (if-yes _ _ (ap not (sym (c .before .stored-amount-above-limit .ensures) ∙ c .if1 .left)))
 
 pub limit-in-spec : {M : Type 1} → statement M
 limit-in-spec = tie.close (tie.spec (λ c κs. search needs) returns returns-2)

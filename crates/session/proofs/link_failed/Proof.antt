@@ -1,4 +1,4 @@
--- `session::link_failed` meets its contract: that of `link_failed_in`, with the store that it left.
+-- `session::link_failed` meets its contract: that of `link_failed_on_parts`, with the store that it left.
 -- Assumes nothing.
 use borrow.Author.Needs.{needs}
 use mathlib.Core.Path.{_∙_}
@@ -7,7 +7,7 @@ use Rattle.session.proofs.link_failed.Tie as tie
 
 returns : tie.Need-returns
 returns c =
-    let d = c .before .before .before .link-failed-in .ensures in
+    let d = c .before .before .before .link-failed-on-parts .ensures in
     record { reply = c .reply-of .ensures ∙ d .reply; buffer = d .buffer }
 
 pub link-failed-spec : {M : Type 1} → statement M

@@ -4,13 +4,13 @@ use borrow.Author.Needs.{needs}
 use native.Mathlib.Omega.{arith}
 use mathlib.Core.Path.{_≡_}
 use mathlib.Core.Bool.{false}
-use Rattle.analysis.specs.Action.{aboveTransactionLimit}
+use Rattle.analysis.specs.Action.{storedAmountAboveLimit}
 use Rattle.session.proofs.Laws.{did-next, did-end, is-passed, is-failed, is-above, is-within, mag-stripe-limit, mag-stripe-missing, mag-stripe-asks}
 use Rattle.session.proofs.mag_stripe_checks.Statement.{statement}
 use Rattle.session.proofs.mag_stripe_checks.Tie as tie
 
 -- what holds past the first test
-within : (c : tie.After-enum-told) → let a = c .before .before .before .before .before .args in aboveTransactionLimit (a .limit) (a .bytes .now) ≡ false
+within : (c : tie.After-enum-told) → let a = c .before .before .before .before .before .args in storedAmountAboveLimit (a .limit) (a .bytes .now) ≡ false
 within c = is-within _ (c .before .before .limit-in .ensures) (c .enum-told .given .1)
 
 returns : tie.Need-returns

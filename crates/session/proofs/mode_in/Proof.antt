@@ -7,10 +7,10 @@ use Rattle.session.proofs.mode_in.Statement.{statement}
 use Rattle.session.proofs.mode_in.Tie as tie
 
 returns : tie.Need-returns
-returns c = sym (if-yes _ _ (sym (c .before .is-either .ensures) ∙ c .if1 .taken))
+returns c = sym (if-yes _ _ (sym (c .before .is-emv-or-mag-stripe-mode .ensures) ∙ c .if1 .taken))
 
 returns-2 : tie.Need-returns-2
-returns-2 c = sym (if-no _ _ (sym (c .before .is-either .ensures) ∙ c .if1 .left))
+returns-2 c = sym (if-no _ _ (sym (c .before .is-emv-or-mag-stripe-mode .ensures) ∙ c .if1 .left))
 
 pub mode-in-spec : {M : Type 1} → statement M
 mode-in-spec = tie.close (tie.spec (λ c κs. search needs) returns returns-2)

@@ -3,7 +3,7 @@
 use borrow.Author.Needs.{needs}
 use mathlib.Core.Path.{ap, _∙_}
 use Prim.Native.Nat.{ℕ}
-use Rattle.analysis.specs.Cvm.{cvmNotApplicable}
+use Rattle.analysis.specs.Cvm.{cvmNumberNotApplicable}
 use Rattle.session_record.specs.Session.{failingTransition}
 use Rattle.session.proofs.Laws.{did-end, unsound-read, unsound-kept}
 use Rattle.session.proofs.refuse_track.Statement.{statement}
@@ -13,7 +13,7 @@ returns : tie.Need-returns
 returns c buf =
     let j = c .before .before .before in
     let st = j .before .before .before in
-    did-end _ _ _ (c .fail-session .ensures ∙ ap (failingTransition cvmNotApplicable (st .args .count)) (c .before .verdict-number .ensures))
+    did-end _ _ _ (c .fail-session .ensures ∙ ap (failingTransition cvmNumberNotApplicable (st .args .count)) (c .before .verdict-number .ensures))
     (unsound-read (st .args .bytes .now) (st .args .card .now) (j .judge-answer .result) (st .pre .1) (j .judge-answer .ensures) (c .before .before .match .keys2))
 
 returns-2 : tie.Need-returns-2

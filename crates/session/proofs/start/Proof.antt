@@ -1,4 +1,4 @@
--- `session::start` meets its contract: that of `start_in`, with the store that it left.
+-- `session::start` meets its contract: that of `start_on_parts`, with the store that it left.
 -- Assumes nothing.
 use borrow.Author.Needs.{needs}
 use mathlib.Core.Path.{_∙_}
@@ -7,7 +7,7 @@ use Rattle.session.proofs.start.Tie as tie
 
 returns : tie.Need-returns
 returns c =
-    let d = c .before .before .before .before .start-in .ensures in
+    let d = c .before .before .before .before .start-on-parts .ensures in
     record { reply = c .reply-of .ensures ∙ d .reply; buffer = d .buffer }
 
 pub start-spec : {M : Type 1} → statement M

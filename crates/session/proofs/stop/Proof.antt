@@ -1,4 +1,4 @@
--- `session::stop` meets its contract: that of `stop_in`, with the store that it left.
+-- `session::stop` meets its contract: that of `stop_on_parts`, with the store that it left.
 -- Assumes nothing.
 use borrow.Author.Needs.{needs}
 use mathlib.Core.Path.{_∙_}
@@ -7,7 +7,7 @@ use Rattle.session.proofs.stop.Tie as tie
 
 returns : tie.Need-returns
 returns c =
-    let d = c .before .before .before .stop-in .ensures in
+    let d = c .before .before .before .stop-on-parts .ensures in
     record { reply = c .reply-of .ensures ∙ d .reply; buffer = d .buffer }
 
 pub stop-spec : {M : Type 1} → statement M

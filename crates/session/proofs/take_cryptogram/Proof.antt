@@ -6,24 +6,24 @@ use Prim.Native.Nat.{ℕ}
 use Rattle.reading.specs.declared.Awaited.{Awaited}
 use Rattle.analysis.specs.Cvm.{cvmNumber}
 use Rattle.session_record.specs.Session.{failingTransition}
-use Rattle.session.specs.Answer.{afterCryptogram, cryptogramNext}
+use Rattle.session.specs.Answer.{nextAfterCryptogramRead, nextOnCryptogramResponse}
 use Rattle.session.proofs.Laws.{did-next, did-end, read-goes, read-ends}
 use Rattle.session.proofs.take_cryptogram.Statement.{statement}
 use Rattle.session.proofs.take_cryptogram.Tie as tie
 
 returns : tie.Need-returns
-unfolding cryptogramNext
+unfolding nextOnCryptogramResponse
 returns c buf =
     let a = c .before .before .before .before .before .before .before .before .before .before .args in
     did-end _ _ _ (c .fail-session .ensures ∙ ap₂ (λ (m n : ℕ). failingTransition m (a .count) n) (c .before .requested-cvm .ensures) (c .before .before .verdict-number .ensures))
-    (read-ends Awaited.Cryptogram (cvmNumber (a .asked .cvm)) (a .store .now) (a .card .now) (afterCryptogram (a .asked)) (c .before .before .before .before .before .before .read-answer .ensures .0) (c .before .before .before .match .keys2))
+    (read-ends Awaited.Cryptogram (cvmNumber (a .asked .cvm)) (a .store .now) (a .card .now) (nextAfterCryptogramRead (a .asked)) (c .before .before .before .before .before .before .read-answer .ensures .0) (c .before .before .before .match .keys2))
 
 returns-2 : tie.Need-returns-2
-unfolding cryptogramNext
+unfolding nextOnCryptogramResponse
 returns-2 c buf =
     let a = c .before .before .before .before .before .before .before .before .before .before .args in
     did-next _ _
-    (read-goes Awaited.Cryptogram (cvmNumber (a .asked .cvm)) (a .store .now) (a .card .now) (afterCryptogram (a .asked)) (c .before .before .before .before .before .before .read-answer .ensures .0) (c .before .before .enum-told .given .1))
+    (read-goes Awaited.Cryptogram (cvmNumber (a .asked .cvm)) (a .store .now) (a .card .now) (nextAfterCryptogramRead (a .asked)) (c .before .before .before .before .before .before .read-answer .ensures .0) (c .before .before .enum-told .given .1))
     (c .cryptogram-outcome .ensures buf)
 
 pub take-cryptogram-spec : {M : Type 1} → statement M

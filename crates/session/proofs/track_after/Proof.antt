@@ -9,7 +9,7 @@ use lib.ListN.{length}
 use Rattle.dictionary.proofs.Named.{at-9F6B}
 use Rattle.store.proofs.Laws.{copied}
 use Rattle.session_record.proofs.Tags.{bytes-are}
-use Rattle.mag_stripe.specs.Digits.{trackWithDigits}
+use Rattle.mag_stripe.specs.Digits.{trackWithDigitsIfPossible}
 use Rattle.session.proofs.track_after.Statement.{statement}
 use Rattle.session.proofs.track_after.Tie as tie
 
@@ -22,7 +22,7 @@ returns c =
     let v = c .before .before .before .before .before .before .before .before .before .before .value .ensures ∙ bytes-are _ _ _ at-9F6B in
     let e = copied _ (st .args .track .now) _ (ap length v ∙ sym (st .pre)) (c .before .before .before .before .before .before .before .before .copy .ensures .1) ∙ v in
     let p = c .before .before .put-digits .ensures in
-    (p .0 ∙ (λ i. trackWithDigits (e i) (c .before .before .before .before .before .bitmaps-in .ensures i) (c .before .before .before .before .values-in .ensures i)), p .1 .0 .size ∙ ap length e ∙ sym (st .pre))
+    (p .0 ∙ (λ i. trackWithDigitsIfPossible (e i) (c .before .before .before .before .before .bitmaps-in .ensures i) (c .before .before .before .before .values-in .ensures i)), p .1 .0 .size ∙ ap length e ∙ sym (st .pre))
 
 pub track-after-spec : {M : Type 1} → statement M
 track-after-spec =

@@ -8,15 +8,15 @@ use Rattle.basics.proofs.Laws.{if-yes, if-no}
 use Rattle.dictionary.proofs.Named.{at-9F6B}
 use Rattle.session_record.proofs.Tags.{bytes-are}
 use Rattle.mag_stripe.specs.declared.Bitmaps.{Bitmaps}
-use Rattle.mag_stripe.specs.Bitmap.{canTakeDigits}
-use Rattle.session.specs.MagStripe.{trackCanTakeDigits}
+use Rattle.mag_stripe.specs.Bitmap.{trackCanTakeDigits}
+use Rattle.session.specs.MagStripe.{storedTrackCanTakeDigits}
 use Rattle.session.proofs.track_in.Statement.{statement}
 use Rattle.session.proofs.track_in.Tie as tie
 
-tested : (c : tie.After-can-take-digits) → c .can-take-digits .result ≡ trackCanTakeDigits (c .before .before .before .before .args .bytes .now)
+tested : (c : tie.After-can-take-digits) → c .can-take-digits .result ≡ storedTrackCanTakeDigits (c .before .before .before .before .args .bytes .now)
 tested c =
     c .can-take-digits .ensures
-    ∙ ap₂ (λ (t : List ℕ) (b : Bitmaps). canTakeDigits t b) (c .before .value .ensures ∙ bytes-are _ _ _ at-9F6B) (c .before .before .bitmaps-in .ensures)
+    ∙ ap₂ (λ (t : List ℕ) (b : Bitmaps). trackCanTakeDigits t b) (c .before .value .ensures ∙ bytes-are _ _ _ at-9F6B) (c .before .before .bitmaps-in .ensures)
 
 returns : tie.Need-returns
 returns c = sym (if-yes _ _ (sym (tested (c .before)) ∙ c .if1 .taken))

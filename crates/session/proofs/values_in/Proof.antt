@@ -11,7 +11,7 @@ use Rattle.session.proofs.values_in.Tie as tie
 
 returns : tie.Need-returns
 returns c =
-    c .values-of .ensures
+    c .digit-values-of .ensures
     ∙ three digitValuesOf (c .before .before .before .value .ensures ∙ bytes-are _ _ _ at-9F61) (c .before .before .value2 .ensures ∙ bytes-are _ _ _ at-9F6A)
     (c .before .value3 .ensures ∙ bytes-are _ _ _ at-9F36)
 

@@ -1,16 +1,16 @@
 -- `session_record::all_rows_fit` meets its contract. The invariant: the next row's place starts at `at`, and the walk
--- is at that row with `allRequiredPresent` counted.
+-- is at that row with `allRequiredAtStartPresent` counted.
 -- Assumes nothing.
 use borrow.Author.Tests.{not-true, not-false}
 use mathlib.Core.Path.{_≡_, refl, sym, ap, _∙_}
 use Prim.Native.Nat.{_-_, _≤_}
 use native.Mathlib.Omega.{arith}
 use lib.ListN.{length-take, length-drop}
-use Rattle.dictionary.specs.declared.Attributes.{Attributes}
+use Rattle.dictionary.specs.declared.RowAttributes.{RowAttributes}
 use Rattle.dictionary.specs.Rows.{dictionaryRows, rowAt, rowCount}
 use Rattle.dictionary.specs.Packing.{attributesOf}
 use Rattle.store.specs.Place.{rowOffset}
-use Rattle.session_record.specs.Ranges.{objectFits}
+use Rattle.session_record.specs.Ranges.{storedObjectAbsentOrFitsRow}
 use Rattle.session_record.proofs.Fit.{row-read, Stands, stands, part-first, object-part}
 use Rattle.session_record.proofs.Walk.{Walk, walk-start, walk-most, walk-on, walk-held, walk-no, walk-end}
 use Rattle.session_record.proofs.all_rows_fit.Statement.{statement}
@@ -18,8 +18,8 @@ use Rattle.session_record.proofs.all_rows_fit.Tie as tie
 use Rattle.session_record.proofs.all_rows_fit.Reads as reads
 use Rattle.session_record.proofs.all_rows_fit.Lts as lts
 use Rattle.basics.proofs.widen.Reads as widen
-use Rattle.dictionary.proofs.codes.Reads as codes
-use Rattle.dictionary.proofs.unpacked.Reads as unpacked
+use Rattle.dictionary.proofs.packed_row_attributes.Reads as codes
+use Rattle.dictionary.proofs.unpack_row_attributes.Reads as unpacked
 use Rattle.session_record.proofs.is_enough.Reads as is-enough
 use Rattle.session_record.proofs.next_held.Reads as next-held
 use Rattle.session_record.proofs.row_fits.Reads as place-keeps
@@ -53,7 +53,7 @@ Claims = (
 next-held-requires : tie.Need-next-held-requires Inv-loop μ-loop
 next-held-requires c κs =
     let lp = c .before .loop in
-    (c .before .before .before .before .pre, (c .before .before .codes .ensures, (lp .inv .0, lp .inv .1)))
+    (c .before .before .before .before .pre, (c .before .before .packed-row-attributes .ensures, (lp .inv .0, lp .inv .1)))
 
 -- the walk comes to the next object that is present
 come : (c : lts.After-next-held Claims reads.Pre reads.Post Inv-loop μ-loop)
@@ -67,14 +67,14 @@ returns c =
     c .is-enough .ensures ∙ sym (walk-end (n .before .before .before .before .before .args .asked) _ (n .next-held .result .row) _ (come n) (omega arith))
 
 -- what the row at hand says, and where its place is
-read : (c : lts.After-unpacked Claims reads.Pre reads.Post Inv-loop μ-loop) → c .unpacked .result ≡ attributesOf (rowAt (c .before .before .next-held .result .row))
+read : (c : lts.After-unpacked Claims reads.Pre reads.Post Inv-loop μ-loop) → c .unpack-row-attributes .result ≡ attributesOf (rowAt (c .before .before .next-held .result .row))
 read c =
     let n = c .before .before in
-    row-read _ (n .next-held .result .row) _ (omega arith) (n .before .before .before .codes .ensures) (c .unpacked .ensures)
+    row-read _ (n .next-held .result .row) _ (omega arith) (n .before .before .before .packed-row-attributes .ensures) (c .unpack-row-attributes .ensures)
 
 stood : (c : lts.After-unpacked Claims reads.Pre reads.Post Inv-loop μ-loop)
     → let h = c .before .before .next-held .result in
-    Stands (h .row) (h .at) (c .unpacked .result .greatest)
+    Stands (h .row) (h .at) (c .unpack-row-attributes .result .greatest)
 stood c =
     let n = c .before .before .next-held in
     stands (n .result .row) _ _ (omega arith) (n .ensures .passed .place) (read c)
@@ -85,13 +85,13 @@ place-keeps-requires c κs =
     let n = u .before .before in
     let s = stood u in
     let t = n .next-held .ensures .there (omega arith) in
-    let f = part-first (n .before .before .before .before .before .args .bytes .now) (n .next-held .result .at) (u .unpacked .result .greatest) in
+    let f = part-first (n .before .before .before .before .before .args .bytes .now) (n .next-held .result .at) (u .unpack-row-attributes .result .greatest) in
     (simp (length-take, length-drop) (omega arith), omega arith)
 
 -- what is said of the place is said of the row's object
 told : (c : lts.After-row-fits Claims reads.Pre reads.Post Inv-loop μ-loop)
     → let n = c .before .before .before .before .before in
-    objectFits (n .before .before .before .before .before .args .bytes .now) (rowAt (n .next-held .result .row)) ≡ c .row-fits .result
+    storedObjectAbsentOrFitsRow (n .before .before .before .before .before .args .bytes .now) (rowAt (n .next-held .result .row)) ≡ c .row-fits .result
 told c =
     let u = c .before .before .before in
     let n = u .before .before .next-held in
@@ -114,7 +114,7 @@ loop-again c =
     let u = p .before .before .before in
     let n = u .before .before in
     let h = n .next-held in
-    let m = c .widen .ensures .0 ∙ ap (λ (a : Attributes). a .must) (read u) in (
+    let m = c .widen .ensures .0 ∙ ap (λ (a : RowAttributes). a .must) (read u) in (
       omega arith,
       stood u .next,
       walk-held _ (h .result .row) _ (come n) (omega arith) (h .result .at) _ (h .ensures .passed .place) (h .ensures .there (omega arith)) m (told p ∙ not-false _ (c .before .if2 .left)),

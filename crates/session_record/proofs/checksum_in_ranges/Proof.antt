@@ -12,8 +12,8 @@ use Rattle.basics.proofs.Laws.{both-true, both-assoc, both-no-left}
 use Rattle.dictionary.proofs.Named.{at-95}
 use Rattle.afl.specs.Records.{acceptsAfl}
 use Rattle.analysis.specs.Action.{transactionLimit}
-use Rattle.store.specs.Held.{isZeroed}
-use Rattle.session_record.specs.Ranges.{allObjectsFit, magStripeMode, trackDataPresent, storedAfl, storedRecordCount, checksumRanges}
+use Rattle.store.specs.Held.{isObjectZeroOrAbsent}
+use Rattle.session_record.specs.Ranges.{allStoredObjectsFitRows, magStripeMode, track2AndBitmapsNonEmpty, storedAfl, storedAflRecordCount, inChecksumRanges}
 use Rattle.session_record.proofs.Tags.{zero-is, located-no, located-yes}
 use Rattle.session_record.proofs.Tests.{two-less}
 use Rattle.session_record.proofs.checksum_in_ranges.Statement.{statement}
@@ -22,23 +22,23 @@ use Rattle.session_record.proofs.checksum_in_ranges.Tie as tie
 past-running : (c : tie.Else1)
     → let a = c .before .before .before .args in
     let b = a .bytes .now in
-    both (allObjectsFit b) (checksumRanges (a .checksum) (a .count) b)
-    ≡ both (magStripeMode b) (both (isZeroed b 0x95) (both (trackDataPresent b) (both (eqb (a .checksum .limit) (transactionLimit b)) (both (acceptsAfl (storedAfl b)) (eqb (a .count) (2 + storedRecordCount b))))))
-unfolding checksumRanges
+    both (allStoredObjectsFitRows b) (inChecksumRanges (a .checksum) (a .count) b)
+    ≡ both (magStripeMode b) (both (isObjectZeroOrAbsent b 0x95) (both (track2AndBitmapsNonEmpty b) (both (eqb (a .checksum .limit) (transactionLimit b)) (both (acceptsAfl (storedAfl b)) (eqb (a .count) (2 + storedAflRecordCount b))))))
+unfolding inChecksumRanges
 past-running c = both-assoc _ _ _ ∙ both-true _ (sym (c .before .is-running .ensures) ∙ not-false _ (c .if1 .left))
 
 past-mode : (c : tie.Else2)
     → let a = c .before .before .before .before .before .args in
     let b = a .bytes .now in
-    both (allObjectsFit b) (checksumRanges (a .checksum) (a .count) b)
-    ≡ both (isZeroed b 0x95) (both (trackDataPresent b) (both (eqb (a .checksum .limit) (transactionLimit b)) (both (acceptsAfl (storedAfl b)) (eqb (a .count) (2 + storedRecordCount b)))))
-past-mode c = past-running (c .before .before) ∙ both-true _ (sym (c .before .is-mag-stripe .ensures) ∙ not-false _ (c .if2 .left))
+    both (allStoredObjectsFitRows b) (inChecksumRanges (a .checksum) (a .count) b)
+    ≡ both (isObjectZeroOrAbsent b 0x95) (both (track2AndBitmapsNonEmpty b) (both (eqb (a .checksum .limit) (transactionLimit b)) (both (acceptsAfl (storedAfl b)) (eqb (a .count) (2 + storedAflRecordCount b)))))
+past-mode c = past-running (c .before .before) ∙ both-true _ (sym (c .before .is-mag-stripe-mode .ensures) ∙ not-false _ (c .if2 .left))
 
 past-95 : (c : tie.Else3)
     → let a = c .before .before .before .before .before .before .before .before .args in
     let b = a .bytes .now in
-    both (allObjectsFit b) (checksumRanges (a .checksum) (a .count) b)
-    ≡ both (trackDataPresent b) (both (eqb (a .checksum .limit) (transactionLimit b)) (both (acceptsAfl (storedAfl b)) (eqb (a .count) (2 + storedRecordCount b))))
+    both (allStoredObjectsFitRows b) (inChecksumRanges (a .checksum) (a .count) b)
+    ≡ both (track2AndBitmapsNonEmpty b) (both (eqb (a .checksum .limit) (transactionLimit b)) (both (acceptsAfl (storedAfl b)) (eqb (a .count) (2 + storedAflRecordCount b))))
 past-95 c =
     let z = c .before in
     past-mode (z .before .before) ∙ both-true _ (zero-is _ _ _ at-95 (z .before .value .ensures) (z .all-zero .ensures) (not-false _ (c .if3 .left)))
@@ -46,33 +46,33 @@ past-95 c =
 past-track : (c : tie.Else4)
     → let a = c .before .before .before .before .before .before .before .before .before .before .args in
     let b = a .bytes .now in
-    both (allObjectsFit b) (checksumRanges (a .checksum) (a .count) b)
-    ≡ both (eqb (a .checksum .limit) (transactionLimit b)) (both (acceptsAfl (storedAfl b)) (eqb (a .count) (2 + storedRecordCount b)))
-past-track c = past-95 (c .before .before) ∙ both-true _ (sym (c .before .is-track-complete .ensures) ∙ not-false _ (c .if4 .left))
+    both (allStoredObjectsFitRows b) (inChecksumRanges (a .checksum) (a .count) b)
+    ≡ both (eqb (a .checksum .limit) (transactionLimit b)) (both (acceptsAfl (storedAfl b)) (eqb (a .count) (2 + storedAflRecordCount b)))
+past-track c = past-95 (c .before .before) ∙ both-true _ (sym (c .before .track2-and-bitmaps-non-empty .ensures) ∙ not-false _ (c .if4 .left))
 
 past-limit : (c : tie.Else5)
     → let a = c .before .before .before .before .before .before .before .before .before .before .before .before .before .args in
     let b = a .bytes .now in
-    both (allObjectsFit b) (checksumRanges (a .checksum) (a .count) b)
-    ≡ both (acceptsAfl (storedAfl b)) (eqb (a .count) (2 + storedRecordCount b))
+    both (allStoredObjectsFitRows b) (inChecksumRanges (a .checksum) (a .count) b)
+    ≡ both (acceptsAfl (storedAfl b)) (eqb (a .count) (2 + storedAflRecordCount b))
 past-limit c = past-track (c .before .before .before) ∙ both-true _ (eq-eqb _ _ (c .if5 .left ∙ c .before .before .transaction-limit .ensures))
 
 -- where the AFL is accepted, the count decides
 counted : (c : tie.After-known-told)
     → let a = c .before .before .before .before .before .before .before .before .before .before .before .before .before .before .before .before .before .before .args in
-    (both (allObjectsFit (a .bytes .now)) (checksumRanges (a .checksum) (a .count) (a .bytes .now)) ≡ eqb (a .count) (2 + storedRecordCount (a .bytes .now)))
-    × (c .before .c .given .0 .0 .records ≡ storedRecordCount (a .bytes .now))
+    (both (allStoredObjectsFitRows (a .bytes .now)) (inChecksumRanges (a .checksum) (a .count) (a .bytes .now)) ≡ eqb (a .count) (2 + storedAflRecordCount (a .bytes .now)))
+    × (c .before .c .given .0 .0 .records ≡ storedAflRecordCount (a .bytes .now))
 counted c =
     let k = c .before .before .before in
     let y = located-yes _ (k .before .value2 .ensures) (sym (k .check-afl .ensures .0) ∙ c .before .c .given .1) in
     (past-limit (k .before .before) ∙ both-true _ (y .0), y .1)
 
 returns : tie.Need-returns
-unfolding checksumRanges
+unfolding inChecksumRanges
 returns c = sym (both-assoc _ _ _ ∙ both-no-left _ _ (sym (c .before .is-running .ensures) ∙ not-true _ (c .if1 .taken)))
 
 returns-2 : tie.Need-returns-2
-returns-2 c = sym (past-running (c .before .before) ∙ both-no-left _ _ (sym (c .before .is-mag-stripe .ensures) ∙ not-true _ (c .if2 .taken)))
+returns-2 c = sym (past-running (c .before .before) ∙ both-no-left _ _ (sym (c .before .is-mag-stripe-mode .ensures) ∙ not-true _ (c .if2 .taken)))
 
 returns-3 : tie.Need-returns-3
 returns-3 c =
@@ -80,7 +80,7 @@ returns-3 c =
     sym (past-mode (z .before .before) ∙ both-no-left _ _ (zero-is _ _ _ at-95 (z .before .value .ensures) (z .all-zero .ensures) (not-true _ (c .if3 .taken))))
 
 returns-4 : tie.Need-returns-4
-returns-4 c = sym (past-95 (c .before .before) ∙ both-no-left _ _ (sym (c .before .is-track-complete .ensures) ∙ not-true _ (c .if4 .taken)))
+returns-4 c = sym (past-95 (c .before .before) ∙ both-no-left _ _ (sym (c .before .track2-and-bitmaps-non-empty .ensures) ∙ not-true _ (c .if4 .taken)))
 
 returns-5 : tie.Need-returns-5
 returns-5 c = sym (past-track (c .before .before .before) ∙ both-no-left _ _ (ne-eqb _ _ (λ e. c .if5 .taken (e ∙ sym (c .before .before .transaction-limit .ensures)))))
@@ -93,7 +93,7 @@ returns-6 c =
 returns-7 : tie.Need-returns-7
 returns-7 c =
     let a = c .before .before .before .before .before .before .before .before .before .before .before .before .before .before .before .before .before .before .before .before .args in
-    sym (counted (c .before .before) .0 ∙ ne-eqb (a .count) (2 + storedRecordCount (a .bytes .now)) (λ e. omega (arith, c .before .widen .ensures .0)))
+    sym (counted (c .before .before) .0 ∙ ne-eqb (a .count) (2 + storedAflRecordCount (a .bytes .now)) (λ e. omega (arith, c .before .widen .ensures .0)))
 
 returns-8 : tie.Need-returns-8
 returns-8 c =

@@ -5,18 +5,18 @@ use borrow.Author.Needs.{needs}
 use borrow.Author.Tests.{eq-eqb, ne-eqb}
 use mathlib.Core.Path.{sym, _∙_}
 use Rattle.basics.proofs.Laws.{both-true, both-right, both-no-left, both-no-right}
-use Rattle.session_record.specs.Ranges.{freshRanges}
+use Rattle.session_record.specs.Ranges.{inFreshRanges}
 use Rattle.session_record.proofs.Tests.{both-implied}
 use Rattle.session_record.proofs.Stored.{zeros-fit}
 use Rattle.session_record.proofs.fresh_in_ranges.Statement.{statement}
 use Rattle.session_record.proofs.fresh_in_ranges.Tie as tie
 
 returns : tie.Need-returns
-unfolding freshRanges
+unfolding inFreshRanges
 returns c = sym (both-no-right _ _ (both-no-left _ _ (ne-eqb _ _ (c .if1 .taken))))
 
 returns-2 : tie.Need-returns-2
-unfolding freshRanges
+unfolding inFreshRanges
 returns-2 c =
     c .all-zero .ensures
     ∙ sym (both-implied _ _ (λ e. zeros-fit _ (c .before .before .before .pre) (both-right _ _ e)) ∙ both-true _ (eq-eqb _ _ (c .before .if1 .left)))

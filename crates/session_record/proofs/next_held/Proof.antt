@@ -5,17 +5,17 @@ use Prim.Native.Nat.{_-_}
 use native.Mathlib.Omega.{arith}
 use Rattle.dictionary.specs.Rows.{rowCount}
 use Rattle.store.proofs.Rows.{row-inside}
-use Rattle.session_record.specs.Inner.{RowsPassed}
+use Rattle.session_record.specs.Inner.{AbsentRowsPassed}
 use Rattle.session_record.proofs.Fit.{row-read, Stands, stands}
 use Rattle.session_record.proofs.Walk.{passed-none, passed-more}
 use Rattle.session_record.proofs.next_held.Statement.{statement}
 use Rattle.session_record.proofs.next_held.Tie as tie
 use Rattle.session_record.proofs.next_held.Reads as reads
 use Rattle.session_record.proofs.next_held.Lts as lts
-use Rattle.dictionary.proofs.unpacked.Reads as unpacked
+use Rattle.dictionary.proofs.unpack_row_attributes.Reads as unpacked
 
 abbrev Inv-loop : tie.InvT-loop
-Inv-loop bytes codes from start row₀ at₀ row at = RowsPassed bytes from row at
+Inv-loop bytes codes from start row₀ at₀ row at = AbsentRowsPassed bytes from row at
 
 abbrev μ-loop : tie.MeasureT-loop
 μ-loop bytes codes from start row₀ at₀ row at = rowCount - row
@@ -33,11 +33,11 @@ returns c = let lp = c .before .before .before .loop in record { passed = lp .in
 -- where the place of the row at hand is
 stood : (c : lts.After-unpacked (unpacked.Asked, unpacked.Learnt) reads.Pre reads.Post Inv-loop μ-loop)
     → let lp = c .before .before .before .before .before .loop in
-    Stands (lp .row) (lp .at) (c .unpacked .result .greatest)
+    Stands (lp .row) (lp .at) (c .unpack-row-attributes .result .greatest)
 stood c =
     let lp = c .before .before .before .before .before .loop in
     let s = c .before .before .before .before .before .before .before in
-    stands (lp .row) _ _ (omega arith) (lp .inv .place) (row-read _ (lp .row) _ (omega arith) (s .pre .1 .0) (c .unpacked .ensures))
+    stands (lp .row) _ _ (omega arith) (lp .inv .place) (row-read _ (lp .row) _ (omega arith) (s .pre .1 .0) (c .unpack-row-attributes .ensures))
 
 loop-again : tie.Need-loop-again Inv-loop μ-loop
 loop-again c =

@@ -7,12 +7,12 @@ use Prim.Native.Nat.{ℕ}
 use mathlib.Core.List.{List}
 use Rattle.basics.specs.Choice.{both}
 use Rattle.session_record.specs.declared.AwaitedResponse.{AwaitedResponse}
-use Rattle.session_record.specs.Ranges.{allObjectsFit, waitingRanges}
+use Rattle.session_record.specs.Ranges.{allStoredObjectsFitRows, inWaitingRanges}
 use Rattle.session_record.proofs.waiting_in_ranges.Statement.{statement}
 use Rattle.session_record.proofs.waiting_in_ranges.Tie as tie
 
-by-awaited : {v w : AwaitedResponse} (n : ℕ) (b : List ℕ) {r : Bool} → v ≡ w → r ≡ both (allObjectsFit b) (waitingRanges w n b) → r ≡ both (allObjectsFit b) (waitingRanges v n b)
-by-awaited n b e h = h ∙ ap (λ (x : AwaitedResponse). both (allObjectsFit b) (waitingRanges x n b)) (sym e)
+by-awaited : {v w : AwaitedResponse} (n : ℕ) (b : List ℕ) {r : Bool} → v ≡ w → r ≡ both (allStoredObjectsFitRows b) (inWaitingRanges w n b) → r ≡ both (allStoredObjectsFitRows b) (inWaitingRanges v n b)
+by-awaited n b e h = h ∙ ap (λ (x : AwaitedResponse). both (allStoredObjectsFitRows b) (inWaitingRanges x n b)) (sym e)
 
 returns : tie.Need-returns
 returns c = by-awaited _ _ (c .before .enum-told .given .1) (c .gpo-in-ranges .ensures)

@@ -37,7 +37,7 @@ returns-2 c =
     )
 
 set-objects-requires : tie.Need-set-objects-requires
-set-objects-requires c κs = (sized _ (c .before .before .before .before .before .before .before .before .before .before .pre), record { tags = c .before .before .before .before .tags .ensures; codes = c .before .before .before .codes .ensures })
+set-objects-requires c κs = (sized _ (c .before .before .before .before .before .before .before .before .before .before .pre), record { tags = c .before .before .before .before .dictionary-tags .ensures; codes = c .before .before .before .packed-row-attributes .ensures })
 
 returns-3 : tie.Need-returns-3
 returns-3 c =
@@ -68,7 +68,7 @@ returns-4 c =
       refuses-as (a .store .now) _ (e ∙ sym (st .pre)) (k .cleared2 .ensures .0)
           (load-absent (a .store .now) (a .terminal .now) (r .before .if1 .left) _
           (was-set _ (so .set-objects .ensures .0) (not-false _ (b .before .before .if3 .left)))
-          (sym (b .all-required-present .ensures) ∙ not-true _ (t .if4 .taken))),
+          (sym (b .all-required-at-start-present .ensures) ∙ not-true _ (t .if4 .taken))),
       sized _ e,
     )
 
@@ -79,7 +79,7 @@ returns-5 c =
       loads
           (load-taken (a .store .now) (a .terminal .now) (c .before .before .before .before .before .before .before .before .before .before .before .before .before .before .if1 .left) _
           (was-set _ (so .set-objects .ensures .0) (not-false _ (c .before .before .before .if3 .left)))
-          (sym (c .before .all-required-present .ensures) ∙ not-false _ (c .if4 .left))),
+          (sym (c .before .all-required-at-start-present .ensures) ∙ not-false _ (c .if4 .left))),
       so .set-objects .ensures .1,
     )
 

@@ -7,21 +7,21 @@ use Prim.Native.Nat.{_≤_}
 use native.Mathlib.Omega.{arith}
 use lib.ListN.{length, length-take, length-drop}
 use Rattle.tlv.specs.declared.ObjectFront.the-variants as front
-use Rattle.tlv.specs.Primitives.{primitiveOf, primitiveObjects}
+use Rattle.tlv.specs.Primitives.{primitiveAtFront, primitiveObjects}
 use Rattle.tlv.proofs.Laws.{HeaderFits}
 use Rattle.tlv.proofs.Primitives.{primitive-fits}
 use Rattle.dictionary.specs.Rows.{storeSize}
-use Rattle.start_data.specs.StartData.{setParsed}
+use Rattle.start_data.specs.StartData.{setParsedStartObjects}
 use Rattle.start_data.proofs.Setting.{says-set, says-not, was-set, was-not, set-end, set-broken, set-on, set-stopped}
 use Rattle.start_data.proofs.set_objects.Statement.{statement}
 use Rattle.start_data.proofs.set_objects.Tie as tie
 use Rattle.start_data.proofs.set_objects.Reads as reads
 use Rattle.start_data.proofs.set_objects.Lts as lts
-use Rattle.tlv.proofs.primitive.Reads as primitive
+use Rattle.tlv.proofs.primitive_at_front.Reads as primitive
 use Rattle.start_data.proofs.set_object.Reads as set-object
 
 abbrev Inv-loop : tie.InvT-loop
-Inv-loop terminal store₀ tags codes s₀ store s = (setParsed store₀ (primitiveObjects s₀) ≡ setParsed store (primitiveObjects s)) × ((length store ≡ storeSize) × (length s ≤ length s₀))
+Inv-loop terminal store₀ tags codes s₀ store s = (setParsedStartObjects store₀ (primitiveObjects s₀) ≡ setParsedStartObjects store (primitiveObjects s)) × ((length store ≡ storeSize) × (length s ≤ length s₀))
 
 abbrev μ-loop : tie.MeasureT-loop
 μ-loop terminal store₀ tags codes s₀ store s = length s
@@ -31,8 +31,8 @@ abbrev At-object : Type 0
 At-object =
     lts.After-front (primitive.Asked, primitive.Learnt, set-object.Asked, set-object.Learnt) reads.Pre reads.Post Inv-loop μ-loop
 
-next-at : (c : At-object) → primitiveOf (c .before .before .before .before .loop .s .now) ≡ front.Object (c .front .given .0 .0)
-next-at c = sym (c .before .before .primitive .ensures) ∙ c .front .given .1
+next-at : (c : At-object) → primitiveAtFront (c .before .before .before .before .loop .s .now) ≡ front.Object (c .front .given .0 .0)
+next-at c = sym (c .before .before .primitive-at-front .ensures) ∙ c .front .given .1
 
 fits-at : (c : At-object) → HeaderFits (c .before .before .before .before .loop .s .now) (c .front .given .0 .0)
 fits-at c = primitive-fits _ _ (next-at c)
@@ -40,7 +40,7 @@ fits-at c = primitive-fits _ _ (next-at c)
 returns : tie.Need-returns Inv-loop μ-loop
 returns c =
     let lp = c .before .before .before .before .loop in
-    (says-not _ (lp .inv .0 ∙ set-broken _ (c .before .before .before .loop-test .taken) _ (sym (c .before .before .primitive .ensures) ∙ c .enum-told .given .1)) refl, lp .inv .1 .0)
+    (says-not _ (lp .inv .0 ∙ set-broken _ (c .before .before .before .loop-test .taken) _ (sym (c .before .before .primitive-at-front .ensures) ∙ c .enum-told .given .1)) refl, lp .inv .1 .0)
 
 returns-2 : tie.Need-returns-2 Inv-loop μ-loop
 returns-2 c =

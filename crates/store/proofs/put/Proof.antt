@@ -6,7 +6,7 @@ use Prim.Native.Nat.{ℕ}
 use native.Mathlib.Omega.{arith}
 use lib.ListN.{length}
 use Rattle.dictionary.specs.Rows.{dictionaryRows}
-use Rattle.store.specs.Place.{withValueAt, putRow}
+use Rattle.store.specs.Place.{lengthAndValueWrittenAt, putRow}
 use Rattle.store.proofs.Laws.{put-length}
 use Rattle.store.proofs.Rows.{row-inside, fits-row}
 use Rattle.store.proofs.put.Statement.{statement}
@@ -25,7 +25,7 @@ returns c =
     let st = c .before .before .before .before .before .before .before in
     let a = st .args in
     let f = fits-row (a .bytes .now) (a .row) (a .v .now) (st .pre .0) (st .pre .1 .0) (st .pre .1 .1) in
-    let p = c .before .before .write .ensures ∙ ap (λ (n : ℕ). withValueAt (a .bytes .now) n (a .v .now)) (c .before .before .before .before .start-of .ensures) in
+    let p = c .before .before .write .ensures ∙ ap (λ (n : ℕ). lengthAndValueWrittenAt (a .bytes .now) n (a .v .now)) (c .before .before .before .before .start-of .ensures) in
     (p, ap length p ∙ put-length dictionaryRows (a .bytes .now) (a .row) (a .v .now) f ∙ st .pre .0)
 
 pub put-spec : {M : Type 1} → statement M

@@ -14,7 +14,7 @@ Inv-loop s rest₀ t3 t4 rest = Unit {0}
 abbrev μ-loop : tie.MeasureT-loop
 μ-loop s rest₀ t3 t4 rest = length rest
 
-slice-aggregate-bytes : tie.Need-slice-aggregate-bytes Inv-loop μ-loop
+slice-aggregate-bytes : tie.Need-slice-aggregate-print-bytes Inv-loop μ-loop
 slice-aggregate-bytes c = sym (length-take-le 4 (c .before .before .loop .rest .now) (omega arith))
 
 loop-less : tie.Need-loop-less Inv-loop μ-loop

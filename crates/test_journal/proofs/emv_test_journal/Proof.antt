@@ -7,7 +7,7 @@ use mathlib.Core.List.{List, [], _++_}
 use Prim.Native.Nat.{ℕ, _+_, _-_, _≤_, _<_}
 use lib.ListN.{length, take, drop, length-take}
 use lib.Seq.{take-all, take-add}
-use Rattle.journal.specs.Inner.{CheckerFollows}
+use Rattle.journal.specs.Inner.{CheckerWasFed}
 use Rattle.journal.specs.Verdict.{journalVerdictOf}
 use Rattle.test_journal.specs.Word.{verdictWord}
 use Rattle.test_journal.proofs.emv_test_journal.Statement.{statement}
@@ -18,7 +18,7 @@ parted : (b : List ℕ) (n e : ℕ) → n < e → take n b ++ take (e - n) (drop
 parted b n e h = let z : n + (e - n) ≡ e = omega arith in sym (take-add n (e - n) b) ∙ ap (λ (m : ℕ). take m b) z
 
 abbrev Inv-loop : tie.InvT-loop
-Inv-loop bytes first part at₀ checker₀ at checker = (at ≤ length bytes) × CheckerFollows checker (take at bytes)
+Inv-loop bytes first part at₀ checker₀ at checker = (at ≤ length bytes) × CheckerWasFed checker (take at bytes)
 
 abbrev μ-loop : tie.MeasureT-loop
 μ-loop bytes first part at₀ checker₀ at checker = length bytes - at
@@ -31,7 +31,7 @@ loop-again c =
     let b = c .before .before .before .before .before .before .before .before .before .before .args .bytes .now in
     let lp = c .before .before .before .before .loop in
     let e = c .before .before .end-of in
-    (e .ensures .1, subst (CheckerFollows (c .feed2 .result)) (parted b (lp .at) (e .result) (e .ensures .0)) (c .feed2 .ensures .1 (take (lp .at) b) (lp .inv .1)))
+    (e .ensures .1, subst (CheckerWasFed (c .feed2 .result)) (parted b (lp .at) (e .result) (e .ensures .0)) (c .feed2 .ensures .1 (take (lp .at) b) (lp .inv .1)))
 
 returns : tie.Need-returns Inv-loop μ-loop
 returns c =

@@ -8,8 +8,8 @@ use native.Mathlib.Omega.{arith}
 use lib.ListN.{length, drop, length-drop}
 use Rattle.text_line.specs.declared.CharacterKind.{CharacterKind}
 use Rattle.text_line.specs.declared.HexPair.{HexPair}
-use Rattle.text_line.specs.Text.{isOfKind, pastFront}
-use Rattle.text_line.specs.Inner.{hexPairOf}
+use Rattle.text_line.specs.Text.{isCharacterOfKind, afterLongestPrefix}
+use Rattle.text_line.specs.Inner.{hexPairAtFront}
 use Rattle.text_line.proofs.Digits.{Decoding, decoding-start, decoding-on, decoding-full, decoding-breaks, decoding-ends, pair-length}
 use Rattle.text_line.proofs.Text.{tail-is, past-length}
 use Rattle.text_line.proofs.decode_hex.Statement.{statement}
@@ -22,7 +22,7 @@ abbrev μ-loop : tie.MeasureT-loop
 μ-loop s out₀ rest₀ n₀ out rest n = length rest
 
 -- the byte that was read
-byte-read : (c : tie.After-pair Inv-loop μ-loop) → hexPairOf (c .before .before .before .before .loop .rest .now) ≡ HexPair.Byte (c .pair .given .0 .0)
+byte-read : (c : tie.After-pair Inv-loop μ-loop) → hexPairAtFront (c .before .before .before .before .loop .rest .now) ≡ HexPair.Byte (c .pair .given .0 .0)
 byte-read c = sym (c .before .before .pair-at .ensures) ∙ c .pair .given .1
 
 loop-holds : tie.Need-loop-holds Inv-loop μ-loop
@@ -43,16 +43,16 @@ inside c = pair-length _ _ (byte-read (c .before .before))
 
 -- what is left after it, past the blanks
 left : (c : tie.After-past-blanks2 Inv-loop μ-loop)
-    → c .past-blanks2 .result .now ≡ pastFront (isOfKind CharacterKind.Blank) (drop 2 (c .before .before .before .before .before .before .before .before .loop .rest .now))
+    → c .past-blanks2 .result .now ≡ afterLongestPrefix (isCharacterOfKind CharacterKind.Blank) (drop 2 (c .before .before .before .before .before .before .before .before .loop .rest .now))
 left c =
     let rest = c .before .before .before .before .before .before .before .before .loop .rest .now in
-    c .past-blanks2 .ensures ∙ ap (pastFront (isOfKind CharacterKind.Blank)) (tail-is rest 2)
+    c .past-blanks2 .ensures ∙ ap (afterLongestPrefix (isCharacterOfKind CharacterKind.Blank)) (tail-is rest 2)
 
 loop-less : tie.Need-loop-less Inv-loop μ-loop
 loop-less c =
     let rest = c .before .before .before .before .before .before .before .before .loop .rest .now in
     let h = inside (c .before .before) in
-    let k = past-length (isOfKind CharacterKind.Blank) (drop 2 rest) in
+    let k = past-length (isCharacterOfKind CharacterKind.Blank) (drop 2 rest) in
     let l = length-drop 2 rest in
     rw (left c) (omega arith)
 

@@ -6,13 +6,13 @@ use Prim.Native.Nat.{_+_, _-_, _≤_}
 use native.Mathlib.Omega.{arith}
 use lib.ListN.{length, drop}
 use borrow.Author.Tests.{not-true, not-false}
-use Rattle.text_line.specs.Text.{isOfKind, longestFront}
+use Rattle.text_line.specs.Text.{isCharacterOfKind, longestPrefix}
 use Rattle.text_line.proofs.Text.{front-stops, front-goes-on, front-ends}
 use Rattle.text_line.proofs.front_length.Statement.{statement}
 use Rattle.text_line.proofs.front_length.Tie as tie
 
 abbrev Inv-loop : tie.InvT-loop
-Inv-loop s kind i₀ i = (i ≤ length s) × (length (longestFront (isOfKind kind) s) ≡ i + length (longestFront (isOfKind kind) (drop i s)))
+Inv-loop s kind i₀ i = (i ≤ length s) × (length (longestPrefix (isCharacterOfKind kind) s) ≡ i + length (longestPrefix (isCharacterOfKind kind) (drop i s)))
 
 abbrev μ-loop : tie.MeasureT-loop
 μ-loop s kind i₀ i = length s - i

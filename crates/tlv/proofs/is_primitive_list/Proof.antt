@@ -8,16 +8,16 @@ use native.Mathlib.Omega.{arith}
 use lib.ListN.{length, length-take, length-drop}
 use Rattle.tlv.specs.declared.ObjectFront.the-variants as front
 use Rattle.tlv.proofs.Laws.{HeaderFits}
-use Rattle.tlv.specs.Primitives.{primitiveOf, primitiveObjects, isPrimitiveList}
+use Rattle.tlv.specs.Primitives.{primitiveAtFront, primitiveObjects, arePrimitiveObjectsParsed}
 use Rattle.tlv.proofs.Primitives.{primitive-fits, is-run-end, is-run-broken, is-run-on}
 use Rattle.tlv.proofs.is_primitive_list.Statement.{statement}
 use Rattle.tlv.proofs.is_primitive_list.Tie as tie
 use Rattle.tlv.proofs.is_primitive_list.Reads as reads
 use Rattle.tlv.proofs.is_primitive_list.Lts as lts
-use Rattle.tlv.proofs.primitive.Reads as primitive
+use Rattle.tlv.proofs.primitive_at_front.Reads as primitive
 
 abbrev Inv-loop : tie.InvT-loop
-Inv-loop bytes s₀ s = (isPrimitiveList (primitiveObjects s₀) ≡ isPrimitiveList (primitiveObjects s)) × (length s ≤ length s₀)
+Inv-loop bytes s₀ s = (arePrimitiveObjectsParsed (primitiveObjects s₀) ≡ arePrimitiveObjectsParsed (primitiveObjects s)) × (length s ≤ length s₀)
 
 abbrev μ-loop : tie.MeasureT-loop
 μ-loop bytes s₀ s = length s
@@ -26,8 +26,8 @@ abbrev μ-loop : tie.MeasureT-loop
 abbrev At-object : Type 0
 At-object = lts.After-front (primitive.Asked, primitive.Learnt) reads.Pre reads.Post Inv-loop μ-loop
 
-next-at : (c : At-object) → primitiveOf (c .before .before .before .before .loop .s .now) ≡ front.Object (c .front .given .0 .0)
-next-at c = sym (c .before .before .primitive .ensures) ∙ c .front .given .1
+next-at : (c : At-object) → primitiveAtFront (c .before .before .before .before .loop .s .now) ≡ front.Object (c .front .given .0 .0)
+next-at c = sym (c .before .before .primitive-at-front .ensures) ∙ c .front .given .1
 
 fits-at : (c : At-object) → HeaderFits (c .before .before .before .before .loop .s .now) (c .front .given .0 .0)
 fits-at c = primitive-fits _ _ (next-at c)
@@ -35,7 +35,7 @@ fits-at c = primitive-fits _ _ (next-at c)
 returns : tie.Need-returns Inv-loop μ-loop
 returns c =
     let lp = c .before .before .before .before .loop in
-    sym (lp .inv .0 ∙ is-run-broken _ (c .before .before .before .loop-test .taken) (sym (c .before .before .primitive .ensures) ∙ c .enum-told .given .1))
+    sym (lp .inv .0 ∙ is-run-broken _ (c .before .before .before .loop-test .taken) (sym (c .before .before .primitive-at-front .ensures) ∙ c .enum-told .given .1))
 
 loop-again : tie.Need-loop-again Inv-loop μ-loop
 loop-again c =

@@ -7,7 +7,7 @@ use native.Mathlib.Omega.{arith}
 use lib.ListN.{drop, length-drop}
 use Rattle.tlv.specs.declared.ObjectFront.the-variants.{Object}
 use Rattle.tlv.specs.Object.{headerOf}
-use Rattle.tlv.specs.Tree.{frontNext, nextShifted}
+use Rattle.tlv.specs.Tree.{nextInTemplateOfFront, nextInTemplateShifted}
 use Rattle.tlv.proofs.Laws.{header-fits, tail-is}
 use Rattle.tlv.proofs.object_at.Statement.{statement}
 use Rattle.tlv.proofs.object_at.Tie as tie
@@ -18,7 +18,7 @@ use Rattle.tlv.proofs.object_header.Reads as head-reads
 returns : tie.Need-returns
 returns c =
     let a = c .before .before .before .before .before .args in
-    sym (ap (λ x. nextShifted (a .at) (frontNext x)) (ap headerOf (sym (tail-is (a .s .now) (a .at))) ∙ sym (c .before .before .object-header .ensures) ∙ c .enum-told .given .1))
+    sym (ap (λ x. nextInTemplateShifted (a .at) (nextInTemplateOfFront x)) (ap headerOf (sym (tail-is (a .s .now) (a .at))) ∙ sym (c .before .before .object-header .ensures) ∙ c .enum-told .given .1))
 
 -- where an object is present
 abbrev At-object : Type 0
@@ -38,7 +38,7 @@ add-start c =
     omega arith
 
 returns-2 : tie.Need-returns-2
-returns-2 c = sym (ap (λ x. nextShifted (c .before .before .before .before .before .before .before .args .at) (frontNext x)) (head-at c))
+returns-2 c = sym (ap (λ x. nextInTemplateShifted (c .before .before .before .before .before .before .before .args .at) (nextInTemplateOfFront x)) (head-at c))
 
 pub object-at-spec : {M : Type 1} → statement M
 object-at-spec =

@@ -6,13 +6,13 @@ use mathlib.Core.Path.{_≡_, sym, _∙_}
 use Prim.Native.Nat.{_-_, _≤_}
 use native.Mathlib.Omega.{arith}
 use lib.ListN.{length, drop}
-use Rattle.tlv.specs.Tree.{nextShifted, nextOf}
+use Rattle.tlv.specs.Tree.{nextInTemplateShifted, nextInTemplate}
 use Rattle.tlv.proofs.NextObject.{moved-zero, pass-zero}
 use Rattle.tlv.proofs.padding.Statement.{statement}
 use Rattle.tlv.proofs.padding.Tie as tie
 
 abbrev Inv-loop : tie.InvT-loop
-Inv-loop s at₀ at = (at ≤ length s) × (nextOf s ≡ nextShifted at (nextOf (drop at s)))
+Inv-loop s at₀ at = (at ≤ length s) × (nextInTemplate s ≡ nextInTemplateShifted at (nextInTemplate (drop at s)))
 
 abbrev μ-loop : tie.MeasureT-loop
 μ-loop s at₀ at = length s - at

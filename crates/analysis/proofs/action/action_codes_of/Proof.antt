@@ -6,7 +6,7 @@ use borrow.Author.Needs.{needs}
 use Rattle.dictionary.specs.Rows.{dictionaryRows, findRow}
 use Rattle.dictionary.specs.declared.RowFound.the-variants.{At}
 use Rattle.dictionary.proofs.Named.{at-9F0D, at-9F0E, at-9F0F, at-DF8120, at-DF8121, at-DF8122}
-use Rattle.store.specs.Place.{bytesOfValue, rowValue, objectValue}
+use Rattle.store.specs.Place.{bytesOrEmptyIfAbsent, rowValue, objectValue}
 use Rattle.store.proofs.Laws.{by-row}
 use Rattle.store.specs.Held.{storedBytes}
 use Rattle.analysis.specs.Action.{actionCodesOf}
@@ -16,8 +16,8 @@ use Rattle.analysis.proofs.action.action_codes_of.Statement.{statement}
 use Rattle.analysis.proofs.action.action_codes_of.Tie as tie
 
 pair : (b : List ℕ) (stage t u : ℕ) {j k : ℕ} → findRow dictionaryRows t ≡ At j → findRow dictionaryRows u ≡ At k → {r : ActionCodes}
-    → r ≡ actionCodesAt stage (rowValue dictionaryRows b j) (bytesOfValue (rowValue dictionaryRows b k)) → r ≡ actionCodesAt stage (objectValue b t) (storedBytes b u)
-pair b stage t u {j} {k} p q e = e ∙ ap₂ (actionCodesAt stage) (sym (by-row dictionaryRows b t j p)) (ap bytesOfValue (sym (by-row dictionaryRows b u k q)))
+    → r ≡ actionCodesAt stage (rowValue dictionaryRows b j) (bytesOrEmptyIfAbsent (rowValue dictionaryRows b k)) → r ≡ actionCodesAt stage (objectValue b t) (storedBytes b u)
+pair b stage t u {j} {k} p q e = e ∙ ap₂ (actionCodesAt stage) (sym (by-row dictionaryRows b t j p)) (ap bytesOrEmptyIfAbsent (sym (by-row dictionaryRows b u k q)))
 
 returns : tie.Need-returns
 unfolding actionCodesOf

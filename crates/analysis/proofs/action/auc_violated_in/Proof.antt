@@ -3,19 +3,19 @@
 use mathlib.Core.Path.{_∙_}
 use borrow.Author.Needs.{needs}
 use Rattle.dictionary.proofs.Named.{at-9C, at-9F07}
-use Rattle.analysis.specs.Action.{aucViolatedIn}
+use Rattle.analysis.specs.Action.{aucViolatedInStore}
 use Rattle.analysis.proofs.ByRow.{value-by-row, byte-by-row}
 use Rattle.analysis.proofs.action.auc_violated_in.Statement.{statement}
 use Rattle.analysis.proofs.action.auc_violated_in.Tie as tie
 
 returns : tie.Need-returns
-unfolding aucViolatedIn
+unfolding aucViolatedInStore
 returns c =
     let b = c .before .before .before .before .before .before .before .before .args .bytes .now in
     let before-atm = c .before .before .before .before .before in
     c .auc-violated .ensures
     ∙ simp (
-      value-by-row b 0x9F07 at-9F07 (before-atm .before .is-there .ensures) (before-atm .value .ensures),
+      value-by-row b 0x9F07 at-9F07 (before-atm .before .is-present .ensures) (before-atm .value .ensures),
       c .before .before .before .before .atm-in .ensures,
       c .before .before .before .country-in .ensures,
       byte-by-row b 0x9C at-9C (c .before .before .byte-in .ensures),

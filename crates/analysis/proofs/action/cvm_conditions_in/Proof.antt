@@ -27,8 +27,8 @@ returns c =
       c .before .before .before .before .atm-in .ensures,
       c .before .before .before .currency-in .ensures,
       amounts .amount-of .ensures ∙ ap amountOf (bytes-by-row _ 0x9F02 at-9F02 (amounts .before .value3 .ensures)),
-      c .before .before .number-at .ensures ∙ ap cvmAmountX list,
-      c .before .number-at2 .ensures ∙ ap cvmAmountY list,
+      c .before .before .four-byte-number-at .ensures ∙ ap cvmAmountX list,
+      c .before .four-byte-number-at2 .ensures ∙ ap cvmAmountY list,
     )
 
 pub cvm-conditions-in-spec : {M : Type 1} → statement M

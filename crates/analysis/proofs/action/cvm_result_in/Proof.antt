@@ -14,7 +14,7 @@ returns : tie.Need-returns
 unfolding cvmResultIn
 returns c =
     let t = c .before in
-    c .on-device-result .ensures ∙ sym (if-yes _ _ (sym (t .before .has-on-device-cvm .ensures) ∙ t .if1 .taken))
+    c .on-device-result .ensures ∙ sym (if-yes _ _ (sym (t .before .card-and-kernel-support-on-device-cvm .ensures) ∙ t .if1 .taken))
 
 returns-2 : tie.Need-returns-2
 unfolding cvmResultIn
@@ -24,9 +24,9 @@ returns-2 c =
     c .perform-cvm .ensures
     ∙ (simp (
       byte-by-row _ 0x82 at-82 (list .before .before .byte-in .ensures),
-      value-by-row _ 0x8E at-8E (list .before .is-there .ensures) (list .value .ensures),
+      value-by-row _ 0x8E at-8E (list .before .is-present .ensures) (list .value .ensures),
       c .before .cvm-conditions-in .ensures,
-    ) (sym (if-no _ _ (sym (t .before .has-on-device-cvm .ensures) ∙ t .if1 .left))))
+    ) (sym (if-no _ _ (sym (t .before .card-and-kernel-support-on-device-cvm .ensures) ∙ t .if1 .left))))
 
 pub cvm-result-in-spec : {M : Type 1} → statement M
 cvm-result-in-spec =

@@ -2,20 +2,20 @@
 use mathlib.Core.Path.{ap₂, _∙_}
 use borrow.Author.Needs.{needs}
 use Rattle.dictionary.proofs.Named.{at-9A, at-5F24}
-use Rattle.analysis.specs.Action.{restrictionsByte}
-use Rattle.analysis.specs.Digits.{dateLater}
+use Rattle.analysis.specs.Action.{restrictionsTvrByte2}
+use Rattle.analysis.specs.Digits.{firstDateIsLater}
 use Rattle.analysis.proofs.ByRow.{bytes-by-row}
 use Rattle.analysis.proofs.action.restrictions_byte.Statement.{statement}
 use Rattle.analysis.proofs.action.restrictions_byte.Tie as tie
 
 returns : tie.Need-returns
-unfolding restrictionsByte
+unfolding restrictionsTvrByte2
 returns c =
     let later = c .before .before .before .before in
     c .tvr-byte2 .ensures
     ∙ simp (
       c .before .before .before .version-differs-in .ensures,
-      later .later .ensures ∙ ap₂ dateLater (bytes-by-row _ 0x9A at-9A (later .before .before .value .ensures)) (bytes-by-row _ 0x5F24 at-5F24 (later .before .value2 .ensures)),
+      later .first-date-is-later .ensures ∙ ap₂ firstDateIsLater (bytes-by-row _ 0x9A at-9A (later .before .before .value .ensures)) (bytes-by-row _ 0x5F24 at-5F24 (later .before .value2 .ensures)),
       c .before .before .not-yet-effective-in .ensures,
       c .before .auc-violated-in .ensures,
     )

@@ -15,14 +15,14 @@ unfolding transactionLimit
 returns c =
     let t = c .before .before in
     c .amount-of .ensures ∙ ap amountOf (bytes-by-row _ 0xDF8125 at-DF8125 (c .before .value .ensures))
-    ∙ sym (if-yes _ _ (sym (t .before .has-on-device-cvm .ensures) ∙ t .if1 .taken))
+    ∙ sym (if-yes _ _ (sym (t .before .card-and-kernel-support-on-device-cvm .ensures) ∙ t .if1 .taken))
 
 returns-2 : tie.Need-returns-2
 unfolding transactionLimit
 returns-2 c =
     let t = c .before .before in
     c .amount-of2 .ensures ∙ ap amountOf (bytes-by-row _ 0xDF8124 at-DF8124 (c .before .value2 .ensures))
-    ∙ sym (if-no _ _ (sym (t .before .has-on-device-cvm .ensures) ∙ t .if1 .left))
+    ∙ sym (if-no _ _ (sym (t .before .card-and-kernel-support-on-device-cvm .ensures) ∙ t .if1 .left))
 
 pub transaction-limit-spec : {M : Type 1} → statement M
 transaction-limit-spec =

@@ -5,23 +5,23 @@ use borrow.Author.Needs.{needs}
 use borrow.Author.Tests.{not-true, not-false}
 use Rattle.basics.proofs.Laws.{both-yes, both-no-left, either-left}
 use Rattle.basics.specs.Choice.{both, either}
-use Rattle.analysis.specs.Inner.{bitHeldIn}
+use Rattle.analysis.specs.Inner.{tvrByteBitInCodes}
 use Rattle.analysis.proofs.choice.holds_bit.Statement.{statement}
 use Rattle.analysis.proofs.choice.holds_bit.Tie as tie
 
 returns : tie.Need-returns
-unfolding bitHeldIn
-returns c = sym (both-no-left _ _ (sym (c .before .bit .ensures) ∙ not-true _ (c .if1 .taken)))
+unfolding tvrByteBitInCodes
+returns c = sym (both-no-left _ _ (sym (c .before .byte-has-bit .ensures) ∙ not-true _ (c .if1 .taken)))
 
 returns-2 : tie.Need-returns-2
-unfolding bitHeldIn
-returns-2 c = sym (both-yes _ _ (sym (c .before .before .before .bit .ensures) ∙ not-false _ (c .before .before .if1 .left)) (either-left _ _ (sym (c .before .bit2 .ensures) ∙ c .if2 .taken)))
+unfolding tvrByteBitInCodes
+returns-2 c = sym (both-yes _ _ (sym (c .before .before .before .byte-has-bit .ensures) ∙ not-false _ (c .before .before .if1 .left)) (either-left _ _ (sym (c .before .byte-has-bit2 .ensures) ∙ c .if2 .taken)))
 
 returns-3 : tie.Need-returns-3
-unfolding bitHeldIn both either
+unfolding tvrByteBitInCodes both either
 returns-3 c =
-    simp (sym (c .before .before .before .before .bit .ensures) ∙ not-false _ (c .before .before .before .if1 .left), sym (c .before .before .bit2 .ensures) ∙ c .before .if2 .left)
-    (c .bit3 .ensures)
+    simp (sym (c .before .before .before .before .byte-has-bit .ensures) ∙ not-false _ (c .before .before .before .if1 .left), sym (c .before .before .byte-has-bit2 .ensures) ∙ c .before .if2 .left)
+    (c .byte-has-bit3 .ensures)
 
 pub holds-bit-spec : {M : Type 1} → statement M
 holds-bit-spec =

@@ -6,14 +6,14 @@ use native.Mathlib.Omega.{arith}
 use lib.ListN.{length}
 use borrow.Author.Needs.{needs}
 use borrow.Author.Tests.{not-true, not-false}
-use Rattle.analysis.specs.Cvm.{cvmRulesFrom, byCvmRules}
+use Rattle.analysis.specs.Cvm.{cvmRulesFromPairs, cvmResultByRules}
 use Rattle.analysis.proofs.CvmSteps.{tail-less, rules-end, rule-not-met, rule-taken, rule-next, rule-last}
 use Rattle.analysis.proofs.cvm.by_cvm_rules.Statement.{statement}
 use Rattle.analysis.proofs.cvm.by_cvm_rules.Tie as tie
 
 abbrev Inv-loop : tie.InvT-loop
 Inv-loop rules terms rest₀ unrecognised₀ rest unrecognised =
-    byCvmRules terms unrecognised₀ (cvmRulesFrom rest₀) ≡ byCvmRules terms unrecognised (cvmRulesFrom rest)
+    cvmResultByRules terms unrecognised₀ (cvmRulesFromPairs rest₀) ≡ cvmResultByRules terms unrecognised (cvmRulesFromPairs rest)
 
 abbrev μ-loop : tie.MeasureT-loop
 μ-loop rules terms rest₀ unrecognised₀ rest unrecognised = length rest

@@ -5,7 +5,7 @@ use Rattle.analysis.proofs.cvm.cvm_not_performed.Statement.{statement}
 use Rattle.analysis.proofs.cvm.cvm_not_performed.Tie as tie
 
 returns : tie.Need-returns
-returns c = simp (c .bit-weight .ensures .0)
+returns c = simp (c .weight-if-set .ensures .0)
 
 pub cvm-not-performed-spec : {M : Type 1} → statement M
 cvm-not-performed-spec = tie.close (tie.spec (λ c κs. search needs) returns)

@@ -14,31 +14,31 @@ returns c = simp (c .match .keys1)
 
 returns-2 : tie.Need-returns-2
 unfolding cvmSupported if
-returns-2 c = simp (c .before .match .keys2, c .bit .ensures)
+returns-2 c = simp (c .before .match .keys2, c .byte-has-bit .ensures)
 
 returns-3 : tie.Need-returns-3
 unfolding cvmSupported if
-returns-3 c = simp (c .before .match .keys3, c .bit2 .ensures)
+returns-3 c = simp (c .before .match .keys3, c .byte-has-bit2 .ensures)
 
 returns-4 : tie.Need-returns-4
 unfolding cvmSupported if
-returns-4 c = simp (c .before .before .match .keys4) (and-both _ _ _ _ (c .before .bit3 .ensures) (c .bit4 .ensures))
+returns-4 c = simp (c .before .before .match .keys4) (and-both _ _ _ _ (c .before .byte-has-bit3 .ensures) (c .byte-has-bit4 .ensures))
 
 returns-5 : tie.Need-returns-5
 unfolding cvmSupported if
-returns-5 c = simp (c .before .match .keys5, c .bit5 .ensures)
+returns-5 c = simp (c .before .match .keys5, c .byte-has-bit5 .ensures)
 
 returns-6 : tie.Need-returns-6
 unfolding cvmSupported if
-returns-6 c = simp (c .before .before .match .keys6) (and-both _ _ _ _ (c .before .bit6 .ensures) (c .bit7 .ensures))
+returns-6 c = simp (c .before .before .match .keys6) (and-both _ _ _ _ (c .before .byte-has-bit6 .ensures) (c .byte-has-bit7 .ensures))
 
 returns-7 : tie.Need-returns-7
 unfolding cvmSupported if
-returns-7 c = simp (c .before .match .keys7, c .bit8 .ensures)
+returns-7 c = simp (c .before .match .keys7, c .byte-has-bit8 .ensures)
 
 returns-8 : tie.Need-returns-8
 unfolding cvmSupported if
-returns-8 c = simp (c .before .match .keys8, c .bit9 .ensures)
+returns-8 c = simp (c .before .match .keys8, c .byte-has-bit9 .ensures)
 
 returns-9 : tie.Need-returns-9
 unfolding cvmSupported if

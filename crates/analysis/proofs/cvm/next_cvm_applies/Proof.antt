@@ -13,7 +13,7 @@ returns c = let a = c .before .before .args in sym (goes-on-short (a .code) (a .
 returns-2 : tie.Need-returns-2
 returns-2 c =
     let a = c .before .before .before .args in
-    c .bit .ensures ∙ sym (goes-on-bit (a .code) (a .rest .now) (omega arith))
+    c .byte-has-bit .ensures ∙ sym (goes-on-bit (a .code) (a .rest .now) (omega arith))
 
 pub next-cvm-applies-spec : {M : Type 1} → statement M
 next-cvm-applies-spec = tie.close (tie.spec returns (λ c κs. search needs) returns-2)

@@ -8,7 +8,7 @@ use Rattle.analysis.proofs.cvm.no_cvm_performed.Tie as tie
 
 returns : tie.Need-returns
 unfolding if
-returns c = simp (c .bit-weight .ensures .0, add-zero)
+returns c = simp (c .weight-if-set .ensures .0, add-zero)
 
 pub no-cvm-performed-spec : {M : Type 1} → statement M
 no-cvm-performed-spec = tie.close (tie.spec (λ c κs. search needs) (λ c. search needs) returns)

@@ -3,19 +3,19 @@
 use mathlib.Core.Path.{sym, ap₂, _∙_}
 use borrow.Author.Needs.{needs}
 use Rattle.basics.proofs.Laws.{if-yes, if-no}
-use Rattle.analysis.specs.Restrictions.{byCountry, aucCashMet}
+use Rattle.analysis.specs.Restrictions.{requirementByCountry, aucAllowsCash}
 use Rattle.analysis.proofs.Listed.{is-one, is-none}
 use Rattle.analysis.proofs.restrictions.auc_cash_met.Statement.{statement}
 use Rattle.analysis.proofs.restrictions.auc_cash_met.Tie as tie
 
 returns : tie.Need-returns
-unfolding aucCashMet
+unfolding aucAllowsCash
 returns c =
     let a = c .before .before .before .before .before .args in
-    c .by-country .ensures ∙ ap₂ (byCountry (a .country)) (c .before .before .has .ensures) (c .before .has2 .ensures) ∙ sym (if-yes _ _ (is-one _ _ _ (c .before .before .before .match .keys1)))
+    c .by-country .ensures ∙ ap₂ (requirementByCountry (a .country)) (c .before .before .value-has-bit .ensures) (c .before .value-has-bit2 .ensures) ∙ sym (if-yes _ _ (is-one _ _ _ (c .before .before .before .match .keys1)))
 
 returns-2 : tie.Need-returns-2
-unfolding aucCashMet
+unfolding aucAllowsCash
 returns-2 c = sym (if-no _ _ (is-none _ _ _ (c .match .rest .1)))
 
 pub auc-cash-met-spec : {M : Type 1} → statement M

@@ -3,7 +3,7 @@
 use mathlib.Core.Path.{sym, ap₂, _∙_}
 use borrow.Author.Needs.{needs}
 use Rattle.basics.proofs.Laws.{if-yes, if-no}
-use Rattle.analysis.specs.Restrictions.{byCountry, aucAllowsCashback}
+use Rattle.analysis.specs.Restrictions.{requirementByCountry, aucAllowsCashback}
 use Rattle.analysis.proofs.restrictions.auc_cashback_met.Statement.{statement}
 use Rattle.analysis.proofs.restrictions.auc_cashback_met.Tie as tie
 
@@ -11,7 +11,7 @@ returns : tie.Need-returns
 unfolding aucAllowsCashback
 returns c =
     let a = c .before .before .before .before .before .args in
-    c .by-country .ensures ∙ ap₂ (byCountry (a .country)) (c .before .before .has .ensures) (c .before .has2 .ensures) ∙ sym (if-yes _ _ (c .before .before .before .if1 .taken))
+    c .by-country .ensures ∙ ap₂ (requirementByCountry (a .country)) (c .before .before .value-has-bit .ensures) (c .before .value-has-bit2 .ensures) ∙ sym (if-yes _ _ (c .before .before .before .if1 .taken))
 
 returns-2 : tie.Need-returns-2
 unfolding aucAllowsCashback

@@ -3,19 +3,19 @@
 use mathlib.Core.Path.{sym, ap₂, _∙_}
 use borrow.Author.Needs.{needs}
 use Rattle.basics.proofs.Laws.{if-yes, if-no}
-use Rattle.analysis.specs.Restrictions.{byCountry, aucGoodsMet}
+use Rattle.analysis.specs.Restrictions.{requirementByCountry, aucAllowsGoodsOrServices}
 use Rattle.analysis.proofs.Listed.{is-one, is-none}
 use Rattle.analysis.proofs.restrictions.auc_goods_met.Statement.{statement}
 use Rattle.analysis.proofs.restrictions.auc_goods_met.Tie as tie
 
 returns : tie.Need-returns
-unfolding aucGoodsMet
+unfolding aucAllowsGoodsOrServices
 returns c =
     let a = c .before .before .before .before .before .args in
-    c .by-country .ensures ∙ ap₂ (byCountry (a .country)) (c .before .before .one-of .ensures) (c .before .one-of2 .ensures) ∙ sym (if-yes _ _ (is-one _ _ _ (c .before .before .before .match .keys1)))
+    c .by-country .ensures ∙ ap₂ (requirementByCountry (a .country)) (c .before .before .one-of .ensures) (c .before .one-of2 .ensures) ∙ sym (if-yes _ _ (is-one _ _ _ (c .before .before .before .match .keys1)))
 
 returns-2 : tie.Need-returns-2
-unfolding aucGoodsMet
+unfolding aucAllowsGoodsOrServices
 returns-2 c = sym (if-no _ _ (is-none _ _ _ (c .match .rest .1)))
 
 pub auc-goods-met-spec : {M : Type 1} → statement M

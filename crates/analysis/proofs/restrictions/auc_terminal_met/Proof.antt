@@ -3,17 +3,17 @@
 use mathlib.Core.Path.{sym, _∙_}
 use borrow.Author.Needs.{needs}
 use Rattle.basics.proofs.Laws.{if-yes, if-no}
-use Rattle.analysis.specs.Restrictions.{aucTerminalMet}
+use Rattle.analysis.specs.Restrictions.{aucAllowsAtmOrNonAtm}
 use Rattle.analysis.proofs.restrictions.auc_terminal_met.Statement.{statement}
 use Rattle.analysis.proofs.restrictions.auc_terminal_met.Tie as tie
 
 returns : tie.Need-returns
-unfolding aucTerminalMet
-returns c = c .has .ensures ∙ sym (if-yes _ _ (c .before .if1 .taken))
+unfolding aucAllowsAtmOrNonAtm
+returns c = c .value-has-bit .ensures ∙ sym (if-yes _ _ (c .before .if1 .taken))
 
 returns-2 : tie.Need-returns-2
-unfolding aucTerminalMet
-returns-2 c = c .has2 .ensures ∙ sym (if-no _ _ (c .before .if1 .left))
+unfolding aucAllowsAtmOrNonAtm
+returns-2 c = c .value-has-bit2 .ensures ∙ sym (if-no _ _ (c .before .if1 .left))
 
 pub auc-terminal-met-spec : {M : Type 1} → statement M
 auc-terminal-met-spec = tie.close (tie.spec (λ c κs. search needs) returns (λ c κs. search needs) returns-2)

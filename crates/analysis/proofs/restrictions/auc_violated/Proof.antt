@@ -8,16 +8,16 @@ use borrow.Author.Needs.{needs}
 use borrow.Author.Tests.{not-true, not-false}
 use Rattle.basics.proofs.Laws.{both-no-left, both-no-right, both-true}
 use Rattle.basics.specs.Choice.{both}
-use Rattle.analysis.specs.Restrictions.{aucTerminalMet, aucCashMet, aucGoodsMet, aucAllowsCashback, aucViolated}
+use Rattle.analysis.specs.Restrictions.{aucAllowsAtmOrNonAtm, aucAllowsCash, aucAllowsGoodsOrServices, aucAllowsCashback, aucViolated}
 use Rattle.store.specs.Place.{StoredValue}
-use Rattle.analysis.specs.Value.{valueIf}
-use Rattle.analysis.specs.declared.restrictions.IssuerCountry.{IssuerCountry}
+use Rattle.analysis.specs.Value.{storedValueIf}
+use Rattle.analysis.specs.declared.restrictions.IssuerCountryMatch.{IssuerCountryMatch}
 use Rattle.analysis.proofs.Value.{given-there, given-absent}
 use Rattle.analysis.proofs.restrictions.auc_violated.Statement.{statement}
 use Rattle.analysis.proofs.restrictions.auc_violated.Tie as tie
 
 -- where the control is present, what is said of the four needs is said of the whole
-there : (t : Bool) (s : List ℕ) (atm : Bool) (k : IssuerCountry) (x : ℕ) (b v : Bool) → t ≡ true → both (aucTerminalMet s atm) (both (aucCashMet s k x) (both (aucGoodsMet s k x) (aucAllowsCashback s k b))) ≡ v → not v ≡ aucViolated (valueIf t s) atm k x b
+there : (t : Bool) (s : List ℕ) (atm : Bool) (k : IssuerCountryMatch) (x : ℕ) (b v : Bool) → t ≡ true → both (aucAllowsAtmOrNonAtm s atm) (both (aucAllowsCash s k x) (both (aucAllowsGoodsOrServices s k x) (aucAllowsCashback s k b))) ≡ v → not v ≡ aucViolated (storedValueIf t s) atm k x b
 unfolding aucViolated
 there t s atm k x b v e m = sym (ap (λ (w : StoredValue). aucViolated w atm k x b) (given-there t s e) ∙ ap not m)
 

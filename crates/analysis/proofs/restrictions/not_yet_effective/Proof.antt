@@ -12,7 +12,7 @@ returns : tie.Need-returns
 unfolding notYetEffective
 returns c =
     let a = c .before .before .before .before .args in
-    c .later .ensures ∙ sym (ap (λ (v : StoredValue). notYetEffective v (a .today .now)) (given-there (a .there) (a .effective .now) (c .before .if1 .taken)))
+    c .first-date-is-later .ensures ∙ sym (ap (λ (v : StoredValue). notYetEffective v (a .today .now)) (given-there (a .there) (a .effective .now) (c .before .if1 .taken)))
 
 returns-2 : tie.Need-returns-2
 unfolding notYetEffective

@@ -7,10 +7,10 @@ use Rattle.analysis.proofs.restrictions.one_of.Statement.{statement}
 use Rattle.analysis.proofs.restrictions.one_of.Tie as tie
 
 returns : tie.Need-returns
-returns c = sym (either-left _ _ (sym (c .before .has .ensures) ∙ c .if1 .taken))
+returns c = sym (either-left _ _ (sym (c .before .value-has-bit .ensures) ∙ c .if1 .taken))
 
 returns-2 : tie.Need-returns-2
-returns-2 c = c .has2 .ensures ∙ sym (either-false _ (sym (c .before .before .has .ensures) ∙ c .before .if1 .left))
+returns-2 c = c .value-has-bit2 .ensures ∙ sym (either-false _ (sym (c .before .before .value-has-bit .ensures) ∙ c .before .if1 .left))
 
 pub one-of-spec : {M : Type 1} → statement M
 one-of-spec = tie.close (tie.spec (λ c κs. search needs) returns (λ c κs. search needs) returns-2)

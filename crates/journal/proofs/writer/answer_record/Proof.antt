@@ -9,7 +9,7 @@ use mathlib.Core.List.{List, [], _∷_, _++_}
 use Prim.Native.Nat.{ℕ}
 use lib.ListN.{length}
 use Rattle.basics.proofs.Laws.{if-yes, if-no}
-use Rattle.journal.specs.Record.{twoByteLength, zeroPadded, lengthAndPadded}
+use Rattle.journal.specs.Record.{lengthInTwoBytes, zeroPadded, lengthThenPaddedBytes}
 use Rattle.journal.proofs.WriterLaws.{in-zeros}
 use Rattle.journal.proofs.writer.answer_record.Statement.{statement}
 use Rattle.journal.proofs.writer.answer_record.Tie as tie
@@ -21,7 +21,7 @@ returns-2 : tie.Need-returns-2
 returns-2 c =
     let v = c .before .before .before .before .before .args .card .now in
     in-zeros 2 258 v _ (c .before .fill .ensures)
-    ∙ ap (λ (b : List ℕ). 2 ∷ b) (sym (if-yes (lengthAndPadded 258 v) (twoByteLength 0xFFFF ++ zeroPadded 258 []) (le-leb (length v) 258 (omega (arith, c .before .before .before .if1 .left)))))
+    ∙ ap (λ (b : List ℕ). 2 ∷ b) (sym (if-yes (lengthThenPaddedBytes 258 v) (lengthInTwoBytes 0xFFFF ++ zeroPadded 258 []) (le-leb (length v) 258 (omega (arith, c .before .before .before .if1 .left)))))
 
 pub answer-record-spec : {M : Type 1} → statement M
 answer-record-spec =

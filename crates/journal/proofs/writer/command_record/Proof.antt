@@ -6,21 +6,21 @@ use native.Mathlib.Omega.{arith}
 use mathlib.Core.Path.{sym, _∙_}
 use lib.ListN.{length, take, length-take}
 use Rattle.basics.proofs.Laws.{if-yes, if-no, both-yes, both-no-left, both-no-right}
-use Rattle.journal.specs.Writer.{commandRecordBytes}
+use Rattle.journal.specs.Writer.{commandRecordOrZeros}
 use Rattle.journal.proofs.WriterLaws.{in-zeros, front-in}
 use Rattle.journal.proofs.writer.command_record.Statement.{statement}
 use Rattle.journal.proofs.writer.command_record.Tie as tie
 
 returns : tie.Need-returns
-unfolding commandRecordBytes
+unfolding commandRecordOrZeros
 returns c = sym (if-no _ _ (both-no-left _ _ (lt-leb _ _ (c .if1 .taken))))
 
 returns-2 : tie.Need-returns-2
-unfolding commandRecordBytes
+unfolding commandRecordOrZeros
 returns-2 c = sym (if-no _ _ (both-no-right _ _ (lt-leb _ _ (c .if2 .taken))))
 
 returns-3 : tie.Need-returns-3
-unfolding commandRecordBytes
+unfolding commandRecordOrZeros
 returns-3 c =
     let a = c .before .before .before .before .before .before .before .args in
     let h = c .before .before .before .before .if2 .left in

@@ -6,17 +6,17 @@ use native.Mathlib.Omega.{arith}
 use mathlib.Core.Path.{sym, _∙_}
 use lib.ListN.{length, replicate}
 use Rattle.basics.proofs.Laws.{if-yes, if-no}
-use Rattle.journal.specs.Writer.{startRecordBytes}
+use Rattle.journal.specs.Writer.{startRecordOrZeros}
 use Rattle.journal.proofs.WriterLaws.{in-zeros}
 use Rattle.journal.proofs.writer.start_record.Statement.{statement}
 use Rattle.journal.proofs.writer.start_record.Tie as tie
 
 returns : tie.Need-returns
-unfolding startRecordBytes
+unfolding startRecordOrZeros
 returns c = sym (if-no _ _ (lt-leb _ _ (c .if1 .taken)))
 
 returns-2 : tie.Need-returns-2
-unfolding startRecordBytes
+unfolding startRecordOrZeros
 returns-2 c =
     let v = c .before .before .before .before .before .args .bytes .now in
     in-zeros 1 1024 v _ (c .before .fill .ensures)

@@ -5,15 +5,15 @@ use mathlib.Core.Path.{_≡_, sym, _∙_}
 use Prim.Native.Nat.{_-_, _≤_}
 use native.Mathlib.Omega.{arith}
 use Rattle.personalise.specs.Placements.{placementsIn}
-use Rattle.personalise.specs.Records.{recordBadAt, firstFault, badRecord}
-use Rattle.personalise.specs.Objects.{listedObjects}
+use Rattle.personalise.specs.Records.{hasBadPlacementOrOver253Bytes, firstBadNumberFrom, firstBadRecord}
+use Rattle.personalise.specs.Objects.{parsedObjectsOrEmpty}
 use Rattle.personalise.proofs.Least.{first-start, first-yes, first-on, first-none}
 use Rattle.personalise.proofs.contents.bad_record.Statement.{statement}
 use Rattle.personalise.proofs.contents.bad_record.Tie as tie
 
 abbrev Inv-loop : tie.InvT-loop
 Inv-loop objects placements records count k₀ k =
-    (badRecord (listedObjects objects) (placementsIn placements) records ≡ firstFault (recordBadAt (listedObjects objects) (placementsIn placements) records) k (256 - k)) × (k ≤ 256)
+    (firstBadRecord (parsedObjectsOrEmpty objects) (placementsIn placements) records ≡ firstBadNumberFrom (hasBadPlacementOrOver253Bytes (parsedObjectsOrEmpty objects) (placementsIn placements) records) k (256 - k)) × (k ≤ 256)
 
 abbrev μ-loop : tie.MeasureT-loop
 μ-loop objects placements records count k₀ k = 256 - k

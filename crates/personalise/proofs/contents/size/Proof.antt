@@ -7,14 +7,14 @@ use Prim.Native.Nat.{_+_, _-_, _≤_}
 use native.Mathlib.Omega.{arith}
 use lib.ListN.{length}
 use Rattle.tlv.specs.declared.ObjectFront.the-variants as front
-use Rattle.tlv.specs.Primitives.{primitiveOf, primitiveObjects, isPrimitiveList}
+use Rattle.tlv.specs.Primitives.{primitiveAtFront, primitiveObjects, arePrimitiveObjectsParsed}
 use Rattle.tlv.proofs.Laws.{HeaderFits}
 use Rattle.tlv.proofs.Primitives.{primitive-fits}
-use Rattle.tlv.proofs.primitive.Reads as primitive
-use Rattle.personalise.specs.Placements.{placementsIn, objectsFrom}
-use Rattle.personalise.specs.Records.{contentBytes}
-use Rattle.personalise.specs.Objects.{listedObjects}
-use Rattle.personalise.specs.Inner.{cappedSize}
+use Rattle.tlv.proofs.primitive_at_front.Reads as primitive
+use Rattle.personalise.specs.Placements.{placementsIn, objectsInRecordFrom}
+use Rattle.personalise.specs.Records.{encodedObjects}
+use Rattle.personalise.specs.Objects.{parsedObjectsOrEmpty}
+use Rattle.personalise.specs.Inner.{sizeCappedAt254}
 use Rattle.personalise.proofs.Listed.{run-broken, rest-run, rest-less, size-on, size-end}
 use Rattle.personalise.proofs.contents.size.Statement.{statement}
 use Rattle.personalise.proofs.contents.size.Tie as tie
@@ -24,8 +24,8 @@ use Rattle.personalise.proofs.contents.placed_size.Reads as placed-size
 
 abbrev Inv-loop : tie.InvT-loop
 Inv-loop objects placements k s₀ number₀ total₀ s number total =
-    (cappedSize (total₀ + length (contentBytes (objectsFrom (placementsIn placements) k number₀ (listedObjects s₀)))) ≡ cappedSize (total + length (contentBytes (objectsFrom (placementsIn placements) k number (listedObjects s)))))
-    × (isPrimitiveList (primitiveObjects s) ≡ true) × (total ≤ 253) × (number + length s ≤ 1 + length s₀)
+    (sizeCappedAt254 (total₀ + length (encodedObjects (objectsInRecordFrom (placementsIn placements) k number₀ (parsedObjectsOrEmpty s₀)))) ≡ sizeCappedAt254 (total + length (encodedObjects (objectsInRecordFrom (placementsIn placements) k number (parsedObjectsOrEmpty s)))))
+    × (arePrimitiveObjectsParsed (primitiveObjects s) ≡ true) × (total ≤ 253) × (number + length s ≤ 1 + length s₀)
 
 abbrev μ-loop : tie.MeasureT-loop
 μ-loop objects placements k s₀ number₀ total₀ s number total = length s
@@ -34,8 +34,8 @@ abbrev μ-loop : tie.MeasureT-loop
 abbrev At-object : Type 0
 At-object = lts.After-front (primitive.Asked, primitive.Learnt, placed-size.Asked, placed-size.Learnt) reads.Pre reads.Post Inv-loop μ-loop
 
-next-at : (c : At-object) → primitiveOf (c .before .before .before .before .loop .s .now) ≡ front.Object (c .front .given .0 .0)
-next-at c = sym (c .before .before .primitive .ensures) ∙ c .front .given .1
+next-at : (c : At-object) → primitiveAtFront (c .before .before .before .before .loop .s .now) ≡ front.Object (c .front .given .0 .0)
+next-at c = sym (c .before .before .primitive-at-front .ensures) ∙ c .front .given .1
 
 fits-at : (c : At-object) → HeaderFits (c .before .before .before .before .loop .s .now) (c .front .given .0 .0)
 fits-at c = primitive-fits _ _ (next-at c)
@@ -43,7 +43,7 @@ fits-at c = primitive-fits _ _ (next-at c)
 returns : tie.Need-returns Inv-loop μ-loop
 returns c =
     let p = c .before .before in
-    absurd (run-broken _ (p .before .loop-test .taken) (p .before .before .loop .inv .1) (sym (p .primitive .ensures) ∙ c .enum-told .given .1))
+    absurd (run-broken _ (p .before .loop-test .taken) (p .before .before .loop .inv .1) (sym (p .primitive-at-front .ensures) ∙ c .enum-told .given .1))
 
 returns-2 : tie.Need-returns-2 Inv-loop μ-loop
 returns-2 c =

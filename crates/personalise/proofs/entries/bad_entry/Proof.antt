@@ -5,14 +5,14 @@ use mathlib.Core.Path.{_≡_, sym, _∙_}
 use Prim.Native.Nat.{_-_, _%_, _≤_}
 use native.Mathlib.Omega.{arith}
 use lib.ListN.{length, take, drop, length-take, length-drop}
-use Rattle.afl.specs.Records.{aflEntries, wholeEntries}
-use Rattle.personalise.specs.Entries.{badFrom, badEntry}
+use Rattle.afl.specs.Records.{aflEntries, aflLengthIsMultipleOf4}
+use Rattle.personalise.specs.Entries.{firstBadOrTruncatedEntryAfter, firstBadEntry}
 use Rattle.personalise.proofs.Proposed.{bad-start, bad-here, bad-on, bad-cut, bad-none, bad-nothing}
 use Rattle.personalise.proofs.entries.bad_entry.Statement.{statement}
 use Rattle.personalise.proofs.entries.bad_entry.Tie as tie
 
 abbrev Inv-loop : tie.InvT-loop
-Inv-loop s at₀ at = (badEntry s ≡ badFrom (aflEntries (take at s)) (aflEntries (drop at s)) (wholeEntries s)) × (at % 4 ≡ 0) × (at ≤ length s)
+Inv-loop s at₀ at = (firstBadEntry s ≡ firstBadOrTruncatedEntryAfter (aflEntries (take at s)) (aflEntries (drop at s)) (aflLengthIsMultipleOf4 s)) × (at % 4 ≡ 0) × (at ≤ length s)
 
 abbrev μ-loop : tie.MeasureT-loop
 μ-loop s at₀ at = length s - at

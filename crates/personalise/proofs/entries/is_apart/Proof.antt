@@ -5,13 +5,13 @@ use mathlib.Core.Path.{_≡_, refl, sym, _∙_}
 use native.Mathlib.Omega.{arith}
 use lib.ListN.{length}
 use Rattle.afl.specs.Records.{aflEntries}
-use Rattle.personalise.specs.Entries.{apartFrom}
+use Rattle.personalise.specs.Entries.{overlapsNoneBefore}
 use Rattle.personalise.proofs.Proposed.{tail-less, apart-end, apart-no, apart-on}
 use Rattle.personalise.proofs.entries.is_apart.Statement.{statement}
 use Rattle.personalise.proofs.entries.is_apart.Tie as tie
 
 abbrev Inv-loop : tie.InvT-loop
-Inv-loop before e rest₀ rest = apartFrom (aflEntries rest₀) e ≡ apartFrom (aflEntries rest) e
+Inv-loop before e rest₀ rest = overlapsNoneBefore (aflEntries rest₀) e ≡ overlapsNoneBefore (aflEntries rest) e
 
 abbrev μ-loop : tie.MeasureT-loop
 μ-loop before e rest₀ rest = length rest

@@ -9,7 +9,7 @@ use lib.ListN.{length}
 use lib.Dec.{leb}
 use Rattle.afl.specs.Entry.{entryRecordCount}
 use Rattle.afl.specs.Records.{aflEntries, sumOverEntries}
-use Rattle.personalise.specs.Entries.{mostRecords}
+use Rattle.personalise.specs.Entries.{mostCardRecords}
 use Rattle.personalise.proofs.Proposed.{entries-count, behind-many, behind-alone, behind-apart, behind-room}
 use Rattle.personalise.proofs.entries.keeps_behind.Statement.{statement}
 use Rattle.personalise.proofs.entries.keeps_behind.Tie as tie
@@ -45,7 +45,7 @@ returns-4 c =
     let q : length (aflEntries (st .args .before .now)) < 62 = omega arith in
     let z : r .count-records .result + c .count .result ≡ sumOverEntries entryRecordCount (aflEntries (st .args .before .now)) + entryRecordCount (st .args .e) =
         omega (arith, r .count-records .ensures .0, c .count .ensures .0) in
-    ap (λ (x : ℕ). leb x mostRecords) z
+    ap (λ (x : ℕ). leb x mostCardRecords) z
     ∙ sym (behind-room (aflEntries (st .args .before .now)) (st .args .e) q (sym (k .keeps-alone .ensures) ∙ not-false _ (a .before .if2 .left)) (sym (a .is-apart .ensures) ∙ not-false _ (e .if3 .left)))
 
 pub keeps-behind-spec : {M : Type 1} → statement M

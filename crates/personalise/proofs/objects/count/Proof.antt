@@ -6,12 +6,12 @@ use Prim.Native.Nat.{_+_, _≤_}
 use native.Mathlib.Omega.{arith}
 use lib.ListN.{length}
 use Rattle.tlv.specs.declared.ObjectFront.the-variants as front
-use Rattle.tlv.specs.Primitives.{primitiveOf, primitiveObjects, isPrimitiveList}
+use Rattle.tlv.specs.Primitives.{primitiveAtFront, primitiveObjects, arePrimitiveObjectsParsed}
 use Rattle.tlv.proofs.Laws.{HeaderFits}
 use Rattle.tlv.proofs.Primitives.{primitive-fits}
-use Rattle.tlv.proofs.primitive.Reads as primitive
+use Rattle.tlv.proofs.primitive_at_front.Reads as primitive
 use mathlib.Core.Bool.{true}
-use Rattle.personalise.specs.Objects.{listedObjects}
+use Rattle.personalise.specs.Objects.{parsedObjectsOrEmpty}
 use Rattle.personalise.proofs.Listed.{listed-end, listed-on, rest-run, run-broken, rest-less}
 use Rattle.personalise.proofs.objects.count.Statement.{statement}
 use Rattle.personalise.proofs.objects.count.Tie as tie
@@ -20,7 +20,7 @@ use Rattle.personalise.proofs.objects.count.Lts as lts
 
 abbrev Inv-loop : tie.InvT-loop
 Inv-loop objects s₀ n₀ s n =
-    (n₀ + length (listedObjects s₀) ≡ n + length (listedObjects s)) × (isPrimitiveList (primitiveObjects s) ≡ true) × (n + length s ≤ length s₀)
+    (n₀ + length (parsedObjectsOrEmpty s₀) ≡ n + length (parsedObjectsOrEmpty s)) × (arePrimitiveObjectsParsed (primitiveObjects s) ≡ true) × (n + length s ≤ length s₀)
 
 abbrev μ-loop : tie.MeasureT-loop
 μ-loop objects s₀ n₀ s n = length s
@@ -29,8 +29,8 @@ abbrev μ-loop : tie.MeasureT-loop
 abbrev At-object : Type 0
 At-object = lts.After-front (primitive.Asked, primitive.Learnt) reads.Pre reads.Post Inv-loop μ-loop
 
-next-at : (c : At-object) → primitiveOf (c .before .before .before .before .loop .s .now) ≡ front.Object (c .front .given .0 .0)
-next-at c = sym (c .before .before .primitive .ensures) ∙ c .front .given .1
+next-at : (c : At-object) → primitiveAtFront (c .before .before .before .before .loop .s .now) ≡ front.Object (c .front .given .0 .0)
+next-at c = sym (c .before .before .primitive-at-front .ensures) ∙ c .front .given .1
 
 fits-at : (c : At-object) → HeaderFits (c .before .before .before .before .loop .s .now) (c .front .given .0 .0)
 fits-at c = primitive-fits _ _ (next-at c)
@@ -38,7 +38,7 @@ fits-at c = primitive-fits _ _ (next-at c)
 returns : tie.Need-returns Inv-loop μ-loop
 returns c =
     let p = c .before .before in
-    absurd (run-broken _ (p .before .loop-test .taken) (p .before .before .loop .inv .1) (sym (p .primitive .ensures) ∙ c .enum-told .given .1))
+    absurd (run-broken _ (p .before .loop-test .taken) (p .before .before .loop .inv .1) (sym (p .primitive-at-front .ensures) ∙ c .enum-told .given .1))
 
 loop-less : tie.Need-loop-less Inv-loop μ-loop
 loop-less c =

@@ -5,7 +5,7 @@ use mathlib.Core.Path.{sym, _∙_}
 use Rattle.tlv.specs.Primitives.{tlvObject}
 use Rattle.dictionary.specs.Rows.{rowAt, inRecordResponse}
 use Rattle.reading.proofs.Laws.{row-comes}
-use Rattle.personalise.specs.Objects.{recordTemplate}
+use Rattle.personalise.specs.Objects.{tagRecordTemplate}
 use Rattle.personalise.proofs.Listed.{settable-unknown, settable-at}
 use Rattle.personalise.proofs.objects.is_settable.Statement.{statement}
 use Rattle.personalise.proofs.objects.is_settable.Tie as tie
@@ -23,7 +23,7 @@ returns-2 c =
     let l = f .before .before in
     let a = l .before .before .args in
     let g = f .found .given in
-    row-comes inRecordResponse (rowAt (g .0 .0)) recordTemplate (a .v .now) (c .may-come .ensures) (k .attributes-of .ensures)
+    row-comes inRecordResponse (rowAt (g .0 .0)) tagRecordTemplate (a .v .now) (c .may-come .ensures) (k .attributes-of .ensures)
     ∙ sym (settable-at (tlvObject (a .tag) (a .v .now)) (l .lookup-row .result .found) (l .lookup-row .ensures .0) (g .0 .0) (g .1))
 
 pub is-settable-spec : {M : Type 1} → statement M

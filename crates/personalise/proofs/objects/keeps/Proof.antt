@@ -6,13 +6,13 @@ use Prim.Native.Nat.{_+_, _≤_}
 use native.Mathlib.Omega.{arith}
 use lib.ListN.{length}
 use Rattle.tlv.specs.declared.ObjectFront.the-variants as front
-use Rattle.tlv.specs.Primitives.{primitiveOf, primitiveObjects}
+use Rattle.tlv.specs.Primitives.{primitiveAtFront, primitiveObjects}
 use Rattle.tlv.proofs.Laws.{HeaderFits}
 use Rattle.tlv.proofs.Primitives.{primitive-fits}
-use Rattle.tlv.proofs.primitive.Reads as primitive
+use Rattle.tlv.proofs.primitive_at_front.Reads as primitive
 use borrow.Author.Tests.{not-true, not-false}
 use Rattle.personalise.specs.Placements.{placementsIn}
-use Rattle.personalise.specs.Inner.{parsedListValid}
+use Rattle.personalise.specs.Inner.{parsedObjectsValidAndPlacedOnce}
 use Rattle.personalise.proofs.Listed.{keeps-end, keeps-broken, run-not-set, run-twice, run-not-once, run-next, rest-less}
 use Rattle.personalise.proofs.objects.keeps.Statement.{statement}
 use Rattle.personalise.proofs.objects.keeps.Tie as tie
@@ -24,7 +24,7 @@ use Rattle.personalise.proofs.placements.count_named.Reads as count-nam
 
 abbrev Inv-loop : tie.InvT-loop
 Inv-loop objects placements s₀ number₀ s number =
-    (parsedListValid (placementsIn placements) number₀ (primitiveObjects s₀) ≡ parsedListValid (placementsIn placements) number (primitiveObjects s)) × (number + length s ≤ 1 + length s₀)
+    (parsedObjectsValidAndPlacedOnce (placementsIn placements) number₀ (primitiveObjects s₀) ≡ parsedObjectsValidAndPlacedOnce (placementsIn placements) number (primitiveObjects s)) × (number + length s ≤ 1 + length s₀)
 
 abbrev μ-loop : tie.MeasureT-loop
 μ-loop objects placements s₀ number₀ s number = length s
@@ -33,8 +33,8 @@ abbrev μ-loop : tie.MeasureT-loop
 abbrev At-object : Type 0
 At-object = lts.After-front (primitive.Asked, primitive.Learnt, is-settable.Asked, is-settable.Learnt, lacks-tag.Asked, lacks-tag.Learnt, count-named.Asked, count-named.Learnt) reads.Pre reads.Post Inv-loop μ-loop
 
-next-at : (c : At-object) → primitiveOf (c .before .before .before .before .loop .s .now) ≡ front.Object (c .front .given .0 .0)
-next-at c = sym (c .before .before .primitive .ensures) ∙ c .front .given .1
+next-at : (c : At-object) → primitiveAtFront (c .before .before .before .before .loop .s .now) ≡ front.Object (c .front .given .0 .0)
+next-at c = sym (c .before .before .primitive-at-front .ensures) ∙ c .front .given .1
 
 fits-at : (c : At-object) → HeaderFits (c .before .before .before .before .loop .s .now) (c .front .given .0 .0)
 fits-at c = primitive-fits _ _ (next-at c)
@@ -42,7 +42,7 @@ fits-at c = primitive-fits _ _ (next-at c)
 returns : tie.Need-returns Inv-loop μ-loop
 returns c =
     let p = c .before .before in
-    sym (p .before .before .loop .inv .0 ∙ keeps-broken _ (p .before .loop-test .taken) _ _ (sym (p .primitive .ensures) ∙ c .enum-told .given .1))
+    sym (p .before .before .loop .inv .0 ∙ keeps-broken _ (p .before .loop-test .taken) _ _ (sym (p .primitive-at-front .ensures) ∙ c .enum-told .given .1))
 
 returns-2 : tie.Need-returns-2 Inv-loop μ-loop
 returns-2 c =

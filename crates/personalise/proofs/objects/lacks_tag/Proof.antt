@@ -6,11 +6,11 @@ use Prim.Native.Nat.{_≤_}
 use native.Mathlib.Omega.{arith}
 use lib.ListN.{length}
 use Rattle.tlv.specs.declared.ObjectFront.the-variants as front
-use Rattle.tlv.specs.Primitives.{primitiveOf, primitiveObjects}
+use Rattle.tlv.specs.Primitives.{primitiveAtFront, primitiveObjects}
 use Rattle.tlv.proofs.Laws.{HeaderFits}
 use Rattle.tlv.proofs.Primitives.{primitive-fits}
-use Rattle.tlv.proofs.primitive.Reads as primitive
-use Rattle.personalise.specs.Inner.{listLacksTag}
+use Rattle.tlv.proofs.primitive_at_front.Reads as primitive
+use Rattle.personalise.specs.Inner.{listParsedAndLacksTag}
 use Rattle.personalise.proofs.Listed.{lacks-end, lacks-broken, lacks-here, lacks-on, rest-less}
 use Rattle.personalise.proofs.objects.lacks_tag.Statement.{statement}
 use Rattle.personalise.proofs.objects.lacks_tag.Tie as tie
@@ -18,7 +18,7 @@ use Rattle.personalise.proofs.objects.lacks_tag.Reads as reads
 use Rattle.personalise.proofs.objects.lacks_tag.Lts as lts
 
 abbrev Inv-loop : tie.InvT-loop
-Inv-loop objects tag s₀ s = (listLacksTag tag (primitiveObjects s₀) ≡ listLacksTag tag (primitiveObjects s)) × (length s ≤ length s₀)
+Inv-loop objects tag s₀ s = (listParsedAndLacksTag tag (primitiveObjects s₀) ≡ listParsedAndLacksTag tag (primitiveObjects s)) × (length s ≤ length s₀)
 
 abbrev μ-loop : tie.MeasureT-loop
 μ-loop objects tag s₀ s = length s
@@ -27,8 +27,8 @@ abbrev μ-loop : tie.MeasureT-loop
 abbrev At-object : Type 0
 At-object = lts.After-front (primitive.Asked, primitive.Learnt) reads.Pre reads.Post Inv-loop μ-loop
 
-next-at : (c : At-object) → primitiveOf (c .before .before .before .before .loop .s .now) ≡ front.Object (c .front .given .0 .0)
-next-at c = sym (c .before .before .primitive .ensures) ∙ c .front .given .1
+next-at : (c : At-object) → primitiveAtFront (c .before .before .before .before .loop .s .now) ≡ front.Object (c .front .given .0 .0)
+next-at c = sym (c .before .before .primitive-at-front .ensures) ∙ c .front .given .1
 
 fits-at : (c : At-object) → HeaderFits (c .before .before .before .before .loop .s .now) (c .front .given .0 .0)
 fits-at c = primitive-fits _ _ (next-at c)
@@ -36,7 +36,7 @@ fits-at c = primitive-fits _ _ (next-at c)
 returns : tie.Need-returns Inv-loop μ-loop
 returns c =
     let p = c .before .before in
-    sym (p .before .before .loop .inv .0 ∙ lacks-broken _ (p .before .loop-test .taken) _ (sym (p .primitive .ensures) ∙ c .enum-told .given .1))
+    sym (p .before .before .loop .inv .0 ∙ lacks-broken _ (p .before .loop-test .taken) _ (sym (p .primitive-at-front .ensures) ∙ c .enum-told .given .1))
 
 returns-2 : tie.Need-returns-2 Inv-loop μ-loop
 returns-2 c =

@@ -8,14 +8,14 @@ use Prim.Native.Nat.{ℕ, _+_, _≤_}
 use native.Mathlib.Omega.{arith}
 use lib.ListN.{length}
 use Rattle.tlv.proofs.Laws.{tail}
-use Rattle.personalise.specs.Placements.{placementsIn, placementCount, isOfObject}
+use Rattle.personalise.specs.Placements.{placementsIn, countPlacementsWhere, placesObjectNumber}
 use Rattle.personalise.proofs.Placed.{count-end, count-yes, count-no, tail-less}
 use Rattle.personalise.proofs.placements.count_named.Statement.{statement}
 use Rattle.personalise.proofs.placements.count_named.Tie as tie
 
 abbrev Inv-loop : tie.InvT-loop
 Inv-loop placements object rest₀ count₀ rest count =
-    (count₀ + placementCount (isOfObject object) (placementsIn rest₀) ≡ count + placementCount (isOfObject object) (placementsIn rest)) × (count + length rest ≤ length rest₀)
+    (count₀ + countPlacementsWhere (placesObjectNumber object) (placementsIn rest₀) ≡ count + countPlacementsWhere (placesObjectNumber object) (placementsIn rest)) × (count + length rest ≤ length rest₀)
 
 abbrev μ-loop : tie.MeasureT-loop
 μ-loop placements object rest₀ count₀ rest count = length rest
@@ -36,10 +36,10 @@ loop-again c =
     let l = tail-less (lp .rest .now) h _ (f .front .ensures) _ (w .width .ensures) in
     let t = f .before .before .before .before .args .object in
     elim (j .if1 .came) [
-      | inl y ↦ (let e = count-yes (lp .rest .now) h _ (f .front .ensures) _ (w .width .ensures) (isOfObject t) (lp .count) (eq-eqb _ _ (sym (j .before .widen .ensures .0) ∙ y .0 .taken)) in
-          (lp .inv .0 ∙ e ∙ ap (λ (x : ℕ). x + placementCount (isOfObject t) (placementsIn (tail (lp .rest .now) (w .width .result)))) (sym (y .1)), omega arith))
-      | inr n ↦ (let e = count-no (lp .rest .now) h _ (f .front .ensures) _ (w .width .ensures) (isOfObject t) (lp .count) (ne-eqb _ _ (λ z. n .0 .left (j .before .widen .ensures .0 ∙ z))) in
-          (lp .inv .0 ∙ e ∙ ap (λ (x : ℕ). x + placementCount (isOfObject t) (placementsIn (tail (lp .rest .now) (w .width .result)))) (sym (n .1)), omega arith))
+      | inl y ↦ (let e = count-yes (lp .rest .now) h _ (f .front .ensures) _ (w .width .ensures) (placesObjectNumber t) (lp .count) (eq-eqb _ _ (sym (j .before .widen .ensures .0) ∙ y .0 .taken)) in
+          (lp .inv .0 ∙ e ∙ ap (λ (x : ℕ). x + countPlacementsWhere (placesObjectNumber t) (placementsIn (tail (lp .rest .now) (w .width .result)))) (sym (y .1)), omega arith))
+      | inr n ↦ (let e = count-no (lp .rest .now) h _ (f .front .ensures) _ (w .width .ensures) (placesObjectNumber t) (lp .count) (ne-eqb _ _ (λ z. n .0 .left (j .before .widen .ensures .0 ∙ z))) in
+          (lp .inv .0 ∙ e ∙ ap (λ (x : ℕ). x + countPlacementsWhere (placesObjectNumber t) (placementsIn (tail (lp .rest .now) (w .width .result)))) (sym (n .1)), omega arith))
     ]
 
 pub count-named-spec : {M : Type 1} → statement M
@@ -58,4 +58,4 @@ count-named-spec =
     (λ c. omega arith)
     loop-less
     loop-again
-    (λ c. omega (arith, c .before .loop .inv .0, count-end (isOfObject (c .before .before .before .args .object)) (c .before .loop .rest .now) (c .loop-test .left))))
+    (λ c. omega (arith, c .before .loop .inv .0, count-end (placesObjectNumber (c .before .before .before .args .object)) (c .before .loop .rest .now) (c .loop-test .left))))

@@ -5,13 +5,13 @@ use mathlib.Core.Path.{_≡_, refl, sym, _∙_}
 use native.Mathlib.Omega.{arith}
 use lib.ListN.{length}
 use Rattle.personalise.specs.Placements.{placementsIn, anyPlacement}
-use Rattle.personalise.specs.Records.{placementStrays}
+use Rattle.personalise.specs.Records.{isOutOfRangePlacementInto}
 use Rattle.personalise.proofs.Placed.{any-end, any-yes, any-on, tail-less}
 use Rattle.personalise.proofs.placements.is_misplaced.Statement.{statement}
 use Rattle.personalise.proofs.placements.is_misplaced.Tie as tie
 
 abbrev Inv-loop : tie.InvT-loop
-Inv-loop placements into records objects rest₀ rest = anyPlacement (placementStrays records objects into) (placementsIn rest₀) ≡ anyPlacement (placementStrays records objects into) (placementsIn rest)
+Inv-loop placements into records objects rest₀ rest = anyPlacement (isOutOfRangePlacementInto records objects into) (placementsIn rest₀) ≡ anyPlacement (isOutOfRangePlacementInto records objects into) (placementsIn rest)
 
 abbrev μ-loop : tie.MeasureT-loop
 μ-loop placements into records objects rest₀ rest = length rest

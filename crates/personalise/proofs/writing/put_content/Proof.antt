@@ -8,12 +8,12 @@ use Prim.Native.Nat.{_+_, _≤_}
 use native.Mathlib.Omega.{arith}
 use lib.ListN.{length}
 use Rattle.tlv.specs.declared.ObjectFront.the-variants as front
-use Rattle.tlv.specs.Primitives.{primitiveOf}
+use Rattle.tlv.specs.Primitives.{primitiveAtFront}
 use Rattle.tlv.proofs.Laws.{HeaderFits}
 use Rattle.tlv.proofs.Primitives.{primitive-fits}
-use Rattle.tlv.proofs.primitive.Reads as primitive
+use Rattle.tlv.proofs.primitive_at_front.Reads as primitive
 use Rattle.personalise.specs.Placements.{placementsIn}
-use Rattle.personalise.specs.Inner.{UsableObjects, bytesWrittenOver}
+use Rattle.personalise.specs.Inner.{AreObjectsAllowedInRecord, bytesWrittenOver}
 use Rattle.personalise.proofs.Listed.{run-broken, rest-less, rest-usable, bytes-end}
 use Rattle.personalise.proofs.Over.{over-nothing}
 use Rattle.personalise.proofs.Filled.{content, first-small, first-room, left-over, left-next, left-length}
@@ -27,7 +27,7 @@ abbrev Inv-loop : tie.InvT-loop
 Inv-loop objects placements k out₀ at s₀ number₀ to₀ out s number to =
     (bytesWrittenOver out₀ to₀ (content (placementsIn placements) k number₀ s₀) ≡ bytesWrittenOver out to (content (placementsIn placements) k number s))
     × (to₀ + length (content (placementsIn placements) k number₀ s₀) ≡ to + length (content (placementsIn placements) k number s))
-    × (length out ≡ length out₀) × UsableObjects s × (number + length s ≤ 1 + length s₀)
+    × (length out ≡ length out₀) × AreObjectsAllowedInRecord s × (number + length s ≤ 1 + length s₀)
 
 abbrev μ-loop : tie.MeasureT-loop
 μ-loop objects placements k out₀ at s₀ number₀ to₀ out s number to = length s
@@ -36,8 +36,8 @@ abbrev μ-loop : tie.MeasureT-loop
 abbrev At-object : Type 0
 At-object = lts.After-front (primitive.Asked, primitive.Learnt, put-placed.Asked, put-placed.Learnt) reads.Pre reads.Post Inv-loop μ-loop
 
-next-at : (c : At-object) → primitiveOf (c .before .before .before .before .loop .s .now) ≡ front.Object (c .front .given .0 .0)
-next-at c = sym (c .before .before .primitive .ensures) ∙ c .front .given .1
+next-at : (c : At-object) → primitiveAtFront (c .before .before .before .before .loop .s .now) ≡ front.Object (c .front .given .0 .0)
+next-at c = sym (c .before .before .primitive-at-front .ensures) ∙ c .front .given .1
 
 fits-at : (c : At-object) → HeaderFits (c .before .before .before .before .loop .s .now) (c .front .given .0 .0)
 fits-at c = primitive-fits _ _ (next-at c)
@@ -45,7 +45,7 @@ fits-at c = primitive-fits _ _ (next-at c)
 returns : tie.Need-returns Inv-loop μ-loop
 returns c =
     let p = c .before .before in
-    absurd (run-broken _ (p .before .loop-test .taken) (p .before .before .loop .inv .3 .0) (sym (p .primitive .ensures) ∙ c .enum-told .given .1))
+    absurd (run-broken _ (p .before .loop-test .taken) (p .before .before .loop .inv .3 .0) (sym (p .primitive-at-front .ensures) ∙ c .enum-told .given .1))
 
 put-placed-requires : tie.Need-put-placed-requires Inv-loop μ-loop
 put-placed-requires c κs =

@@ -8,7 +8,7 @@ use Prim.Native.Nat.{ℕ, _+_, _≤_}
 use lib.ListN.{length}
 use Rattle.basics.proofs.Laws.{if-yes, if-no}
 use Rattle.tlv.specs.Encoding.{objectBytes}
-use Rattle.personalise.specs.Inner.{PutsBytes}
+use Rattle.personalise.specs.Inner.{WritesBytesAt}
 use Rattle.personalise.proofs.Over.{puts-nothing}
 use Rattle.personalise.proofs.writing.put_placed.Statement.{statement}
 use Rattle.personalise.proofs.writing.put_placed.Tie as tie
@@ -34,7 +34,7 @@ returns-2 c =
     let st = p .before .before .before .before in
     let a = st .args in
     let e = if-yes (objectBytes (a .tag) (a .v .now)) [] (sym (p .is-placed .ensures) ∙ not-false _ (o .before .before .if1 .left)) in
-    subst (PutsBytes _ _ (a .out .now) (a .at)) (sym e) (o .put-object .ensures)
+    subst (WritesBytesAt _ _ (a .out .now) (a .at)) (sym e) (o .put-object .ensures)
 
 pub put-placed-spec : {M : Type 1} → statement M
 put-placed-spec =

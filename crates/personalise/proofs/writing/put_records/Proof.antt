@@ -7,7 +7,7 @@ use Prim.Native.Nat.{ℕ, _+_, _-_, _*_, _≤_}
 use native.Mathlib.Omega.{arith}
 use lib.ListN.{length}
 use Rattle.personalise.specs.Placements.{placementsIn}
-use Rattle.personalise.specs.Objects.{listedObjects}
+use Rattle.personalise.specs.Objects.{parsedObjectsOrEmpty}
 use Rattle.personalise.specs.Inner.{bytesWrittenOver}
 use Rattle.personalise.proofs.Over.{over-nothing}
 use Rattle.personalise.proofs.Filled.{recordsLeft, records-done, records-all, transition-over, transition-next, transition-length, transition-most}
@@ -15,7 +15,7 @@ use Rattle.personalise.proofs.writing.put_records.Statement.{statement}
 use Rattle.personalise.proofs.writing.put_records.Tie as tie
 
 abbrev left : List ℕ → List ℕ → ℕ → ℕ → List ℕ
-left objects placements n k = recordsLeft (listedObjects objects) (placementsIn placements) n k
+left objects placements n k = recordsLeft (parsedObjectsOrEmpty objects) (placementsIn placements) n k
 
 abbrev Inv-loop : tie.InvT-loop
 Inv-loop objects placements records out₀ k₀ at₀ out k at =
@@ -39,7 +39,7 @@ loop-again c =
     let lp = l .before .loop in
     let st = l .before .before .before .before .before in
     let a = st .args in
-    let os = listedObjects (a .objects .now) in
+    let os = parsedObjectsOrEmpty (a .objects .now) in
     let ps = placementsIn (a .placements .now) in
     let h = l .loop-test .taken in
     let f = st .pre .1 .0 (lp .k) h in
@@ -58,7 +58,7 @@ returns : tie.Need-returns Inv-loop μ-loop
 returns c =
     let lp = c .before .loop in
     let a = c .before .before .before .before .before .args in
-    let os = listedObjects (a .objects .now) in
+    let os = parsedObjectsOrEmpty (a .objects .now) in
     let ps = placementsIn (a .placements .now) in
     let e = records-done os ps (a .records) (lp .k) (c .loop-test .left) in
     let z = ap length e in

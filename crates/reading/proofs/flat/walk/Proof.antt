@@ -8,7 +8,7 @@ use Prim.Native.Nat.{_<_}
 use native.Mathlib.Omega.{arith}
 use lib.ListN.{getD}
 use Rattle.tlv.specs.Tree.{parseTree}
-use Rattle.reading.specs.Items.{Walks}
+use Rattle.reading.specs.Items.{WalkListsTree}
 use Rattle.reading.proofs.Items.{part}
 use Rattle.reading.proofs.Runs.{Next, stops, padding, failed, bounds, list-length, number-fits, room, listed}
 use Rattle.reading.proofs.Frames.{Reached, ahead, begin, inside, run, step, more, done, close, too-deep, push}
@@ -17,7 +17,7 @@ use Rattle.reading.proofs.flat.walk.Tie as tie
 
 abbrev Inv-loop : tie.InvT-loop
 Inv-loop bytes tag items₀ ends₀ around₀ depth₀ at₀ n₀ k₀ items ends around depth at n k =
-    Reached bytes (getD ends₀ 0 0) (Walks bytes tag (parseTree 3 (part bytes at₀ (getD ends₀ 0 0))) 1 0 items₀) ends
+    Reached bytes (getD ends₀ 0 0) (WalkListsTree bytes tag (parseTree 3 (part bytes at₀ (getD ends₀ 0 0))) 1 0 items₀) ends
         around depth at n k items
 
 abbrev μ-loop : tie.MeasureT-loop
