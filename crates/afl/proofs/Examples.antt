@@ -6,7 +6,9 @@ use mathlib.Core.List.{[], _∷_, map}
 use Rattle.basics.specs.Choice.{if, both, every}
 use Rattle.afl.specs.declared.RecordFound.the-variants.{At}
 use Rattle.afl.specs.Entry.{validEntry}
-use Rattle.afl.specs.Records.{aflEntries, aflLengthIsMultipleOf4, consecutiveRecords, recordsOfEntries, sumOverEntries, aflRecords, acceptsAfl, recordAtIndex, kthRecordFromOne, kthRecordOfAcceptedAfl}
+use Rattle.afl.specs.Records.{aflEntries, aflLengthIsMultipleOf4, consecutiveRecords, recordsOfEntries}
+use Rattle.afl.specs.Records.{sumOverEntries, aflRecords, acceptsAfl, recordAtIndex, kthRecordFromOne}
+use Rattle.afl.specs.Records.{kthRecordOfAcceptedAfl}
 
 -- entry by entry, from first to last
 two-entries : aflRecords (0x08 ∷ 1 ∷ 2 ∷ 1 ∷ 0x10 ∷ 3 ∷ 3 ∷ 0 ∷ [])
@@ -15,11 +17,13 @@ unfolding aflEntries recordsOfEntries consecutiveRecords
 two-entries = refl
 
 third : kthRecordOfAcceptedAfl (0x08 ∷ 1 ∷ 2 ∷ 1 ∷ 0x10 ∷ 3 ∷ 3 ∷ 0 ∷ []) 3 ≡ At (record { sfi = 2; number = 3 })
-unfolding kthRecordOfAcceptedAfl kthRecordFromOne recordAtIndex acceptsAfl aflLengthIsMultipleOf4 aflEntries every validEntry both if recordsOfEntries sumOverEntries consecutiveRecords
+unfolding kthRecordOfAcceptedAfl kthRecordFromOne recordAtIndex acceptsAfl aflLengthIsMultipleOf4 aflEntries every
+    validEntry both if recordsOfEntries sumOverEntries consecutiveRecords
 third = refl
 
 -- 128 records, all of them for offline authentication; file 30; two entries of 64 records
-inside : map acceptsAfl ((0x08 ∷ 1 ∷ 128 ∷ 128 ∷ []) ∷ (0xF0 ∷ 255 ∷ 255 ∷ 1 ∷ []) ∷ (0x08 ∷ 1 ∷ 64 ∷ 0 ∷ 0x10 ∷ 1 ∷ 64 ∷ 0 ∷ []) ∷ []) ≡ true ∷ true ∷ true ∷ []
+inside : map acceptsAfl ((0x08 ∷ 1 ∷ 128 ∷ 128 ∷ []) ∷ (0xF0 ∷ 255 ∷ 255 ∷ 1 ∷ [])
+    ∷ (0x08 ∷ 1 ∷ 64 ∷ 0 ∷ 0x10 ∷ 1 ∷ 64 ∷ 0 ∷ []) ∷ []) ≡ true ∷ true ∷ true ∷ []
 unfolding acceptsAfl aflLengthIsMultipleOf4 aflEntries every validEntry both sumOverEntries
 inside = refl
 

@@ -20,8 +20,11 @@ use Rattle.afl.specs.declared.AflEntry.{AflEntry}
 use Rattle.afl.specs.declared.RecordFound.the-variants.{At, Nothing}
 use Rattle.afl.specs.declared.CardRecord.{CardRecord}
 use Rattle.afl.specs.Entry.{entrySfi, entryRecordCount, validEntry}
-use Rattle.afl.specs.Records.{aflEntries, aflLengthIsMultipleOf4, sumOverEntries, aflRecords, aflRecordCount, acceptsAfl, aflChecked, aflReason, recordAtIndex, kthRecordFromOne, kthRecordOfAcceptedAfl}
-use Rattle.afl.proofs.Records.{entries-short, whole-length, records-length, records-all, last-bytes, nth-split, nth-take, nth-inside, nth-there, nth-none, not-at}
+use Rattle.afl.specs.Records.{aflEntries, aflLengthIsMultipleOf4, sumOverEntries, aflRecords, aflRecordCount}
+use Rattle.afl.specs.Records.{acceptsAfl, aflChecked, aflReason, recordAtIndex, kthRecordFromOne}
+use Rattle.afl.specs.Records.{kthRecordOfAcceptedAfl}
+use Rattle.afl.proofs.Records.{entries-short, whole-length, records-length, records-all, last-bytes, nth-split}
+use Rattle.afl.proofs.Records.{nth-take, nth-inside, nth-there, nth-none, not-at}
 
 -- ---- an entry
 
@@ -59,10 +62,12 @@ keeps-kept e t =
     }
 
 -- of an entry that satisfies the rules, the records are last - first + 1, and at least one
-pub count-kept : (e : AflEntry) → validEntry e ≡ true → (entryRecordCount e ≡ e .last - e .first + 1) × (1 ≤ entryRecordCount e)
+pub count-kept : (e : AflEntry) → validEntry e ≡ true → (entryRecordCount e ≡ e .last - e .first + 1)
+    × (1 ≤ entryRecordCount e)
 count-kept e t = let k = keeps-kept e t in omega arith
 
-sum-kept : (x : List AflEntry) → every validEntry x ≡ true → sumOverEntries entryRecordCount x ≡ sumOverEntries (λ (e : AflEntry). e .last - e .first + 1) x
+sum-kept : (x : List AflEntry) → every validEntry x ≡ true → sumOverEntries entryRecordCount x
+    ≡ sumOverEntries (λ (e : AflEntry). e .last - e .first + 1) x
 unfolding sumOverEntries every
 sum-kept [] t = refl
 sum-kept (e ∷ x) t = let c = count-kept e (both-left _ _ t) .0 in rw (c, sum-kept x (both-right _ _ t))
@@ -91,7 +96,8 @@ module _ (s : List ℕ) (a : acceptsAfl s ≡ true) where
 
   not-short : length s < 4 → ⊥
   unfolding sumOverEntries
-  not-short h = let z : aflRecordCount s ≡ 0 = ap (sumOverEntries entryRecordCount) (entries-short s h) in omega (arith, accepted-total .0)
+  not-short h = let z : aflRecordCount s ≡ 0 = ap (sumOverEntries entryRecordCount) (entries-short s h) in
+      omega (arith, accepted-total .0)
 
   -- a multiple of 4 bytes, and 4 at least
   pub accepted-length : (length s % 4 ≡ 0) × (4 ≤ length s)
@@ -107,7 +113,8 @@ pub checked-no : (s : List ℕ) → acceptsAfl s ≡ false → aflChecked s ≡ 
 unfolding aflChecked
 checked-no s a = if-no _ _ a
 
-pub is-accepted : (s : List ℕ) (x : AflExtent) → aflChecked s ≡ Accepted x → (acceptsAfl s ≡ true) × (x ≡ record { records = aflRecordCount s })
+pub is-accepted : (s : List ℕ) (x : AflExtent) → aflChecked s ≡ Accepted x
+    → (acceptsAfl s ≡ true) × (x ≡ record { records = aflRecordCount s })
 is-accepted s x e =
     elim (bool-cases (acceptsAfl s)) [
       | inl y ↦ (let f = checked-yes s y in (y, cc))
@@ -130,7 +137,8 @@ checked-number s =
     ]
 
 -- what a check states of its answer
-pub checked-says : (s : List ℕ) (r : AflCheck) → aflChecked s ≡ r → (r ≡ aflChecked s) × (aflReason r ≡ reasonUnless (acceptsAfl s) reasonAflInvalid)
+pub checked-says : (s : List ℕ) (r : AflCheck) → aflChecked s ≡ r
+    → (r ≡ aflChecked s) × (aflReason r ≡ reasonUnless (acceptsAfl s) reasonAflInvalid)
 checked-says s r e = (sym e, ap aflReason (sym e) ∙ checked-number s)
 
 -- ---- the k-th record
@@ -146,7 +154,8 @@ unfolding kthRecordFromOne
 kth-zero k l e = rw e
 
 -- the k-th record of an accepted AFL is that of its records; no other AFL has one
-pub record-yes : (s : List ℕ) (k : ℕ) → acceptsAfl s ≡ true → kthRecordOfAcceptedAfl s k ≡ kthRecordFromOne k (aflRecords s)
+pub record-yes : (s : List ℕ) (k : ℕ) → acceptsAfl s ≡ true → kthRecordOfAcceptedAfl s k ≡ kthRecordFromOne k
+    (aflRecords s)
 unfolding kthRecordOfAcceptedAfl
 record-yes s k a = if-yes _ _ a
 
@@ -155,17 +164,24 @@ unfolding kthRecordOfAcceptedAfl
 record-no s k a = if-no _ _ a
 
 -- every k from 1 to R has its record, and no other k
-pub record-there : (s : List ℕ) (k : ℕ) (d : CardRecord) → acceptsAfl s ≡ true → 1 ≤ k → k ≤ aflRecordCount s → kthRecordOfAcceptedAfl s k ≡ At (getD (aflRecords s) (k - 1) d)
-record-there s k d a lo hi = record-yes s k a ∙ kth-nth k (aflRecords s) lo ∙ nth-there (k - 1) (aflRecords s) d (omega (arith, records-length s))
+pub record-there : (s : List ℕ) (k : ℕ) (d : CardRecord) → acceptsAfl s ≡ true → 1 ≤ k → k ≤ aflRecordCount s
+    → kthRecordOfAcceptedAfl s k ≡ At (getD (aflRecords s) (k - 1) d)
+record-there s k d a lo hi = record-yes s k a ∙ kth-nth k (aflRecords s) lo ∙ nth-there (k - 1) (aflRecords s) d
+    (omega (arith, records-length s))
 
 pub record-zero : (s : List ℕ) → kthRecordOfAcceptedAfl s 0 ≡ Nothing
 record-zero s =
-    elim (bool-cases (acceptsAfl s)) [ inl y ↦ record-yes s 0 y ∙ kth-zero 0 (aflRecords s) refl | inr n ↦ record-no s 0 n ]
+    elim (bool-cases (acceptsAfl s)) [
+      | inl y ↦ record-yes s 0 y ∙ kth-zero 0 (aflRecords s) refl
+      | inr n ↦
+          record-no s 0 n
+    ]
 
 pub record-past : (s : List ℕ) (k : ℕ) → aflRecordCount s < k → kthRecordOfAcceptedAfl s k ≡ Nothing
 record-past s k h =
     elim (bool-cases (acceptsAfl s)) [
-      | inl y ↦ record-yes s k y ∙ kth-nth k (aflRecords s) (omega arith) ∙ nth-none (k - 1) (aflRecords s) (omega (arith, records-length s))
+      | inl y ↦ record-yes s k y ∙ kth-nth k (aflRecords s) (omega arith) ∙ nth-none (k - 1) (aflRecords s)
+          (omega (arith, records-length s))
       | inr n ↦ record-no s k n
     ]
 
@@ -181,14 +197,17 @@ module _ (s : List ℕ) (k : ℕ) (r : CardRecord) (e : kthRecordOfAcceptedAfl s
   record-from =
       elim (bool-cases (leb 1 k)) [
         | inl y ↦ leb-true 1 k y
-        | inr n ↦ (let h = leb-false 1 k n in not-at e (record-yes s k record-accepted ∙ kth-zero k (aflRecords s) (omega arith)))
+        | inr n ↦
+            (let h = leb-false 1 k n in
+            not-at e (record-yes s k record-accepted ∙ kth-zero k (aflRecords s) (omega arith)))
       ]
 
   record-nth : recordAtIndex (k - 1) (aflRecords s) ≡ At r
   record-nth = sym (record-yes s k record-accepted ∙ kth-nth k (aflRecords s) record-from) ∙ e
 
   pub record-inside : (1 ≤ k) × (k ≤ aflRecordCount s)
-  record-inside = let h = nth-inside (k - 1) (aflRecords s) r record-nth in (record-from, omega (arith, records-length s))
+  record-inside = let h = nth-inside (k - 1) (aflRecords s) r record-nth in
+      (record-from, omega (arith, records-length s))
 
   -- the records before it, itself, and the records after it
   pub record-split : aflRecords s ≡ take (k - 1) (aflRecords s) ++ (r ∷ drop k (aflRecords s))

@@ -18,7 +18,8 @@ use Rattle.afl.specs.declared.CardRecord.{CardRecord}
 use Rattle.afl.specs.declared.RecordFound.{RecordFound}
 use Rattle.afl.specs.declared.RecordFound.the-variants.{At, Nothing}
 use Rattle.afl.specs.Entry.{firstAflEntry, entrySfi, entryRecordCount}
-use Rattle.afl.specs.Records.{aflEntries, aflLengthIsMultipleOf4, consecutiveRecords, entryRecords, recordsOfEntries, sumOverEntries, aflRecords, aflRecordCount, recordAtIndex}
+use Rattle.afl.specs.Records.{aflEntries, aflLengthIsMultipleOf4, consecutiveRecords, entryRecords}
+use Rattle.afl.specs.Records.{recordsOfEntries, sumOverEntries, aflRecords, aflRecordCount, recordAtIndex}
 
 -- ---- entries
 
@@ -66,18 +67,21 @@ entries-join [] t w = refl
 entries-join (a ∷ []) t w = absurd (omega arith)
 entries-join (a ∷ b ∷ []) t w = absurd (omega arith)
 entries-join (a ∷ b ∷ c ∷ []) t w = absurd (omega arith)
-entries-join (a ∷ b ∷ c ∷ d ∷ rest) t w = ap (λ (l : List AflEntry). firstAflEntry (a ∷ b ∷ c ∷ d ∷ []) ∷ l) (entries-join rest t (omega arith))
+entries-join (a ∷ b ∷ c ∷ d ∷ rest) t w = ap (λ (l : List AflEntry). firstAflEntry (a ∷ b ∷ c ∷ d ∷ []) ∷ l)
+    (entries-join rest t (omega arith))
 
 -- ---- records
 
 recordsOf-join : (x y : List AflEntry) → recordsOfEntries (x ++ y) ≡ recordsOfEntries x ++ recordsOfEntries y
 unfolding recordsOfEntries
 recordsOf-join [] y = refl
-recordsOf-join (e ∷ x) y = ap (λ (l : List CardRecord). entryRecords e ++ l) (recordsOf-join x y) ∙ sym (append-assoc (entryRecords e) (recordsOfEntries x) (recordsOfEntries y))
+recordsOf-join (e ∷ x) y = ap (λ (l : List CardRecord). entryRecords e ++ l) (recordsOf-join x y) ∙ sym
+    (append-assoc (entryRecords e) (recordsOfEntries x) (recordsOfEntries y))
 
 -- the records of two lists of whole entries joined are those of the first, then those of the second
 pub records-join : (s t : List ℕ) → aflLengthIsMultipleOf4 s ≡ true → aflRecords (s ++ t) ≡ aflRecords s ++ aflRecords t
-records-join s t w = ap recordsOfEntries (entries-join s t (whole-length s w)) ∙ recordsOf-join (aflEntries s) (aflEntries t)
+records-join s t w = ap recordsOfEntries (entries-join s t (whole-length s w)) ∙ recordsOf-join (aflEntries s)
+    (aflEntries t)
 
 length-run : (f k n : ℕ) → length (consecutiveRecords f k n) ≡ n
 unfolding consecutiveRecords
@@ -101,7 +105,8 @@ pub records-front : (s : List ℕ) → 4 ≤ length s → aflRecords s ≡ entry
 unfolding recordsOfEntries
 records-front s h = ap recordsOfEntries (entries-front s h)
 
-pub total-front : (s : List ℕ) → 4 ≤ length s → aflRecordCount s ≡ entryRecordCount (firstAflEntry s) + aflRecordCount (drop 4 s)
+pub total-front : (s : List ℕ) → 4 ≤ length s → aflRecordCount s ≡ entryRecordCount (firstAflEntry s)
+    + aflRecordCount (drop 4 s)
 unfolding sumOverEntries
 total-front s h = ap (sumOverEntries entryRecordCount) (entries-front s h)
 
@@ -134,21 +139,26 @@ nth-run (suc i) f k (suc n) h =
 
 -- an entry's records before others: a place below its count is its own, any other one of theirs
 module _ (e : AflEntry) (l : List CardRecord) (i : ℕ) where
-  pub nth-named : i < entryRecordCount e → recordAtIndex i (entryRecords e ++ l) ≡ At (record { sfi = entrySfi e; number = e .first + i })
-  nth-named h = nth-left i (entryRecords e) l (rw (length-named e) h) ∙ nth-run i (entrySfi e) (e .first) (entryRecordCount e) h
+  pub nth-named : i < entryRecordCount e → recordAtIndex i (entryRecords e ++ l)
+      ≡ At (record { sfi = entrySfi e; number = e .first + i })
+  nth-named h = nth-left i (entryRecords e) l (rw (length-named e) h) ∙ nth-run i (entrySfi e) (e .first)
+      (entryRecordCount e) h
 
-  pub nth-beyond : entryRecordCount e ≤ i → recordAtIndex i (entryRecords e ++ l) ≡ recordAtIndex (i - entryRecordCount e) l
+  pub nth-beyond : entryRecordCount e ≤ i → recordAtIndex i (entryRecords e ++ l)
+      ≡ recordAtIndex (i - entryRecordCount e) l
   nth-beyond h =
       let j : i ≡ length (entryRecords e) + (i - entryRecordCount e) = rw (length-named e) (omega arith) in
       ap (λ (m : ℕ). recordAtIndex m (entryRecords e ++ l)) j ∙ nth-right (i - entryRecordCount e) (entryRecords e) l
 
-pub nth-split : (i : ℕ) (l : List CardRecord) (r : CardRecord) → recordAtIndex i l ≡ At r → l ≡ take i l ++ (r ∷ drop (suc i) l)
+pub nth-split : (i : ℕ) (l : List CardRecord) (r : CardRecord) → recordAtIndex i l ≡ At r
+    → l ≡ take i l ++ (r ∷ drop (suc i) l)
 unfolding recordAtIndex
 nth-split i [] r e = not-at e refl
 nth-split zero (x ∷ l) r e = let y : x ≡ r = cc in ap (λ (q : CardRecord). q ∷ l) y
 nth-split (suc i) (x ∷ l) r e = ap (λ (q : List CardRecord). x ∷ q) (nth-split i l r e)
 
-pub nth-take : (i : ℕ) (l : List CardRecord) (r : CardRecord) → recordAtIndex i l ≡ At r → take (suc i) l ≡ take i l ++ (r ∷ [])
+pub nth-take : (i : ℕ) (l : List CardRecord) (r : CardRecord) → recordAtIndex i l ≡ At r
+    → take (suc i) l ≡ take i l ++ (r ∷ [])
 unfolding recordAtIndex
 nth-take i [] r e = not-at e refl
 nth-take zero (x ∷ l) r e = let y : x ≡ r = cc in ap (λ (q : CardRecord). q ∷ []) y
@@ -176,8 +186,10 @@ nth-none (suc i) (x ∷ l) h = nth-none i l (omega arith)
 
 -- what holds of each record of an entry that passes a test holds of every record of entries that pass it
 pub records-all : (p : AflEntry → Bool) (Q : CardRecord → Type 0)
-    → ((e : AflEntry) → p e ≡ true → (i : ℕ) → i < entryRecordCount e → Q (record { sfi = entrySfi e; number = e .first + i }))
-    → (x : List AflEntry) → every p x ≡ true → (i : ℕ) (r : CardRecord) → recordAtIndex i (recordsOfEntries x) ≡ At r → Q r
+    → ((e : AflEntry) → p e ≡ true → (i : ℕ) → i < entryRecordCount e
+    → Q (record { sfi = entrySfi e; number = e .first + i }))
+    → (x : List AflEntry) → every p x ≡ true → (i : ℕ) (r : CardRecord) → recordAtIndex i (recordsOfEntries x) ≡ At r
+    → Q r
 unfolding every recordsOfEntries recordAtIndex
 records-all p Q q [] t i r h = not-at h refl
 records-all p Q q (e ∷ x) t i r h =
@@ -195,10 +207,12 @@ records-all p Q q (e ∷ x) t i r h =
     ]
 
 -- the last record of each entry of bytes is a byte
-pub last-bytes : (s : List ℕ) → ((i : ℕ) → getD s i 0 < 256) → every (λ (e : AflEntry). leb (e .last) 255) (aflEntries s) ≡ true
+pub last-bytes : (s : List ℕ) → ((i : ℕ) → getD s i 0 < 256)
+    → every (λ (e : AflEntry). leb (e .last) 255) (aflEntries s) ≡ true
 unfolding every aflEntries
 last-bytes [] b = refl
 last-bytes (a ∷ []) b = refl
 last-bytes (a ∷ c ∷ []) b = refl
 last-bytes (a ∷ c ∷ d ∷ []) b = refl
-last-bytes (a ∷ c ∷ d ∷ e ∷ rest) b = both-yes _ _ (le-leb d 255 (omega (arith, b 2))) (last-bytes rest (λ i. b (suc (suc (suc (suc i))))))
+last-bytes (a ∷ c ∷ d ∷ e ∷ rest) b = both-yes _ _ (le-leb d 255 (omega (arith, b 2)))
+    (last-bytes rest (λ i. b (suc (suc (suc (suc i))))))

@@ -18,8 +18,10 @@ use Rattle.afl.specs.declared.RecordFound.the-variants.{At, Nothing}
 use Rattle.afl.specs.declared.AflEntry.{AflEntry}
 use Rattle.afl.specs.Entry.{firstAflEntry, entrySfi, entryRecordCount, validEntry}
 use Rattle.basics.specs.Number.{between}
-use Rattle.afl.specs.Records.{aflEntries, aflLengthIsMultipleOf4, entryRecords, recordsOfEntries, sumOverEntries, aflRecords, aflRecordCount, acceptsAfl, aflChecked, recordAtIndex}
-use Rattle.afl.proofs.Records.{entries-front, entries-short, whole-front, whole-of, part-of, total-front, records-front, nth-named, nth-beyond}
+use Rattle.afl.specs.Records.{aflEntries, aflLengthIsMultipleOf4, entryRecords, recordsOfEntries, sumOverEntries}
+use Rattle.afl.specs.Records.{aflRecords, aflRecordCount, acceptsAfl, aflChecked, recordAtIndex}
+use Rattle.afl.proofs.Records.{entries-front, entries-short, whole-front, whole-of, part-of, total-front}
+use Rattle.afl.proofs.Records.{records-front, nth-named, nth-beyond}
 
 -- the bytes after the first entry, as `&s[4..]` makes them
 abbrev pub tail : List ℕ → List ℕ
@@ -58,12 +60,15 @@ module _ (n : ℕ) (s : List ℕ) (h : 4 ≤ length s) (e : AflEntry) (p : e ≡
   unfolding onwards both
   check-next k m c =
       let a : every validEntry (aflEntries s) ≡ every validEntry (aflEntries (drop 4 s)) = every-front ∙ rw k in
-      let t : n + aflRecordCount s ≡ n + m + aflRecordCount (drop 4 s) = rw (c, p, total-front s h) (sym (add-assoc n _ _)) in
+      let t : n + aflRecordCount s ≡ n + m + aflRecordCount (drop 4 s) = rw (c, p, total-front s h)
+      (sym (add-assoc n _ _)) in
       rw (tail-is s, whole-front s h, a, t)
 
 pub check-many : (n : ℕ) (s : List ℕ) → 128 < n → onwards n s ≡ Rejected
 unfolding onwards
-check-many n s h = if-no _ _ (both-no-right _ _ (both-no-right _ _ (both-no-right _ _ (lt-leb (n + aflRecordCount s) 128 (omega arith)))))
+check-many n s h =
+    if-no _ _
+    (both-no-right _ _ (both-no-right _ _ (both-no-right _ _ (lt-leb (n + aflRecordCount s) 128 (omega arith)))))
 
 pub check-part : (n : ℕ) (s : List ℕ) → length s < 4 → (length s ≡ 0 → ⊥) → onwards n s ≡ Rejected
 unfolding onwards
@@ -74,15 +79,18 @@ unfolding onwards every sumOverEntries
 check-end n s e = rw (whole-of s (omega arith), entries-short s (omega arith), add-zero)
 
 pub check-none : (n : ℕ) (s : List ℕ) → length s ≡ 0 → n ≡ 0 → onwards n s ≡ Rejected
-check-none n s e z = check-end n s e ∙ if-no _ _ (both-no-right _ _ (both-no-right _ _ (both-no-left _ _ (lt-leb 1 n (omega arith)))))
+check-none n s e z = check-end n s e ∙ if-no _ _
+    (both-no-right _ _ (both-no-right _ _ (both-no-left _ _ (lt-leb 1 n (omega arith)))))
 
 pub check-all : (n : ℕ) (s : List ℕ) → length s ≡ 0 → 1 ≤ n → n ≤ 128 → onwards n s ≡ Accepted (record { records = n })
 check-all n s e lo hi =
-    check-end n s e ∙ if-yes _ _ (both-yes _ _ refl (both-yes _ _ refl (both-yes _ _ (le-leb 1 n lo) (le-leb n 128 hi))))
+    check-end n s e ∙ if-yes _ _
+    (both-yes _ _ refl (both-yes _ _ refl (both-yes _ _ (le-leb 1 n lo) (le-leb n 128 hi))))
 
 -- ---- a search for the record at a place
 
-module _ (i : ℕ) (s : List ℕ) (h : 4 ≤ length s) (e : AflEntry) (p : e ≡ firstAflEntry s) (n : ℕ) (c : n ≡ entryRecordCount e) where
+module _ (i : ℕ) (s : List ℕ) (h : 4 ≤ length s) (e : AflEntry) (p : e ≡ firstAflEntry s) (n : ℕ)
+    (c : n ≡ entryRecordCount e) where
   records-at : aflRecords s ≡ entryRecords e ++ aflRecords (drop 4 s)
   records-at = records-front s h ∙ ap (λ (x : AflEntry). entryRecords x ++ aflRecords (drop 4 s)) (sym p)
 

@@ -16,7 +16,8 @@ use Rattle.store.specs.Held.{storedBytes}
 use Rattle.analysis.specs.Action.{aucViolatedInStore, restrictionsTvrByte2, tvrBeforeCvm}
 use Rattle.analysis.specs.Bits.{hasBitCountedFromZeroAtByte1B8, bitWeightIfSet}
 use Rattle.analysis.specs.Digits.{firstDateIsLater, firstAmountIsAbove}
-use Rattle.analysis.specs.Restrictions.{cardVersionPresentAndDiffers, notYetEffective, tvrByte2VersionExpiredEarlyUsage}
+use Rattle.analysis.specs.Restrictions.{cardVersionPresentAndDiffers, notYetEffective}
+use Rattle.analysis.specs.Restrictions.{tvrByte2VersionExpiredEarlyUsage}
 use Rattle.analysis.specs.Tvr.{tvrFromBytes2And4}
 
 -- a test passes at both truth values; at every number below n
@@ -60,24 +61,34 @@ testsOf version expired early usage floor =
     floor ∷ []
 
 right : Bool → Bool → Bool → Bool → Bool → ℕ → Bool
-right v x e u f i = agree (hasBitCountedFromZeroAtByte1B8 (tvrFromBytes2And4 (tvrByte2VersionExpiredEarlyUsage v x e u) (bitWeightIfSet 8 f)) i) (getD (testsOf v x e u f) i false)
+right v x e u f i =
+    agree
+    (hasBitCountedFromZeroAtByte1B8 (tvrFromBytes2And4 (tvrByte2VersionExpiredEarlyUsage v x e u) (bitWeightIfSet 8 f))
+    i) (getD (testsOf v x e u f) i false)
 
-computed : forBoth (λ v. forBoth (λ x. forBoth (λ e. forBoth (λ u. forBoth (λ f. allBelow (right v x e u f) 40))))) ≡ true
+computed : forBoth (λ v. forBoth (λ x. forBoth (λ e. forBoth (λ u. forBoth (λ f. allBelow (right v x e u f) 40)))))
+    ≡ true
 unfolding forBoth allBelow right agree if both hasBitCountedFromZeroAtByte1B8
 computed = refl
 
-pub result-bit : (v x e u f : Bool) (i : ℕ) → i < 40 → hasBitCountedFromZeroAtByte1B8 (tvrFromBytes2And4 (tvrByte2VersionExpiredEarlyUsage v x e u) (bitWeightIfSet 8 f)) i ≡ getD (testsOf v x e u f) i false
+pub result-bit : (v x e u f : Bool) (i : ℕ) → i < 40
+    → hasBitCountedFromZeroAtByte1B8 (tvrFromBytes2And4 (tvrByte2VersionExpiredEarlyUsage v x e u) (bitWeightIfSet 8 f))
+    i ≡ getD (testsOf v x e u f) i false
 unfolding right
 result-bit v x e u f i h =
     agreed _ _
-    (all-below (right v x e u f) 40 (for-both _ (for-both _ (for-both _ (for-both _ (for-both _ computed v) x) e) u) f) i h)
+    (all-below (right v x e u f) 40 (for-both _ (for-both _ (for-both _ (for-both _ (for-both _ computed v) x) e) u) f)
+    i h)
 
 -- the tests of a store, and its bits
 abbrev pub testsIn : List ℕ → List Bool
 testsIn store =
-    testsOf (cardVersionPresentAndDiffers (objectValue store 0x9F08) (storedBytes store 0x9F09)) (firstDateIsLater (storedBytes store 0x9A) (storedBytes store 0x5F24))
-    (notYetEffective (objectValue store 0x5F25) (storedBytes store 0x9A)) (aucViolatedInStore store) (firstAmountIsAbove (storedBytes store 0x9F02) (storedBytes store 0xDF8123))
+    testsOf (cardVersionPresentAndDiffers (objectValue store 0x9F08) (storedBytes store 0x9F09))
+    (firstDateIsLater (storedBytes store 0x9A) (storedBytes store 0x5F24))
+    (notYetEffective (objectValue store 0x5F25) (storedBytes store 0x9A)) (aucViolatedInStore store)
+    (firstAmountIsAbove (storedBytes store 0x9F02) (storedBytes store 0xDF8123))
 
-pub stored-bit : (store : List ℕ) (i : ℕ) → i < 40 → hasBitCountedFromZeroAtByte1B8 (tvrBeforeCvm store) i ≡ getD (testsIn store) i false
+pub stored-bit : (store : List ℕ) (i : ℕ) → i < 40 → hasBitCountedFromZeroAtByte1B8 (tvrBeforeCvm store) i
+    ≡ getD (testsIn store) i false
 unfolding tvrBeforeCvm restrictionsTvrByte2
 stored-bit store i h = result-bit _ _ _ _ _ i h

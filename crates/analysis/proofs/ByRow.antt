@@ -13,7 +13,8 @@ use Rattle.store.specs.Held.{hasObject, storedBytes, storedByte}
 use Rattle.analysis.specs.Value.{storedValueIf}
 
 -- a value is its flag and its bytes
-pub flag-bytes : {f : Bool} {s : List ℕ} (v : StoredValue) → f ≡ isPresent v → s ≡ bytesOrEmptyIfAbsent v → storedValueIf f s ≡ v
+pub flag-bytes : {f : Bool} {s : List ℕ} (v : StoredValue) → f ≡ isPresent v → s ≡ bytesOrEmptyIfAbsent v
+    → storedValueIf f s ≡ v
 flag-bytes v e g = ap₂ storedValueIf e g ∙ whole v
   where
     whole : (w : StoredValue) → storedValueIf (isPresent w) (bytesOrEmptyIfAbsent w) ≡ w
@@ -21,7 +22,8 @@ flag-bytes v e g = ap₂ storedValueIf e g ∙ whole v
     whole (present s) = refl
 
 module _ (b : List ℕ) (t : ℕ) {k : ℕ} (at : findRow dictionaryRows t ≡ At k) where
-  pub value-by-row : {f : Bool} {s : List ℕ} → f ≡ isPresent (rowValue dictionaryRows b k) → s ≡ bytesOrEmptyIfAbsent (rowValue dictionaryRows b k) → storedValueIf f s ≡ objectValue b t
+  pub value-by-row : {f : Bool} {s : List ℕ} → f ≡ isPresent (rowValue dictionaryRows b k)
+      → s ≡ bytesOrEmptyIfAbsent (rowValue dictionaryRows b k) → storedValueIf f s ≡ objectValue b t
   value-by-row e g = flag-bytes (rowValue dictionaryRows b k) e g ∙ sym (by-row dictionaryRows b t k at)
 
   pub bytes-by-row : {s : List ℕ} → s ≡ bytesOrEmptyIfAbsent (rowValue dictionaryRows b k) → s ≡ storedBytes b t

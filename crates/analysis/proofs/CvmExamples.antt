@@ -9,7 +9,9 @@ use Rattle.basics.specs.Choice.{if, both, either}
 use Rattle.basics.specs.Number.{appendBigEndianBytes}
 use Rattle.store.specs.Place.{absent, present}
 use Rattle.analysis.specs.Value.{firstBytesZeroPadded}
-use Rattle.analysis.specs.Cvm.{cvmRulesFromPairs, cvmAmountX, cvmAmountY, cvmRecognised, cvmSupported, cvmConditionMet, cvmResultOfSupported, cvmResultOfUnsuccessful, cvmResultByRules, cvmNumber, cvmProcessing}
+use Rattle.analysis.specs.Cvm.{cvmRulesFromPairs, cvmAmountX, cvmAmountY, cvmRecognised, cvmSupported}
+use Rattle.analysis.specs.Cvm.{cvmConditionMet, cvmResultOfSupported, cvmResultOfUnsuccessful, cvmResultByRules}
+use Rattle.analysis.specs.Cvm.{cvmNumber, cvmProcessing}
 use Rattle.analysis.specs.declared.cvm.CvmConditions.{CvmConditions}
 use Rattle.analysis.specs.declared.cvm.CvmResult.{CvmResult}
 
@@ -17,7 +19,17 @@ use Rattle.analysis.specs.declared.cvm.CvmResult.{CvmResult}
 
 -- 12.34 by byte 2 of 9F33 and the CVM List (8E): cash, cashback, at an ATM, in the application's currency
 abbrev terms : Bool → Bool → Bool → Bool → ℕ → List ℕ → CvmConditions
-terms k b a u c l = record { capabilities = c; cash = k; cashback = b; atm = a; currency = u; amount = 1234; x = cvmAmountX l; y = cvmAmountY l }
+terms k b a u c l = record {
+  capabilities = c;
+  cash = k;
+  cashback = b;
+  atm = a;
+  currency = u;
+  amount = 1234;
+  x =
+      cvmAmountX l;
+  y = cvmAmountY l;
+}
 
 abbrev purchase : ℕ → List ℕ → CvmConditions
 purchase = terms false false false true
@@ -54,7 +66,8 @@ not-asked :
     ∷ (0x3F ∷ 0x00 ∷ 0x00 ∷ 0x20 ∷ 0x00 ∷ 0x00 ∷ [])
     ∷ (0x3F ∷ 0x00 ∷ 0x00 ∷ 0x20 ∷ 0x00 ∷ 0x00 ∷ [])
     ∷ []
-unfolding shown cvmProcessing cvmResultByRules cvmRulesFromPairs cvmConditionMet cvmSupported cvmRecognised cvmResultOfSupported cvmResultOfUnsuccessful if both either firstBytesZeroPadded appendBigEndianBytes
+unfolding shown cvmProcessing cvmResultByRules cvmRulesFromPairs cvmConditionMet cvmSupported cvmRecognised
+    cvmResultOfSupported cvmResultOfUnsuccessful if both either firstBytesZeroPadded appendBigEndianBytes
 not-asked = refl
 
 -- online PIN, else signature, else no CVM, each where it is supported
@@ -69,20 +82,25 @@ by-support :
     ∷ (0x1F ∷ 0x03 ∷ 0x02 ∷ 0x00 ∷ 0x00 ∷ 0x00 ∷ [])
     ∷ (0x3F ∷ 0x00 ∷ 0x01 ∷ 0x00 ∷ 0x80 ∷ 0x00 ∷ [])
     ∷ []
-unfolding shown cvmProcessing cvmResultByRules cvmRulesFromPairs cvmConditionMet cvmSupported cvmRecognised cvmResultOfSupported cvmResultOfUnsuccessful if both either firstBytesZeroPadded appendBigEndianBytes
+unfolding shown cvmProcessing cvmResultByRules cvmRulesFromPairs cvmConditionMet cvmSupported cvmRecognised
+    cvmResultOfSupported cvmResultOfUnsuccessful if both either firstBytesZeroPadded appendBigEndianBytes
 by-support = refl
 
 -- amounts equal to X and Y are neither under nor over; fail keeps its code and condition; one under and one over; X and
 -- Y read as binary numbers; another currency, and the highest and the lowest amounts
 by-amount :
-    byWhole (purchase 0x68) (0x00 ∷ 0x00 ∷ 0x04 ∷ 0xD2 ∷ 0x00 ∷ 0x00 ∷ 0x04 ∷ 0xD2 ∷ 0x1E ∷ 0x06 ∷ 0x1E ∷ 0x07 ∷ 0x1E ∷ 0x08 ∷ 0x1E ∷ 0x09 ∷ 0x00 ∷ 0x00 ∷ [])
+    byWhole (purchase 0x68) (0x00 ∷ 0x00 ∷ 0x04 ∷ 0xD2 ∷ 0x00 ∷ 0x00 ∷ 0x04 ∷ 0xD2 ∷ 0x1E ∷ 0x06 ∷ 0x1E ∷ 0x07 ∷ 0x1E
+    ∷ 0x08 ∷ 0x1E ∷ 0x09 ∷ 0x00 ∷ 0x00 ∷ [])
     ∷ byWhole (purchase 0x68) (0x00 ∷ 0x00 ∷ 0x04 ∷ 0xD1 ∷ 0x00 ∷ 0x00 ∷ 0x04 ∷ 0xD3 ∷ 0x42 ∷ 0x06 ∷ 0x5E ∷ 0x08 ∷ [])
     ∷ byWhole (purchase 0x68) (0x00 ∷ 0x00 ∷ 0x04 ∷ 0xD3 ∷ 0x00 ∷ 0x00 ∷ 0x04 ∷ 0xD1 ∷ 0x42 ∷ 0x06 ∷ 0x5E ∷ 0x08 ∷ [])
     ∷ byWhole (purchase 0x68) (0x00 ∷ 0x00 ∷ 0x04 ∷ 0xD1 ∷ 0x00 ∷ 0x00 ∷ 0x04 ∷ 0xD3 ∷ 0x42 ∷ 0x07 ∷ 0x5E ∷ 0x08 ∷ [])
     ∷ byWhole (purchase 0x68) (0x00 ∷ 0x00 ∷ 0x12 ∷ 0x35 ∷ 0x00 ∷ 0x00 ∷ 0x12 ∷ 0x33 ∷ 0x42 ∷ 0x07 ∷ 0x5E ∷ 0x08 ∷ [])
-    ∷ byWhole (otherCurrency 0x68) (0xFF ∷ 0xFF ∷ 0xFF ∷ 0xFF ∷ 0x00 ∷ 0x00 ∷ 0x00 ∷ 0x00 ∷ 0x5E ∷ 0x06 ∷ 0x5E ∷ 0x09 ∷ 0x1F ∷ 0x00 ∷ [])
-    ∷ byWhole (purchase 0x68) (0xFF ∷ 0xFF ∷ 0xFF ∷ 0xFF ∷ 0x00 ∷ 0x00 ∷ 0x00 ∷ 0x00 ∷ 0x5E ∷ 0x06 ∷ 0x5E ∷ 0x09 ∷ 0x1F ∷ 0x00 ∷ [])
-    ∷ byWhole (purchase 0x68) (0x00 ∷ 0x00 ∷ 0x00 ∷ 0x00 ∷ 0x00 ∷ 0x00 ∷ 0x00 ∷ 0x00 ∷ 0x5E ∷ 0x06 ∷ 0x5E ∷ 0x09 ∷ 0x1F ∷ 0x00 ∷ [])
+    ∷ byWhole (otherCurrency 0x68) (0xFF ∷ 0xFF ∷ 0xFF ∷ 0xFF ∷ 0x00 ∷ 0x00 ∷ 0x00 ∷ 0x00 ∷ 0x5E ∷ 0x06 ∷ 0x5E ∷ 0x09
+    ∷ 0x1F ∷ 0x00 ∷ [])
+    ∷ byWhole (purchase 0x68) (0xFF ∷ 0xFF ∷ 0xFF ∷ 0xFF ∷ 0x00 ∷ 0x00 ∷ 0x00 ∷ 0x00 ∷ 0x5E ∷ 0x06 ∷ 0x5E ∷ 0x09 ∷ 0x1F
+    ∷ 0x00 ∷ [])
+    ∷ byWhole (purchase 0x68) (0x00 ∷ 0x00 ∷ 0x00 ∷ 0x00 ∷ 0x00 ∷ 0x00 ∷ 0x00 ∷ 0x00 ∷ 0x5E ∷ 0x06 ∷ 0x5E ∷ 0x09 ∷ 0x1F
+    ∷ 0x00 ∷ [])
     ∷ []
     ≡ (0x00 ∷ 0x00 ∷ 0x01 ∷ 0x00 ∷ 0x80 ∷ 0x00 ∷ [])
     ∷ (0x5E ∷ 0x08 ∷ 0x00 ∷ 0x00 ∷ 0x00 ∷ 0x01 ∷ [])
@@ -93,7 +111,8 @@ by-amount :
     ∷ (0x5E ∷ 0x06 ∷ 0x00 ∷ 0x00 ∷ 0x00 ∷ 0x01 ∷ [])
     ∷ (0x5E ∷ 0x09 ∷ 0x00 ∷ 0x00 ∷ 0x00 ∷ 0x01 ∷ [])
     ∷ []
-unfolding shown cvmProcessing cvmResultByRules cvmRulesFromPairs cvmConditionMet cvmSupported cvmRecognised cvmResultOfSupported cvmResultOfUnsuccessful if both either firstBytesZeroPadded appendBigEndianBytes
+unfolding shown cvmProcessing cvmResultByRules cvmRulesFromPairs cvmConditionMet cvmSupported cvmRecognised
+    cvmResultOfSupported cvmResultOfUnsuccessful if both either firstBytesZeroPadded appendBigEndianBytes
 by-amount = refl
 
 -- an unrecognised CVM: the next rule where b7 indicates so, and the bit stays; none where b7 is clear or no rule is
@@ -117,7 +136,8 @@ unrecognised :
     ∷ (0x1F ∷ 0x03 ∷ 0x02 ∷ 0x00 ∷ 0x40 ∷ 0x00 ∷ [])
     ∷ (0x3F ∷ 0x00 ∷ 0x01 ∷ 0x00 ∷ 0xC0 ∷ 0x00 ∷ [])
     ∷ []
-unfolding shown cvmProcessing cvmResultByRules cvmRulesFromPairs cvmConditionMet cvmSupported cvmRecognised cvmResultOfSupported cvmResultOfUnsuccessful if both either firstBytesZeroPadded appendBigEndianBytes
+unfolding shown cvmProcessing cvmResultByRules cvmRulesFromPairs cvmConditionMet cvmSupported cvmRecognised
+    cvmResultOfSupported cvmResultOfUnsuccessful if both either firstBytesZeroPadded appendBigEndianBytes
 unrecognised = refl
 
 -- fail with b7 and a rule left, with none left, and with b7 clear
@@ -132,7 +152,8 @@ fails :
     ∷ (0x3F ∷ 0x00 ∷ 0x01 ∷ 0x00 ∷ 0x80 ∷ 0x00 ∷ [])
     ∷ (0x00 ∷ 0x00 ∷ 0x01 ∷ 0x00 ∷ 0x80 ∷ 0x00 ∷ [])
     ∷ []
-unfolding shown cvmProcessing cvmResultByRules cvmRulesFromPairs cvmConditionMet cvmSupported cvmRecognised cvmResultOfSupported cvmResultOfUnsuccessful if both either firstBytesZeroPadded appendBigEndianBytes
+unfolding shown cvmProcessing cvmResultByRules cvmRulesFromPairs cvmConditionMet cvmSupported cvmRecognised
+    cvmResultOfSupported cvmResultOfUnsuccessful if both either firstBytesZeroPadded appendBigEndianBytes
 fails = refl
 
 -- an odd last byte is no rule, so the one before it is the last
@@ -149,7 +170,8 @@ odd-bytes :
     ∷ (0x3F ∷ 0x00 ∷ 0x01 ∷ 0x00 ∷ 0x80 ∷ 0x00 ∷ [])
     ∷ (0x40 ∷ 0x00 ∷ 0x01 ∷ 0x00 ∷ 0x80 ∷ 0x00 ∷ [])
     ∷ []
-unfolding shown cvmProcessing cvmResultByRules cvmRulesFromPairs cvmConditionMet cvmSupported cvmRecognised cvmResultOfSupported cvmResultOfUnsuccessful if both either firstBytesZeroPadded appendBigEndianBytes
+unfolding shown cvmProcessing cvmResultByRules cvmRulesFromPairs cvmConditionMet cvmSupported cvmRecognised
+    cvmResultOfSupported cvmResultOfUnsuccessful if both either firstBytesZeroPadded appendBigEndianBytes
 odd-bytes = refl
 
 -- cash at an ATM and elsewhere, neither cash nor cashback, cashback
@@ -168,7 +190,8 @@ by-type :
     ∷ (0x42 ∷ 0x05 ∷ 0x00 ∷ 0x00 ∷ 0x04 ∷ 0x02 ∷ [])
     ∷ (0x42 ∷ 0x02 ∷ 0x00 ∷ 0x00 ∷ 0x04 ∷ 0x02 ∷ [])
     ∷ []
-unfolding shown cvmProcessing cvmResultByRules cvmRulesFromPairs cvmConditionMet cvmSupported cvmRecognised cvmResultOfSupported cvmResultOfUnsuccessful if both either firstBytesZeroPadded appendBigEndianBytes
+unfolding shown cvmProcessing cvmResultByRules cvmRulesFromPairs cvmConditionMet cvmSupported cvmRecognised
+    cvmResultOfSupported cvmResultOfUnsuccessful if both either firstBytesZeroPadded appendBigEndianBytes
 by-type = refl
 
 -- conditions that are not understood; b8 of a code is kept and not tested
@@ -185,7 +208,8 @@ reserved :
     ∷ (0x3F ∷ 0x00 ∷ 0x01 ∷ 0x00 ∷ 0x80 ∷ 0x00 ∷ [])
     ∷ (0x80 ∷ 0x00 ∷ 0x01 ∷ 0x00 ∷ 0x80 ∷ 0x00 ∷ [])
     ∷ []
-unfolding shown cvmProcessing cvmResultByRules cvmRulesFromPairs cvmConditionMet cvmSupported cvmRecognised cvmResultOfSupported cvmResultOfUnsuccessful if both either firstBytesZeroPadded appendBigEndianBytes
+unfolding shown cvmProcessing cvmResultByRules cvmRulesFromPairs cvmConditionMet cvmSupported cvmRecognised
+    cvmResultOfSupported cvmResultOfUnsuccessful if both either firstBytesZeroPadded appendBigEndianBytes
 reserved = refl
 
 -- an offline PIN that is supported; one that is not
@@ -206,7 +230,8 @@ offline :
     ∷ (0x1F ∷ 0x00 ∷ 0x02 ∷ 0x00 ∷ 0x00 ∷ 0x00 ∷ [])
     ∷ (0x3F ∷ 0x00 ∷ 0x01 ∷ 0x00 ∷ 0x80 ∷ 0x00 ∷ [])
     ∷ []
-unfolding shown cvmProcessing cvmResultByRules cvmRulesFromPairs cvmConditionMet cvmSupported cvmRecognised cvmResultOfSupported cvmResultOfUnsuccessful if both either firstBytesZeroPadded appendBigEndianBytes
+unfolding shown cvmProcessing cvmResultByRules cvmRulesFromPairs cvmConditionMet cvmSupported cvmRecognised
+    cvmResultOfSupported cvmResultOfUnsuccessful if both either firstBytesZeroPadded appendBigEndianBytes
 offline = refl
 
 -- ---- one test at a time
@@ -247,7 +272,8 @@ high-bits = refl
 -- the CVMs of the table, whatever b7 and b8; their neighbours
 recognises :
     map cvmRecognised (codes ++ 0x45 ∷ 0x46 ∷ 0xDE ∷ 0xDD ∷ [])
-    ≡ true ∷ true ∷ true ∷ true ∷ true ∷ true ∷ false ∷ false ∷ true ∷ true ∷ false ∷ false ∷ true ∷ false ∷ true ∷ false ∷ []
+    ≡ true ∷ true ∷ true ∷ true ∷ true ∷ true ∷ false ∷ false ∷ true ∷ true ∷ false ∷ false ∷ true ∷ false ∷ true
+    ∷ false ∷ []
 unfolding codes cvmRecognised if either
 recognises = refl
 
@@ -257,7 +283,17 @@ conditions t = map (cvmConditionMet t 0x42) (0 ∷ 1 ∷ 2 ∷ 3 ∷ 4 ∷ 5 ∷
 
 -- the amount under both, equal to both, over both
 abbrev amounts : ℕ → ℕ → ℕ → CvmConditions
-amounts a m n = record { capabilities = 0; cash = false; cashback = false; atm = false; currency = true; amount = a; x = m; y = n }
+amounts a m n = record {
+  capabilities = 0;
+  cash = false;
+  cashback = false;
+  atm = false;
+  currency = true;
+  amount = a;
+  x =
+      m;
+  y = n;
+}
 
 met-conditions :
     conditions (purchase 0x40 [])

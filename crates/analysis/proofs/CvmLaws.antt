@@ -15,7 +15,11 @@ use Rattle.basics.specs.Choice.{if, both, either, every}
 use Rattle.basics.proofs.Laws.{if-yes, if-no, if-ind, bool-cases, both-left, both-right, either-false}
 use Rattle.store.specs.Place.{StoredValue, absent, present}
 use Rattle.analysis.specs.Bits.{byteHasBit, bitWeightIfSet}
-use Rattle.analysis.specs.Cvm.{CvmRule, cvmRulesFromPairs, cvmRulesOfList, cvmRecognised, cvmSupportedNotFail, cvmConditionMet, tvrByte3FailedUnrecognisedOnlinePin, cvmResultOfSupported, cvmResultNoRuleSucceeded, cvmResultOfUnsuccessful, nextCvmRuleApplies, cvmResultByRules, cvmResult, cvmResultNotPerformed, cvmResultByList, cvmProcessing, onDeviceCvmResultByAboveLimit}
+use Rattle.analysis.specs.Cvm.{CvmRule, cvmRulesFromPairs, cvmRulesOfList, cvmRecognised, cvmSupportedNotFail}
+use Rattle.analysis.specs.Cvm.{cvmConditionMet, tvrByte3FailedUnrecognisedOnlinePin, cvmResultOfSupported}
+use Rattle.analysis.specs.Cvm.{cvmResultNoRuleSucceeded, cvmResultOfUnsuccessful, nextCvmRuleApplies}
+use Rattle.analysis.specs.Cvm.{cvmResultByRules, cvmResult, cvmResultNotPerformed, cvmResultByList, cvmProcessing}
+use Rattle.analysis.specs.Cvm.{onDeviceCvmResultByAboveLimit}
 use Rattle.analysis.specs.declared.cvm.Cvm.{Cvm}
 use Rattle.analysis.specs.declared.cvm.Cvm.the-variants.{NoCvm, Signature, OnlinePin, OfflinePin}
 use Rattle.analysis.specs.declared.cvm.CvmConditions.{CvmConditions}
@@ -26,7 +30,8 @@ use Rattle.analysis.proofs.CvmSteps.{cvmRule, rules-short, by-bytes}
 
 -- a rule decides where its condition holds, and its CVM is taken or is unsuccessful with b7 clear
 unfoldable pub decides : CvmConditions → CvmRule → Bool
-decides t r = both (cvmConditionMet t (r .code) (r .condition)) (either (cvmSupportedNotFail (t .capabilities) (r .code)) (not (byteHasBit (r .code) 7)))
+decides t r = both (cvmConditionMet t (r .code) (r .condition))
+    (either (cvmSupportedNotFail (t .capabilities) (r .code)) (not (byteHasBit (r .code) 7)))
 
 goes-on-not : (code : ℕ) (rs : List CvmRule) → not (byteHasBit code 7) ≡ true → nextCvmRuleApplies code rs ≡ false
 goes-on-not code [] e = refl
@@ -38,7 +43,8 @@ decided t u r =
     if (cvmSupportedNotFail (t .capabilities) (r .code)) (cvmResultOfSupported (r .code) (r .condition) u)
     (cvmResultOfUnsuccessful (r .code) (r .condition) (either u (not (cvmRecognised (r .code)))))
 
-decides-says : (t : CvmConditions) (u : Bool) (r : CvmRule) (rs : List CvmRule) → decides t r ≡ true → cvmResultByRules t u (r ∷ rs) ≡ decided t u r
+decides-says : (t : CvmConditions) (u : Bool) (r : CvmRule) (rs : List CvmRule) → decides t r ≡ true
+    → cvmResultByRules t u (r ∷ rs) ≡ decided t u r
 unfolding cvmResultByRules decides decided
 decides-says t u r rs d =
     let m = both-left _ _ d in
@@ -55,7 +61,8 @@ goes-on-same code [] r rs ss = refl
 goes-on-same code (b ∷ before) r rs ss = refl
 
 -- rules after one that decides do not matter, whatever is before it
-pub rules-behind : (t : CvmConditions) (u : Bool) (before : List CvmRule) (r : CvmRule) (rs ss : List CvmRule) → decides t r ≡ true
+pub rules-behind : (t : CvmConditions) (u : Bool) (before : List CvmRule) (r : CvmRule) (rs ss : List CvmRule)
+    → decides t r ≡ true
     → cvmResultByRules t u (before ++ r ∷ rs) ≡ cvmResultByRules t u (before ++ r ∷ ss)
 unfolding cvmResultByRules
 rules-behind t u [] r rs ss d = decides-says t u r rs d ∙ sym (decides-says t u r ss d)
@@ -69,20 +76,24 @@ rules-behind t u (b ∷ before) r rs ss d =
 -- ---- the same on the bytes of a list
 
 -- after whole rules the bytes make rules of their own
-rules-append : (s l : List ℕ) → length s % 2 ≡ 0 → cvmRulesFromPairs (s ++ l) ≡ cvmRulesFromPairs s ++ cvmRulesFromPairs l
+rules-append : (s l : List ℕ) → length s % 2 ≡ 0 → cvmRulesFromPairs (s ++ l) ≡ cvmRulesFromPairs s ++ cvmRulesFromPairs
+    l
 unfolding cvmRulesFromPairs
 rules-append [] l e = refl
 rules-append (c ∷ []) l e = absurd (omega arith)
 rules-append (c ∷ d ∷ s) l e = ap (λ (rs : List CvmRule). cvmRule c d ∷ rs) (rules-append s l (omega arith))
 
-of-append : (s l : List ℕ) → 8 ≤ length s → length s % 2 ≡ 0 → cvmRulesOfList (s ++ l) ≡ cvmRulesOfList s ++ cvmRulesFromPairs l
-of-append s l h e = ap cvmRulesFromPairs (drop-append-le 8 s l h) ∙ rules-append (drop 8 s) l (simp length-drop (omega arith))
+of-append : (s l : List ℕ) → 8 ≤ length s → length s % 2 ≡ 0 → cvmRulesOfList (s ++ l) ≡ cvmRulesOfList s
+    ++ cvmRulesFromPairs l
+of-append s l h e = ap cvmRulesFromPairs (drop-append-le 8 s l h) ∙ rules-append (drop 8 s) l
+    (simp length-drop (omega arith))
 
 alike : (aip : ℕ) (t : CvmConditions) (s l : List ℕ) → (length s ≡ 0 → ⊥) → (length l ≡ 0 → ⊥)
     → cvmResultByRules t false (cvmRulesOfList s) ≡ cvmResultByRules t false (cvmRulesOfList l)
     → cvmProcessing aip (present s) t ≡ cvmProcessing aip (present l) t
 unfolding cvmProcessing
-alike aip t s l n m e = ap (λ (v : CvmResult). if (byteHasBit aip 5) v (cvmResultNotPerformed false)) (by-bytes s t n ∙ e ∙ sym (by-bytes l t m))
+alike aip t s l n m e = ap (λ (v : CvmResult). if (byteHasBit aip 5) v (cvmResultNotPerformed false))
+    (by-bytes s t n ∙ e ∙ sym (by-bytes l t m))
 
 not-empty : (s l : List ℕ) → (length s ≡ 0 → ⊥) → length (s ++ l) ≡ 0 → ⊥
 not-empty s l n z = n (omega (arith, length-append s l))
@@ -93,7 +104,8 @@ module _ (aip : ℕ) (t : CvmConditions) (s : List ℕ) (h : 8 ≤ length s) (e 
       → cvmProcessing aip (present (s ++ c ∷ d ∷ l)) t ≡ cvmProcessing aip (present (s ++ c ∷ d ∷ m)) t
   unfolding cvmRulesFromPairs
   bytes-behind c d l m k =
-      alike aip t (s ++ c ∷ d ∷ l) (s ++ c ∷ d ∷ m) (not-empty s _ (λ z. omega arith)) (not-empty s _ (λ z. omega arith))
+      alike aip t (s ++ c ∷ d ∷ l) (s ++ c ∷ d ∷ m) (not-empty s _ (λ z. omega arith))
+      (not-empty s _ (λ z. omega arith))
       (ap (cvmResultByRules t false) (of-append s (c ∷ d ∷ l) h e)
       ∙ rules-behind t false (cvmRulesOfList s) (cvmRule c d) (cvmRulesFromPairs l) (cvmRulesFromPairs m) k
       ∙ sym (ap (cvmResultByRules t false) (of-append s (c ∷ d ∷ m) h e)))
@@ -113,7 +125,8 @@ rules-odd s b e =
 -- one byte after a list of even length changes nothing
 pub odd-byte : (aip : ℕ) (t : CvmConditions) (s : List ℕ) (b : ℕ) → (length s ≡ 0 → ⊥) → length s % 2 ≡ 0
     → cvmProcessing aip (present (s ++ b ∷ [])) t ≡ cvmProcessing aip (present s) t
-odd-byte aip t s b n e = alike aip t (s ++ b ∷ []) s (not-empty s _ n) n (ap (cvmResultByRules t false) (rules-odd s b e))
+odd-byte aip t s b n e = alike aip t (s ++ b ∷ []) s (not-empty s _ n) n
+    (ap (cvmResultByRules t false) (rules-odd s b e))
 
 -- ---- the bits added to 95
 
@@ -128,7 +141,15 @@ pub record Added (v : CvmResult) : Type 0 where
 
 added-by : (c d r : ℕ) (m : Cvm) (f u p : Bool) → Added (cvmResult c d r (tvrByte3FailedUnrecognisedOnlinePin f u p) m)
 unfolding if
-added-by c d r m f u p = record { missing = false; failed = f; unrecognised = u; pin = p; first-is = refl; third-is = refl }
+added-by c d r m f u p = record {
+  missing = false;
+  failed = f;
+  unrecognised = u;
+  pin = p;
+  first-is = refl;
+  third-is =
+      refl;
+}
 
 added-taken : (c d : ℕ) (u : Bool) → Added (cvmResultOfSupported c d u)
 unfolding cvmResultOfSupported
@@ -154,7 +175,15 @@ added-rules t u (r ∷ rs) =
 
 added-missing : (m : Bool) → Added (cvmResultNotPerformed m)
 unfolding if
-added-missing m = record { missing = m; failed = false; unrecognised = false; pin = false; first-is = refl; third-is = refl }
+added-missing m = record {
+  missing = m;
+  failed = false;
+  unrecognised = false;
+  pin = false;
+  first-is = refl;
+  third-is =
+      refl;
+}
 
 added-list : (v : StoredValue) (t : CvmConditions) → Added (cvmResultByList v t)
 added-list absent t = added-missing true
@@ -186,7 +215,8 @@ third-byte-most false false true = omega arith
 third-byte-most false false false = omega arith
 
 pub third-most : (aip : ℕ) (v : StoredValue) (t : CvmConditions) → cvmProcessing aip v t .tvr3 ≤ 0xC4
-third-most aip v t = let a = bits-added aip v t in rw (a .third-is) (third-byte-most (a .failed) (a .unrecognised) (a .pin))
+third-most aip v t = let a = bits-added aip v t in
+    rw (a .third-is) (third-byte-most (a .failed) (a .unrecognised) (a .pin))
 
 -- none of the listed bits of a byte is set
 abbrev clear : ℕ → List ℕ → Bool
@@ -219,7 +249,8 @@ other-third aip v t =
     let a = bits-added aip v t in rw (a .third-is) (clear-third (a .failed) (a .unrecognised) (a .pin))
 
 -- on-device CVM adds none at all
-pub on-device-bits : (above : Bool) → (onDeviceCvmResultByAboveLimit above .tvr1 ≡ 0) × (onDeviceCvmResultByAboveLimit above .tvr3 ≡ 0)
+pub on-device-bits : (above : Bool) → (onDeviceCvmResultByAboveLimit above .tvr1 ≡ 0)
+    × (onDeviceCvmResultByAboveLimit above .tvr3 ≡ 0)
 unfolding onDeviceCvmResultByAboveLimit if
 on-device-bits true = (refl, refl)
 on-device-bits false = (refl, refl)

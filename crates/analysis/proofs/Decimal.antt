@@ -12,7 +12,8 @@ use lib.ListN.{length, getD, drop}
 use borrow.Author.Tests.{ltb-true, ltb-false, lt-ltb, le-ltb}
 use Rattle.basics.specs.Number.{nibbles}
 use Rattle.basics.proofs.Laws.{if-yes, if-no, bool-cases}
-use Rattle.analysis.specs.Digits.{appendDecimalDigits, bcdNumber, dateYearTwoDigits, fourDigitYear, dateAsNumber, firstDateIsLater, amountOf}
+use Rattle.analysis.specs.Digits.{appendDecimalDigits, bcdNumber, dateYearTwoDigits, fourDigitYear, dateAsNumber}
+use Rattle.analysis.specs.Digits.{firstDateIsLater, amountOf}
 use Rattle.analysis.specs.Inner.{bcdByte}
 use Rattle.analysis.specs.Value.{firstBytesZeroPadded}
 use Rattle.analysis.proofs.Value.{front-whole, front-one, front-three}
@@ -29,7 +30,8 @@ pub decimal-three : (a b c : ℕ) → bcdNumber (a ∷ b ∷ c ∷ []) ≡ bcdBy
 unfolding appendDecimalDigits nibbles bcdByte
 decimal-three a b c = omega arith
 
-pub decimal-six : (a b c d e f : ℕ) → bcdNumber (a ∷ b ∷ c ∷ d ∷ e ∷ f ∷ []) ≡ bcdNumber (a ∷ b ∷ c ∷ []) * 1000000 + bcdNumber (d ∷ e ∷ f ∷ [])
+pub decimal-six : (a b c d e f : ℕ) → bcdNumber (a ∷ b ∷ c ∷ d ∷ e ∷ f ∷ []) ≡ bcdNumber (a ∷ b ∷ c ∷ []) * 1000000
+    + bcdNumber (d ∷ e ∷ f ∷ [])
 unfolding appendDecimalDigits nibbles
 decimal-six a b c d e f = omega arith
 
@@ -43,10 +45,12 @@ whole-amount s e = ap bcdNumber (front-whole 6 s e)
 pub year-digits : (s : List ℕ) → dateYearTwoDigits s ≡ bcdByte (getD s 0 0)
 year-digits s = ap bcdNumber (front-one s) ∙ decimal-one (getD s 0 0)
 
-pub month-and-day : (s : List ℕ) → bcdNumber (drop 1 (firstBytesZeroPadded 3 s)) ≡ bcdByte (getD s 1 0) * 100 + bcdByte (getD s 2 0)
+pub month-and-day : (s : List ℕ) → bcdNumber (drop 1 (firstBytesZeroPadded 3 s)) ≡ bcdByte (getD s 1 0) * 100
+    + bcdByte (getD s 2 0)
 month-and-day s = ap (λ (t : List ℕ). bcdNumber (drop 1 t)) (front-three s) ∙ decimal-two (getD s 1 0) (getD s 2 0)
 
-six-digits : (s : List ℕ) → bcdNumber (firstBytesZeroPadded 3 s) ≡ dateYearTwoDigits s * 10000 + bcdNumber (drop 1 (firstBytesZeroPadded 3 s))
+six-digits : (s : List ℕ) → bcdNumber (firstBytesZeroPadded 3 s) ≡ dateYearTwoDigits s * 10000
+    + bcdNumber (drop 1 (firstBytesZeroPadded 3 s))
 six-digits s =
     let e = ap bcdNumber (front-three s) ∙ decimal-three (getD s 0 0) (getD s 1 0) (getD s 2 0) in
     let y = year-digits s in
@@ -54,14 +58,16 @@ six-digits s =
     omega (arith, e, y, m)
 
 -- years 2000 to 2049 add a constant to the six digits, and so do 1950 to 1999
-recent : (s : List ℕ) → ltb (dateYearTwoDigits s) 50 ≡ true → dateAsNumber s ≡ 20000000 + bcdNumber (firstBytesZeroPadded 3 s)
+recent : (s : List ℕ) → ltb (dateYearTwoDigits s) 50 ≡ true
+    → dateAsNumber s ≡ 20000000 + bcdNumber (firstBytesZeroPadded 3 s)
 unfolding dateAsNumber fourDigitYear
 recent s e =
     let y = if-yes (2000 + dateYearTwoDigits s) (1900 + dateYearTwoDigits s) e in
     let d = six-digits s in
     omega (arith, y, d)
 
-former : (s : List ℕ) → ltb (dateYearTwoDigits s) 50 ≡ false → dateAsNumber s ≡ 19000000 + bcdNumber (firstBytesZeroPadded 3 s)
+former : (s : List ℕ) → ltb (dateYearTwoDigits s) 50 ≡ false
+    → dateAsNumber s ≡ 19000000 + bcdNumber (firstBytesZeroPadded 3 s)
 unfolding dateAsNumber fourDigitYear
 former s e =
     let y = if-no (2000 + dateYearTwoDigits s) (1900 + dateYearTwoDigits s) e in
@@ -81,6 +87,10 @@ pub one-century : (a b : List ℕ) → ltb (dateYearTwoDigits a) 50 ≡ ltb (dat
 unfolding firstDateIsLater
 one-century a b q = by (bool-cases (ltb (dateYearTwoDigits a) 50))
   where
-    by : (ltb (dateYearTwoDigits a) 50 ≡ true) ⊎ (ltb (dateYearTwoDigits a) 50 ≡ false) → ltb (dateAsNumber b) (dateAsNumber a) ≡ ltb (bcdNumber (firstBytesZeroPadded 3 b)) (bcdNumber (firstBytesZeroPadded 3 a))
-    by (inl e) = ap₂ ltb (recent b (sym q ∙ e)) (recent a e) ∙ shifted 20000000 (bcdNumber (firstBytesZeroPadded 3 b)) (bcdNumber (firstBytesZeroPadded 3 a))
-    by (inr e) = ap₂ ltb (former b (sym q ∙ e)) (former a e) ∙ shifted 19000000 (bcdNumber (firstBytesZeroPadded 3 b)) (bcdNumber (firstBytesZeroPadded 3 a))
+    by : (ltb (dateYearTwoDigits a) 50 ≡ true) ⊎ (ltb (dateYearTwoDigits a) 50 ≡ false)
+        → ltb (dateAsNumber b) (dateAsNumber a) ≡ ltb (bcdNumber (firstBytesZeroPadded 3 b))
+        (bcdNumber (firstBytesZeroPadded 3 a))
+    by (inl e) = ap₂ ltb (recent b (sym q ∙ e)) (recent a e) ∙ shifted 20000000 (bcdNumber (firstBytesZeroPadded 3 b))
+        (bcdNumber (firstBytesZeroPadded 3 a))
+    by (inr e) = ap₂ ltb (former b (sym q ∙ e)) (former a e) ∙ shifted 19000000 (bcdNumber (firstBytesZeroPadded 3 b))
+        (bcdNumber (firstBytesZeroPadded 3 a))

@@ -10,14 +10,17 @@ use native.Mathlib.Omega.{arith}
 use lib.ListN.{length, getD}
 use Rattle.basics.specs.Choice.{if}
 use Rattle.store.specs.Place.{objectValue}
-use Rattle.analysis.specs.Action.{cardAndKernelSupportOnDeviceCvm, transactionLimit, restrictionsTvrByte2, tvrBeforeCvm, tvrWithCvm, findingsOf}
+use Rattle.analysis.specs.Action.{cardAndKernelSupportOnDeviceCvm, transactionLimit, restrictionsTvrByte2}
+use Rattle.analysis.specs.Action.{tvrBeforeCvm, tvrWithCvm, findingsOf}
 use Rattle.analysis.specs.Bits.{bitWeightIfSet}
-use Rattle.analysis.specs.Choice.{terminalTypeLastDigit, onlineCapabilityByDigit, choiceByStages, terminalActionAnalysis, generateAcP1, generateAcP1For}
+use Rattle.analysis.specs.Choice.{terminalTypeLastDigit, onlineCapabilityByDigit, choiceByStages}
+use Rattle.analysis.specs.Choice.{terminalActionAnalysis, generateAcP1, generateAcP1For}
 use Rattle.analysis.specs.Digits.{isOneOf, firstAmountIsAbove}
 use Rattle.analysis.specs.Restrictions.{tvrByte2VersionExpiredEarlyUsage}
 use Rattle.analysis.specs.Tvr.{tvrByte4AmountAboveFloorLimit, tvrWithBits}
 use Rattle.analysis.specs.declared.choice.ActionCodes.{ActionCodes}
-use Rattle.analysis.specs.declared.choice.OnlineCapability.the-variants.{OnlineOnly, OnlineCapable, OfflineOnly, Unlisted}
+use Rattle.analysis.specs.declared.choice.OnlineCapability.the-variants.{OnlineOnly, OnlineCapable, OfflineOnly}
+use Rattle.analysis.specs.declared.choice.OnlineCapability.the-variants.{Unlisted}
 use Rattle.analysis.specs.declared.choice.Choice.{Choice}
 use Rattle.analysis.specs.declared.choice.Choice.the-variants.{Decline, Online, Offline}
 use Rattle.analysis.proofs.Listed.{is-none, one-is}
@@ -28,8 +31,16 @@ unfolding if
 bit-weight-most b true = omega arith
 bit-weight-most b false = omega arith
 
-restriction-byte : (version expired early usage : Bool) → tvrByte2VersionExpiredEarlyUsage version expired early usage < 256
-restriction-byte v x e u = omega (arith, bit-weight-most 8 v, bit-weight-most 7 x, bit-weight-most 6 e, bit-weight-most 5 u)
+restriction-byte : (version expired early usage : Bool) → tvrByte2VersionExpiredEarlyUsage version expired early usage
+    < 256
+restriction-byte v x e u = omega (
+  arith,
+  bit-weight-most 8 v,
+  bit-weight-most 7 x,
+  bit-weight-most 6 e,
+  bit-weight-most
+      5 u,
+)
 
 floor-byte : (amount limit : List ℕ) → tvrByte4AmountAboveFloorLimit amount limit < 256
 floor-byte a l = omega (arith, bit-weight-most 8 (firstAmountIsAbove a l))
@@ -98,17 +109,21 @@ one-ending x e =
       | inr p ↦ elim z [ inl q ↦ omega arith | inr q ↦ omega arith ]
     ])
 
-pub p1-is : (result : List ℕ) (kind : ℕ) (pairs : List ActionCodes) → generateAcP1 (terminalActionAnalysis result kind pairs) ≡ generateAcP1For result kind pairs
+pub p1-is : (result : List ℕ) (kind : ℕ) (pairs : List ActionCodes)
+    → generateAcP1 (terminalActionAnalysis result kind pairs) ≡ generateAcP1For result kind pairs
 unfolding terminalActionAnalysis generateAcP1For onlineCapabilityByDigit
 p1-is result kind pairs = p1-by _ _ _ _ _ _ (one-ending (terminalTypeLastDigit kind))
 
 -- what is returned, and its number
-pub asks : (result : List ℕ) (kind : ℕ) (pairs : List ActionCodes) {r : Choice} → r ≡ terminalActionAnalysis result kind pairs
+pub asks : (result : List ℕ) (kind : ℕ) (pairs : List ActionCodes) {r : Choice}
+    → r ≡ terminalActionAnalysis result kind pairs
     → (r ≡ terminalActionAnalysis result kind pairs) × (generateAcP1 r ≡ generateAcP1For result kind pairs)
 asks result kind pairs e = (e, ap generateAcP1 e ∙ p1-is result kind pairs)
 
 -- the transaction limit goes by 82, DF811B, DF8124 and DF8125 alone
-pub limit-same : (b c : List ℕ) → objectValue b 0x82 ≡ objectValue c 0x82 → objectValue b 0xDF811B ≡ objectValue c 0xDF811B
-    → objectValue b 0xDF8124 ≡ objectValue c 0xDF8124 → objectValue b 0xDF8125 ≡ objectValue c 0xDF8125 → transactionLimit b ≡ transactionLimit c
+pub limit-same : (b c : List ℕ) → objectValue b 0x82 ≡ objectValue c 0x82
+    → objectValue b 0xDF811B ≡ objectValue c 0xDF811B
+    → objectValue b 0xDF8124 ≡ objectValue c 0xDF8124 → objectValue b 0xDF8125 ≡ objectValue c 0xDF8125
+    → transactionLimit b ≡ transactionLimit c
 unfolding transactionLimit cardAndKernelSupportOnDeviceCvm
 limit-same b c p k l m = simp (p, k, l, m)

@@ -19,7 +19,10 @@ is-none x a b h = either-no _ _ (ne-eqb x a (λ e. h (inl e))) (ne-eqb x b (λ e
 
 pub one-is : (x a b : ℕ) → isOneOf x a b ≡ true → (x ≡ a) ⊎ (x ≡ b)
 one-is x a b e =
-    elim (bool-cases (eqb x a)) [ inl y ↦ inl (eqb-true x a y) | inr n ↦ inr (eqb-true x b (sym (either-false _ n) ∙ e)) ]
+    elim (bool-cases (eqb x a)) [
+      | inl y ↦ inl (eqb-true x a y)
+      | inr n ↦ inr (eqb-true x b (sym (either-false _ n) ∙ e))
+    ]
 
 pub atm-type : (k : ℕ) → 0x14 ≤ k → k ≤ 0x16 → isAtmType k ≡ true
 atm-type k l h =
@@ -35,6 +38,8 @@ atm-type k l h =
 
 pub no-atm-type : (k : ℕ) → (k < 0x14) ⊎ (0x16 < k) → isAtmType k ≡ false
 no-atm-type k (inl h) =
-    either-no _ _ (ne-eqb k 0x14 (λ e. omega arith)) (either-no _ _ (ne-eqb k 0x15 (λ e. omega arith)) (ne-eqb k 0x16 (λ e. omega arith)))
+    either-no _ _ (ne-eqb k 0x14 (λ e. omega arith))
+    (either-no _ _ (ne-eqb k 0x15 (λ e. omega arith)) (ne-eqb k 0x16 (λ e. omega arith)))
 no-atm-type k (inr h) =
-    either-no _ _ (ne-eqb k 0x14 (λ e. omega arith)) (either-no _ _ (ne-eqb k 0x15 (λ e. omega arith)) (ne-eqb k 0x16 (λ e. omega arith)))
+    either-no _ _ (ne-eqb k 0x14 (λ e. omega arith))
+    (either-no _ _ (ne-eqb k 0x15 (λ e. omega arith)) (ne-eqb k 0x16 (λ e. omega arith)))

@@ -26,7 +26,8 @@ lowest-is f (suc n) i k h =
       | inl e ↦ if-yes (Bit i) (lowestBitFrom f (suc i) n) (ap f e ∙ h .passes) ∙ ap Bit e
       | inr g ↦
           if-no (Bit i) (lowestBitFrom f (suc i) n) (h .below i (le-refl i) g)
-          ∙ lowest-is f n (suc i) k (record { least = g; within = omega arith; passes = h .passes; below = λ m u v. h .below m (omega arith) v })
+          ∙ lowest-is f n (suc i) k
+          (record { least = g; within = omega arith; passes = h .passes; below = λ m u v. h .below m (omega arith) v })
     ]
 
 pub lowest-none : (f : ℕ → Bool) (n i : ℕ) → ((m : ℕ) → i ≤ m → m < i + n → f m ≡ false) → lowestBitFrom f i n ≡ NoBit
@@ -44,7 +45,13 @@ found f (suc n) i k e =
       | inl t ↦
           let q : Bit i ≡ Bit k = sym (if-yes (Bit i) (lowestBitFrom f (suc i) n) t) ∙ e in
           let z : i ≡ k = cc in
-          record { least = omega arith; within = omega arith; passes = ap f (sym z) ∙ t; below = λ m u v. absurd (omega arith) }
+          record {
+            least = omega arith;
+            within = omega arith;
+            passes = ap f (sym z) ∙ t;
+            below =
+                λ m u v. absurd (omega arith);
+          }
       | inr t ↦
           let r = found f n (suc i) k (sym (if-no (Bit i) (lowestBitFrom f (suc i) n) t) ∙ e) in
           record {

@@ -29,7 +29,8 @@ unfolding firstBytesZeroPadded
 front-one [] = refl
 front-one (a ∷ s) = refl
 
-pub front-five : (s : List ℕ) → firstBytesZeroPadded 5 s ≡ getD s 0 0 ∷ getD s 1 0 ∷ getD s 2 0 ∷ getD s 3 0 ∷ getD s 4 0 ∷ []
+pub front-five : (s : List ℕ) → firstBytesZeroPadded 5 s ≡ getD s 0 0 ∷ getD s 1 0 ∷ getD s 2 0 ∷ getD s 3 0
+    ∷ getD s 4 0 ∷ []
 unfolding firstBytesZeroPadded
 front-five [] = refl
 front-five (a ∷ []) = refl
@@ -48,12 +49,20 @@ front-four (a ∷ b ∷ c ∷ d ∷ s) = refl
 
 -- four bytes from place i on as one number
 pub number-four : (s : List ℕ) (i : ℕ)
-    → bigEndianNumber (firstBytesZeroPadded 4 (drop i s)) ≡ ((getD s i 0 * 256 + getD s (i + 1) 0) * 256 + getD s (i + 2) 0) * 256 + getD s (i + 3) 0
+    → bigEndianNumber (firstBytesZeroPadded 4 (drop i s))
+    ≡ ((getD s i 0 * 256 + getD s (i + 1) 0) * 256 + getD s (i + 2) 0) * 256 + getD s (i + 3) 0
 unfolding appendBigEndianBytes
 number-four s i =
     let tvr1 : i + 0 ≡ i = omega arith in
     ap bigEndianNumber (front-four (drop i s))
-    ∙ omega (arith, getD-drop i s 0 0 ∙ ap (λ (k : ℕ). getD s k 0) tvr1, getD-drop i s 1 0, getD-drop i s 2 0, getD-drop i s 3 0)
+    ∙ omega (
+      arith,
+      getD-drop i s 0 0 ∙ ap (λ (k : ℕ). getD s k 0) tvr1,
+      getD-drop i s 1 0,
+      getD-drop i s 2 0,
+      getD-drop
+          i s 3 0,
+    )
 
 pub front-three : (s : List ℕ) → firstBytesZeroPadded 3 s ≡ getD s 0 0 ∷ getD s 1 0 ∷ getD s 2 0 ∷ []
 unfolding firstBytesZeroPadded
@@ -62,7 +71,8 @@ front-three (a ∷ []) = refl
 front-three (a ∷ b ∷ []) = refl
 front-three (a ∷ b ∷ c ∷ s) = refl
 
-pub front-six : (s : List ℕ) → firstBytesZeroPadded 6 s ≡ getD s 0 0 ∷ getD s 1 0 ∷ getD s 2 0 ∷ getD s 3 0 ∷ getD s 4 0 ∷ getD s 5 0 ∷ []
+pub front-six : (s : List ℕ) → firstBytesZeroPadded 6 s ≡ getD s 0 0 ∷ getD s 1 0 ∷ getD s 2 0 ∷ getD s 3 0 ∷ getD s 4 0
+    ∷ getD s 5 0 ∷ []
 unfolding firstBytesZeroPadded
 front-six [] = refl
 front-six (a ∷ s) = ap (λ (t : List ℕ). a ∷ t) (front-five s)

@@ -32,7 +32,8 @@ mismatch-length s t h =
 
 -- from place i on: the bytes there, and from the next place on
 module _ (s t : List ℕ) (i : ℕ) where
-  pub alike-at : i < length s → i < length t → bytesEqual (drop i s) (drop i t) ≡ both (eqb (getD s i 0) (getD t i 0)) (bytesEqual (drop (i + 1) s) (drop (i + 1) t))
+  pub alike-at : i < length s → i < length t → bytesEqual (drop i s) (drop i t) ≡ both (eqb (getD s i 0) (getD t i 0))
+      (bytesEqual (drop (i + 1) s) (drop (i + 1) t))
   unfolding bytesEqual
   alike-at h k = rw (add-one, drop-cons s i 0, drop-cons t i 0)
 

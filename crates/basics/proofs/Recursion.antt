@@ -14,7 +14,8 @@ AsksShorter {R} step =
     (k k′ : List ℕ → R) (s : List ℕ) → ((v : List ℕ) → length v < length s → k v ≡ k′ v) → step k s ≡ step k′ s
 
 module _ {R : Type 0} (out : R) (step : (List ℕ → R) → List ℕ → R) (asks : AsksShorter step) where
-  enough : (n m : ℕ) (s : List ℕ) → length s < n → length s < m → recurseWithFuel out step n s ≡ recurseWithFuel out step m s
+  enough : (n m : ℕ) (s : List ℕ) → length s < n → length s < m → recurseWithFuel out step n s ≡ recurseWithFuel out
+      step m s
   unfolding recurseWithFuel
   enough zero m s p q = absurd (omega arith)
   enough (suc n) zero s p q = absurd (omega arith)
@@ -24,10 +25,12 @@ module _ {R : Type 0} (out : R) (step : (List ℕ → R) → List ℕ → R) (as
   pub recurse-unroll : (s : List ℕ) → recurseWithFuelFromLength out step s ≡ step (recurseWithFuelFromLength out step) s
   unfolding recurseWithFuelFromLength recurseWithFuel
   recurse-unroll s =
-      asks (recurseWithFuel out step (length s)) (recurseWithFuelFromLength out step) s (λ v h. enough (length s) (suc (length v)) v h (omega arith))
+      asks (recurseWithFuel out step (length s)) (recurseWithFuelFromLength out step) s
+      (λ v h. enough (length s) (suc (length v)) v h (omega arith))
 
 -- what holds of a list once it holds of all shorter ones holds of every list
-pub shorter-first : (P : List ℕ → Type 0) → ((s : List ℕ) → ((v : List ℕ) → length v < length s → P v) → P s) → (s : List ℕ) → P s
+pub shorter-first : (P : List ℕ → Type 0) → ((s : List ℕ) → ((v : List ℕ) → length v < length s → P v) → P s)
+    → (s : List ℕ) → P s
 shorter-first P step s = go (suc (length s)) s (omega arith)
   where
     go : (n : ℕ) (s : List ℕ) → length s < n → P s

@@ -10,7 +10,8 @@ use Rattle.basics.specs.Choice.{both, every}
 use Rattle.basics.proofs.Laws.{both-left, both-right}
 
 -- the test holds at each place
-pub at : {A : Type 0} (f : A → Bool) (xs : List A) (d : A) → every f xs ≡ true → (k : ℕ) → k < length xs → f (getD xs k d) ≡ true
+pub at : {A : Type 0} (f : A → Bool) (xs : List A) (d : A) → every f xs ≡ true → (k : ℕ) → k < length xs
+    → f (getD xs k d) ≡ true
 unfolding every
 at f [] d t k h = absurd (omega arith)
 at f (x ∷ xs) d t zero h = both-left (f x) (every f xs) t

@@ -15,5 +15,5 @@ table = record {
   five-levels = five-levels;
   begins = begins;
   fills = fills;
-  chooses = chooses
+  chooses = chooses;
 }

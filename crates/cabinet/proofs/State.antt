@@ -17,10 +17,12 @@ use Rattle.basics.proofs.Laws.{if-yes}
 use Rattle.dictionary.specs.Rows.{storeSize}
 use Rattle.session_record.specs.declared.Session.{Session}
 use Rattle.session_record.specs.Session.{storeBytes}
-use Rattle.layout.specs.Layout.{sessionRecordSize, bigEndianBytes, encodedSession, sessionWrittenOverFrontIfRoom, decodedSession}
+use Rattle.layout.specs.Layout.{sessionRecordSize, bigEndianBytes, encodedSession, sessionWrittenOverFrontIfRoom}
+use Rattle.layout.specs.Layout.{decodedSession}
 use Rattle.layout.proofs.Laws.{decode-encode}
 use Rattle.layout.proofs.Number.{bytes-length, bytes-number}
-use Rattle.cabinet.specs.State.{Cabinet, cabinet, cabinetStateSize, cabinetWrittenOverFront, remainingInCabinetState, reservedInCabinetState}
+use Rattle.cabinet.specs.State.{Cabinet, cabinet, cabinetStateSize, cabinetWrittenOverFront}
+use Rattle.cabinet.specs.State.{remainingInCabinetState, reservedInCabinetState}
 use Rattle.cabinet.specs.State.{cabinetSessionAndAmountsValid, decodedCabinetOfSession, decodedCabinetIfValid}
 use Rattle.cabinet.specs.declared.Amounts.{Amounts}
 use Rattle.cabinet.specs.Inner.{stateWithAmounts}
@@ -32,10 +34,13 @@ behind : (l : List ℕ) → drop 16 (drop sessionRecordSize l) ≡ drop cabinetS
 behind l = drop-drop 16 sessionRecordSize l
 
 -- two amounts put after the record, one after the other
-pub put-both : (l a b : List ℕ) → cabinetStateSize ≤ length l → length a ≡ 8 → putMid (sessionRecordSize + 8) 8 (putMid sessionRecordSize 8 l a) b ≡ take sessionRecordSize l ++ (a ++ (b ++ drop cabinetStateSize l))
+pub put-both : (l a b : List ℕ) → cabinetStateSize ≤ length l → length a ≡ 8
+    → putMid (sessionRecordSize + 8) 8 (putMid sessionRecordSize 8 l a) b ≡ take sessionRecordSize l
+    ++ (a ++ (b ++ drop cabinetStateSize l))
 put-both l a b h m =
     ap (λ (x : List ℕ). putMid (sessionRecordSize + 8) 8 x b) (sym (append-assoc front a rest))
-    ∙ (λ i. take-at (front ++ a) rest (sessionRecordSize + 8) size i ++ (b ++ drop 8 (drop-at (front ++ a) rest (sessionRecordSize + 8) size i)))
+    ∙ (λ i. take-at (front ++ a) rest (sessionRecordSize + 8) size i
+    ++ (b ++ drop 8 (drop-at (front ++ a) rest (sessionRecordSize + 8) size i)))
     ∙ append-assoc front a (b ++ drop 8 rest)
     ∙ ap (λ (x : List ℕ). front ++ (a ++ (b ++ x))) (drop-drop 8 8 (drop sessionRecordSize l) ∙ behind l)
   where
@@ -59,17 +64,20 @@ module _ (s : Session) (z : length (storeBytes s) ≡ storeSize) where
   encoded-size = simp (length-append, bytes-length) (omega arith)
 
   -- the amounts after a record that was written are the state
-  pub amounts-behind : (l : List ℕ) (a : Amounts) → cabinetStateSize ≤ length l → stateWithAmounts a (sessionWrittenOverFrontIfRoom s l) ≡ cabinetWrittenOverFront (cabinet s (a .remaining) (a .reserved)) l
+  pub amounts-behind : (l : List ℕ) (a : Amounts) → cabinetStateSize ≤ length l
+      → stateWithAmounts a (sessionWrittenOverFrontIfRoom s l) ≡ cabinetWrittenOverFront
+      (cabinet s (a .remaining) (a .reserved)) l
   unfolding cabinetWrittenOverFront sessionWrittenOverFrontIfRoom
   amounts-behind l a h =
       ap (stateWithAmounts a) (if-yes _ _ (le-leb sessionRecordSize (length l) (omega arith)))
       ∙ (λ i. take-at (encodedSession s) (drop sessionRecordSize l) sessionRecordSize encoded-size i
-          ++ (bigEndianBytes 8 (a .remaining) ++ (bigEndianBytes 8 (a .reserved) ++ last i)))
+      ++ (bigEndianBytes 8 (a .remaining) ++ (bigEndianBytes 8 (a .reserved) ++ last i)))
     where
       last : drop cabinetStateSize (encodedSession s ++ drop sessionRecordSize l) ≡ drop cabinetStateSize l
       last =
           sym (behind (encodedSession s ++ drop sessionRecordSize l))
-          ∙ ap (drop 16) (drop-at (encodedSession s) (drop sessionRecordSize l) sessionRecordSize encoded-size) ∙ behind l
+          ∙ ap (drop 16) (drop-at (encodedSession s) (drop sessionRecordSize l) sessionRecordSize encoded-size) ∙ behind
+          l
 
 -- ---- read back
 
@@ -92,7 +100,8 @@ module _ (c : Cabinet) (l : List ℕ) (z : length (storeBytes (c .session)) ≡ 
   pub aside-read : reservedInCabinetState (cabinetWrittenOverFront c l) ≡ c .reserved
   unfolding bigEndianBytes
   aside-read =
-      ap (λ (x : List ℕ). bigEndianNumber (take 8 x)) (sym (drop-drop 8 sessionRecordSize (cabinetWrittenOverFront c l)) ∙ ap (drop 8) behind-record)
+      ap (λ (x : List ℕ). bigEndianNumber (take 8 x)) (sym (drop-drop 8 sessionRecordSize (cabinetWrittenOverFront c l))
+      ∙ ap (drop 8) behind-record)
       ∙ bytes-number 7 (c .reserved)
 
   -- the bytes after the state stay, and all keep their number
@@ -109,10 +118,13 @@ module _ (c : Cabinet) (l : List ℕ) (z : length (storeBytes (c .session)) ≡ 
   -- a state over another
   pub state-over : (d : Cabinet) → cabinetWrittenOverFront d (cabinetWrittenOverFront c l) ≡ cabinetWrittenOverFront d l
   unfolding cabinetWrittenOverFront
-  state-over d = ap (λ (x : List ℕ). encodedSession (d .session) ++ (bigEndianBytes 8 (d .remaining) ++ (bigEndianBytes 8 (d .reserved) ++ x))) state-behind
+  state-over d =
+      ap (λ (x : List ℕ). encodedSession (d .session)
+      ++ (bigEndianBytes 8 (d .remaining) ++ (bigEndianBytes 8 (d .reserved) ++ x))) state-behind
 
   -- a cabinet in order is read back
-  pub state-read : cabinetStateSize ≤ length l → cabinetSessionAndAmountsValid c ≡ true → decodedCabinetIfValid (cabinetWrittenOverFront c l) ≡ some c
+  pub state-read : cabinetStateSize ≤ length l → cabinetSessionAndAmountsValid c ≡ true
+      → decodedCabinetIfValid (cabinetWrittenOverFront c l) ≡ some c
   unfolding decodedCabinetIfValid
   state-read h o =
       if-yes _ _ (le-leb cabinetStateSize (length (cabinetWrittenOverFront c l)) (omega (arith, state-length h)))

@@ -16,7 +16,9 @@ use Rattle.session_record.specs.declared.Session.{Session}
 use Rattle.session_record.specs.Session.{storeBytes}
 use Rattle.session_record.specs.Ranges.{sessionRecordInRanges}
 use Rattle.layout.specs.Layout.{decodedSession}
-use Rattle.cabinet.specs.State.{Cabinet, cabinet, greatestTwelveDigitAmount, cabinetStateSize, remainingInCabinetState, reservedInCabinetState, runningSessionAmountOrZero, reservedMatchesSessionAndSumInRange, cabinetSessionAndAmountsValid, decodedCabinetOfSession, decodedCabinetIfValid}
+use Rattle.cabinet.specs.State.{Cabinet, cabinet, greatestTwelveDigitAmount, cabinetStateSize, remainingInCabinetState}
+use Rattle.cabinet.specs.State.{reservedInCabinetState, runningSessionAmountOrZero, reservedMatchesSessionAndSumInRange}
+use Rattle.cabinet.specs.State.{cabinetSessionAndAmountsValid, decodedCabinetOfSession, decodedCabinetIfValid}
 
 pub record Ordered (c : Cabinet) (l : List ℕ) : Type 0 where
   pub enough : cabinetStateSize ≤ length l
@@ -32,21 +34,32 @@ never : {A : Type 0} {c : Cabinet} → _≡_ {A = Option Cabinet} none (some c) 
 never e = let z : _≡_ {A = ℕ} 0 1 = cc in absurd (omega arith)
 
 module _ (c : Cabinet) (l : List ℕ) (h : cabinetStateSize ≤ length l) where
-  by-order : (s : Session) (d : Cabinet) → d .session ≡ s → decodedSession l ≡ some s → cabinetSessionAndAmountsValid d ≡ true → d ≡ c → Held c l
+  by-order : (s : Session) (d : Cabinet) → d .session ≡ s → decodedSession l ≡ some s → cabinetSessionAndAmountsValid d
+      ≡ true → d ≡ c → Held c l
   unfolding reservedMatchesSessionAndSumInRange
   by-order s d p q o e =
       subst (λ (x : Cabinet). Held x l) e
       (record {
-        order = record { enough = h; ranges = both-left _ _ o; due = eqb-true _ _ (both-left _ _ (both-right _ _ o)); sum = leb-true _ _ (both-right _ _ (both-right _ _ o)) };
+        order = record {
+          enough = h;
+          ranges = both-left _ _ o;
+          due = eqb-true _ _ (both-left _ _ (both-right _ _ o));
+          sum = leb-true _ _ (both-right _ _ (both-right _ _ o));
+        };
         session = q ∙ ap some (sym p);
       })
 
   by-record : (x : Option Session) → decodedSession l ≡ x → decodedCabinetOfSession l x ≡ some c → Held c l
   by-record none q f = never f
-  by-record (some s) q f = elim (bool-cases (cabinetSessionAndAmountsValid (cabinet s (remainingInCabinetState l) (reservedInCabinetState l)))) [
-    | inl o ↦ let e : some (cabinet s (remainingInCabinetState l) (reservedInCabinetState l)) ≡ some c = sym (if-yes _ _ o) ∙ f in by-order s (cabinet s (remainingInCabinetState l) (reservedInCabinetState l)) (λ i. s) q o (cc)
-    | inr o ↦ never (sym (if-no _ _ o) ∙ f)
-  ]
+  by-record (some s) q f =
+      elim
+      (bool-cases (cabinetSessionAndAmountsValid (cabinet s (remainingInCabinetState l) (reservedInCabinetState l)))) [
+        | inl o ↦ let e : some (cabinet s (remainingInCabinetState l) (reservedInCabinetState l)) ≡ some c =
+            sym (if-yes _ _ o) ∙ f in by-order s (cabinet s (remainingInCabinetState l) (reservedInCabinetState l))
+            (λ i. s) q o
+            (cc)
+        | inr o ↦ never (sym (if-no _ _ o) ∙ f)
+      ]
 
 pub held-is : (c : Cabinet) (l : List ℕ) → decodedCabinetIfValid l ≡ some c → Held c l
 unfolding decodedCabinetIfValid

@@ -28,16 +28,19 @@ use Rattle.session.specs.Steps.{storeWithFindings, Step, abortStep, linkFailedS
 use Rattle.session.specs.Answer.{answerStep}
 use Rattle.session_record.specs.Session.{isRunning}
 use Rattle.step_laws.proofs.Kept.{read-size, read-fits, read-start, found-other, digits-other}
-use Rattle.step_laws.proofs.Ways.{withoutCommand, Admitted, taken, GpoWay, RecordsWay, MagStripeWay, RecordWay, CryptogramWay, ChecksumWay, AnswerWay, answer-way, BrokenWay, broken-way}
+use Rattle.step_laws.proofs.Ways.{withoutCommand, Admitted, taken, GpoWay, RecordsWay, MagStripeWay, RecordWay}
+use Rattle.step_laws.proofs.Ways.{CryptogramWay, ChecksumWay, AnswerWay, answer-way, BrokenWay, broken-way}
 use Rattle.cabinet.specs.State.{storedAmountAuthorized}
 
 -- ---- what a step leaves
 
 pub record Stays (s : Session) (st : Step) : Type 0 where
   pub value : objectValue (storeBytes (st .reply .session)) 0x9F02 ≡ objectValue (storeBytes s) 0x9F02
-  pub waits : (x : CommandLength) → st .reply .answer ≡ CallResult.Command x → isRunning (st .reply .session .phase) ≡ true
+  pub waits : (x : CommandLength) → st .reply .answer ≡ CallResult.Command x → isRunning (st .reply .session .phase)
+      ≡ true
 
-pub stays-amount : {s : Session} {st : Step} → Stays s st → storedAmountAuthorized (storeBytes (st .reply .session)) ≡ storedAmountAuthorized (storeBytes s)
+pub stays-amount : {s : Session} {st : Step} → Stays s st → storedAmountAuthorized (storeBytes (st .reply .session))
+    ≡ storedAmountAuthorized (storeBytes s)
 stays-amount w = ap (λ (v : StoredValue). amountOf (bytesOrEmptyIfAbsent v)) (w .value)
 
 -- an end hands out no command
@@ -50,7 +53,8 @@ unfolding dictionaryRows
 not-by-card = refl
 
 module _ (s : Session) (setByCard buf : List ℕ) where
-  reads : (a : Awaited) → Admitted s (length buf) → objectValue (storeBytes (taken a s setByCard)) 0x9F02 ≡ objectValue (storeBytes s) 0x9F02
+  reads : (a : Awaited) → Admitted s (length buf) → objectValue (storeBytes (taken a s setByCard)) 0x9F02
+      ≡ objectValue (storeBytes s) 0x9F02
   reads a i = read-start a (storeBytes s) setByCard (store-size s (i .ranges)) 0x9F02 rowAmount at-9F02 not-by-card
 
   stays-gpo : {st : Step} → Admitted s (length buf) → GpoWay (taken Awaited.Gpo s setByCard) buf st → Stays s st
@@ -58,41 +62,53 @@ module _ (s : Session) (setByCard buf : List ℕ) where
   stays-gpo i (GpoWay.first r m a e) = record { value = reads Awaited.Gpo i; waits = λ x q. refl }
 
   finds : (a : Awaited) → Admitted s (length buf) → length (storeBytes (taken a s setByCard)) ≡ storeSize
-      → (let b = storeBytes (taken a s setByCard) in objectValue (storeWithFindings b (findingsOf b)) 0x9F02 ≡ objectValue (storeBytes s) 0x9F02)
+      → (let b = storeBytes (taken a s setByCard) in objectValue (storeWithFindings b (findingsOf b)) 0x9F02
+      ≡ objectValue (storeBytes s) 0x9F02)
   finds a i l =
       let b = storeBytes (taken a s setByCard) in
-      found-other b (findingsOf b) l (found-length b) (bits-length b) 0x9F02 rowAmount at-9F02 (λ z. omega arith) (λ z. omega arith) ∙ reads a i
+      found-other b (findingsOf b) l (found-length b) (bits-length b) 0x9F02 rowAmount at-9F02 (λ z. omega arith)
+      (λ z. omega arith) ∙ reads a i
 
-  stays-records : (k : ℕ) (a : Awaited) {st : Step} → Admitted s (length buf) → length (storeBytes (taken a s setByCard)) ≡ storeSize → RecordsWay k (taken a s setByCard) buf st → Stays s st
+  stays-records : (k : ℕ) (a : Awaited) {st : Step} → Admitted s (length buf)
+      → length (storeBytes (taken a s setByCard)) ≡ storeSize → RecordsWay k (taken a s setByCard) buf st → Stays s st
   stays-records k a i l (RecordsWay.failed m r x) = record { value = reads a i; waits = λ x q. no-command q }
   stays-records k a i l RecordsWay.unlisted = record { value = finds a i l; waits = λ x q. no-command q }
   stays-records k a i l (RecordsWay.asked c f g) = record { value = finds a i l; waits = λ x q. refl }
 
-  stays-mag-stripe : (k : ℕ) (a : Awaited) {st : Step} → Admitted s (length buf) → MagStripeWay k (taken a s setByCard) buf st → Stays s st
+  stays-mag-stripe : (k : ℕ) (a : Awaited) {st : Step} → Admitted s (length buf)
+      → MagStripeWay k (taken a s setByCard) buf st → Stays s st
   stays-mag-stripe k a i (MagStripeWay.failed m r) = record { value = reads a i; waits = λ x q. no-command q }
   stays-mag-stripe k a i (MagStripeWay.asked c f g) = record { value = reads a i; waits = λ x q. refl }
 
-  stays-record : (p : AwaitedRecord) (a : Awaited) {st : Step} → Admitted s (length buf) → length (storeBytes (taken a s setByCard)) ≡ storeSize → RecordWay p (taken a s setByCard) buf st → Stays s st
+  stays-record : (p : AwaitedRecord) (a : Awaited) {st : Step} → Admitted s (length buf)
+      → length (storeBytes (taken a s setByCard)) ≡ storeSize → RecordWay p (taken a s setByCard) buf st → Stays s st
   stays-record p a i l (RecordWay.next r e) = record { value = reads a i; waits = λ x q. refl }
   stays-record p a i l (RecordWay.last e m w) = stays-records (p .limit) a i l w
   stays-record p a i l (RecordWay.striped e m w) = stays-mag-stripe (p .limit) a i w
 
-  stays-cryptogram : (m : ℕ) {q : Reply} → Admitted s (length buf) → CryptogramWay m (taken Awaited.Cryptogram s setByCard) q → Stays s (withoutCommand q buf)
-  stays-cryptogram k i (CryptogramWay.failed m r) = record { value = reads Awaited.Cryptogram i; waits = λ x q. no-command q }
-  stays-cryptogram k i (CryptogramWay.decides o g) = record { value = reads Awaited.Cryptogram i; waits = λ x q. no-command q }
+  stays-cryptogram : (m : ℕ) {q : Reply} → Admitted s (length buf)
+      → CryptogramWay m (taken Awaited.Cryptogram s setByCard) q → Stays s (withoutCommand q buf)
+  stays-cryptogram k i (CryptogramWay.failed m r) =
+      record { value = reads Awaited.Cryptogram i; waits = λ x q. no-command q }
+  stays-cryptogram k i (CryptogramWay.decides o g) =
+      record { value = reads Awaited.Cryptogram i; waits = λ x q. no-command q }
 
-  stays-checksum : {q : Reply} → Admitted s (length buf) → ChecksumWay (taken Awaited.Checksum s setByCard) q → Stays s (withoutCommand q buf)
+  stays-checksum : {q : Reply} → Admitted s (length buf) → ChecksumWay (taken Awaited.Checksum s setByCard) q
+      → Stays s (withoutCommand q buf)
   stays-checksum i ChecksumWay.failed = record { value = reads Awaited.Checksum i; waits = λ x q. no-command q }
   stays-checksum i ChecksumWay.declined = record { value = reads Awaited.Checksum i; waits = λ x q. no-command q }
   stays-checksum i ChecksumWay.online =
-      let w = read-fits Awaited.Checksum (storeBytes s) setByCard (store-size s (i .ranges)) (store-fits s (i .ranges)) in
+      let w = read-fits Awaited.Checksum (storeBytes s) setByCard (store-size s (i .ranges)) (store-fits s (i .ranges))
+      in
       record {
-        value = digits-other (storeBytes (taken Awaited.Checksum s setByCard)) (w .0) (w .1) 0x9F02 rowAmount at-9F02 (λ z. omega arith) ∙ reads Awaited.Checksum i;
+        value = digits-other (storeBytes (taken Awaited.Checksum s setByCard)) (w .0) (w .1) 0x9F02 rowAmount at-9F02
+            (λ z. omega arith) ∙ reads Awaited.Checksum i;
         waits = λ x q. no-command q;
       }
 
   stays-answer : {st : Step} → AnswerWay s setByCard buf st → Stays s st
-  stays-answer (AnswerWay.refused m l) = record { value = refl; waits = λ x q. (let z : _≡_ {A = ℕ} 0 1 = cc in absurd (omega arith)) }
+  stays-answer (AnswerWay.refused m l) =
+      record { value = refl; waits = λ x q. (let z : _≡_ {A = ℕ} 0 1 = cc in absurd (omega arith)) }
   stays-answer (AnswerWay.unread k m i r h x) = record { value = refl; waits = λ x q. no-command q }
   stays-answer (AnswerWay.gpo i q z w) = stays-gpo i w
   stays-answer (AnswerWay.recorded p r i q e w) =
@@ -108,7 +124,8 @@ broken-stays : (s : Session) (n : ℕ) (buf : List ℕ) → Stays s (abortStep s
 broken-stays s n buf = go (broken-way s n buf)
   where
     go : {st : Step} → BrokenWay s n buf st → Stays s st
-    go (BrokenWay.refused m l) = record { value = refl; waits = λ x q. (let z : _≡_ {A = ℕ} 0 1 = cc in absurd (omega arith)) }
+    go (BrokenWay.refused m l) =
+        record { value = refl; waits = λ x q. (let z : _≡_ {A = ℕ} 0 1 = cc in absurd (omega arith)) }
     go (BrokenWay.broken m i h) = record { value = refl; waits = λ x q. no-command q }
 
 pub link-stays : (s : Session) (buf : List ℕ) → Stays s (linkFailedStep s buf)

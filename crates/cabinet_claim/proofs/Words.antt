@@ -14,7 +14,8 @@ use Rattle.session_record.specs.declared.OutcomeParameters.{OutcomeParameters}
 use Rattle.session_record.specs.Numbers.{outcomeNumber}
 use Rattle.layout.specs.Word.{resultWordKind, wordKindRefusal, wordKindOutcome, refusalWord, commandWord, outcomeWord}
 use Rattle.layout.proofs.Laws.{command-below, command-kind, outcome-kind, refusal-kind}
-use Rattle.cabinet_claim.specs.Account.{CabinetCall, CabinetCallMade, Account, account, isRefusedWord, isApprovedWord}
+use Rattle.cabinet_claim.specs.Account.{CabinetCall, CabinetCallMade, Account, account, isRefusedWord}
+use Rattle.cabinet_claim.specs.Account.{isApprovedWord}
 
 -- a call that was made, of its parts, and the account of an opening
 abbrev pub cabinetCallMade : CabinetCall → ℕ → CabinetCallMade
@@ -39,10 +40,12 @@ module _ (n : ℕ) where
   command-told = ne-eqb (resultWordKind (commandWord n)) wordKindRefusal (λ e. omega (arith, command-kind n))
 
   pub command-unapproved : isApprovedWord (commandWord n) ≡ false
-  command-unapproved = both-no-left _ _ (ne-eqb (resultWordKind (commandWord n)) wordKindOutcome (λ e. omega (arith, command-kind n)))
+  command-unapproved = both-no-left _ _ (ne-eqb (resultWordKind (commandWord n)) wordKindOutcome
+      (λ e. omega (arith, command-kind n)))
 
   pub command-other : Other (commandWord n)
-  command-other = ap not (ne-eqb (commandWord n) (refusalWord refusalRecordOutOfRanges) (λ e. omega (arith, command-below n)))
+  command-other =
+      ap not (ne-eqb (commandWord n) (refusalWord refusalRecordOutOfRanges) (λ e. omega (arith, command-below n)))
 
 outcome-most : (o : Outcome) → outcomeNumber o ≤ 4
 outcome-most Outcome.Approved = omega arith
@@ -62,7 +65,10 @@ module _ (e : OutcomeParameters) (h : e .reason < 256) where
   outcome-approved q = both-yes _ _ (eq-eqb _ _ (outcome-kind e h)) (eq-eqb _ _ (outcome-byte ∙ q))
 
   pub outcome-unapproved : (outcomeNumber (e .outcome) ≡ 0 → ⊥) → isApprovedWord (outcomeWord e) ≡ false
-  outcome-unapproved ne = both-no-right _ _ (ne-eqb (outcomeWord e / 256 % 256) 0 (λ q. ne (omega (arith, outcome-byte))))
+  outcome-unapproved ne = both-no-right _ _
+      (ne-eqb (outcomeWord e / 256 % 256) 0 (λ q. ne (omega (arith, outcome-byte))))
 
   pub outcome-other : Other (outcomeWord e)
-  outcome-other = ap not (ne-eqb (outcomeWord e) (refusalWord refusalRecordOutOfRanges) (λ q. let k = outcome-kind e h in let m = ap resultWordKind q in omega arith))
+  outcome-other =
+      ap not (ne-eqb (outcomeWord e) (refusalWord refusalRecordOutOfRanges) (λ q. let k = outcome-kind e h in let m =
+      ap resultWordKind q in omega arith))

@@ -27,10 +27,13 @@ use Rattle.tlv.proofs.Tree.{shorter-behind}
 use Rattle.cabinet_lookup.specs.declared.LookupSpan.{LookupSpan}
 use Rattle.cabinet_lookup.specs.declared.LookupFound.{LookupFound}
 use Rattle.cabinet_lookup.specs.declared.LookupFound.the-variants.{At, Absent}
-use Rattle.cabinet_lookup.specs.Value.{objectsFromFront, leadingPrimitiveObjectsStep, leadingPrimitiveObjects, firstValueOfTag, valueOrDefault, lookupValue}
-use Rattle.cabinet_lookup.specs.Place.{lookupSpan, spanBytes, lookupShifted, lookupAtFront, lookupStep, lookupFirst, spanBySiteOrDefaults, spanInSiteThenDefaults}
+use Rattle.cabinet_lookup.specs.Value.{objectsFromFront, leadingPrimitiveObjectsStep, leadingPrimitiveObjects}
+use Rattle.cabinet_lookup.specs.Value.{firstValueOfTag, valueOrDefault, lookupValue}
+use Rattle.cabinet_lookup.specs.Place.{lookupSpan, spanBytes, lookupShifted, lookupAtFront, lookupStep}
+use Rattle.cabinet_lookup.specs.Place.{lookupFirst, spanBySiteOrDefaults, spanInSiteThenDefaults}
 use Rattle.cabinet_lookup.specs.Address.{addressAfter, addressInSiteOrDefaults}
-use Rattle.cabinet_lookup.specs.Word.{sourceNowhere, sourceSite, sourceDefaults, sourceByValues, lookupSource, lookupWordOfSpan, lookupWord}
+use Rattle.cabinet_lookup.specs.Word.{sourceNowhere, sourceSite, sourceDefaults, sourceByValues, lookupSource}
+use Rattle.cabinet_lookup.specs.Word.{lookupWordOfSpan, lookupWord}
 
 -- ---- the recursions end by themselves
 
@@ -40,7 +43,8 @@ held-same k k′ s same = go (primitiveAtFront s) refl
     go : (x : ObjectFront) → primitiveAtFront s ≡ x → objectsFromFront k s x ≡ objectsFromFront k′ s x
     go front.Broken e = refl
     go (front.Object h) e =
-        ap (λ (os : List Object). tlvObject (h .tag) (headerValue s h) ∷ os) (same (behindObject s h) (shorter-behind (primitive-fits s h e)))
+        ap (λ (os : List Object). tlvObject (h .tag) (headerValue s h) ∷ os)
+        (same (behindObject s h) (shorter-behind (primitive-fits s h e)))
 
 pub held-unroll : (s : List ℕ) → leadingPrimitiveObjects s ≡ leadingPrimitiveObjectsStep leadingPrimitiveObjects s
 unfolding leadingPrimitiveObjects
@@ -52,7 +56,8 @@ place-same tag k k′ s same = go (primitiveAtFront s) refl
     go : (x : ObjectFront) → primitiveAtFront s ≡ x → lookupAtFront tag k s x ≡ lookupAtFront tag k′ s x
     go front.Broken e = refl
     go (front.Object h) e =
-        ap (λ (r : LookupFound). if (eqb (h .tag) tag) (At (lookupSpan (h .start) (h .len))) (lookupShifted (h .start + h .len) r))
+        ap (λ (r : LookupFound). if (eqb (h .tag) tag) (At (lookupSpan (h .start) (h .len)))
+        (lookupShifted (h .start + h .len) r))
         (same (behindObject s h) (shorter-behind (primitive-fits s h e)))
 
 module _ (tag : ℕ) where
@@ -77,17 +82,20 @@ module _ (tag : ℕ) where
       pub at-here : h .tag ≡ tag → lookupFirst tag s ≡ At (lookupSpan (h .start) (h .len))
       at-here t = at-object ∙ if-yes _ _ (eq-eqb (h .tag) tag t)
 
-      pub at-behind : (h .tag ≡ tag → ⊥) → lookupFirst tag s ≡ lookupShifted (h .start + h .len) (lookupFirst tag (behindObject s h))
+      pub at-behind : (h .tag ≡ tag → ⊥) → lookupFirst tag s ≡ lookupShifted (h .start + h .len)
+          (lookupFirst tag (behindObject s h))
       at-behind n = at-object ∙ if-no _ _ (ne-eqb (h .tag) tag n)
 
-      value-object : firstValueOfTag tag (leadingPrimitiveObjects s) ≡ if (eqb (h .tag) tag) (some (headerValue s h)) (firstValueOfTag tag (leadingPrimitiveObjects (behindObject s h)))
+      value-object : firstValueOfTag tag (leadingPrimitiveObjects s) ≡ if (eqb (h .tag) tag) (some (headerValue s h))
+          (firstValueOfTag tag (leadingPrimitiveObjects (behindObject s h)))
       unfolding firstValueOfTag
       value-object = ap (firstValueOfTag tag) (held-unroll s ∙ ap (objectsFromFront leadingPrimitiveObjects s) e)
 
       value-here : h .tag ≡ tag → firstValueOfTag tag (leadingPrimitiveObjects s) ≡ some (headerValue s h)
       value-here t = value-object ∙ if-yes _ _ (eq-eqb (h .tag) tag t)
 
-      value-behind : (h .tag ≡ tag → ⊥) → firstValueOfTag tag (leadingPrimitiveObjects s) ≡ firstValueOfTag tag (leadingPrimitiveObjects (behindObject s h))
+      value-behind : (h .tag ≡ tag → ⊥) → firstValueOfTag tag (leadingPrimitiveObjects s) ≡ firstValueOfTag tag
+          (leadingPrimitiveObjects (behindObject s h))
       value-behind n = value-object ∙ if-no _ _ (ne-eqb (h .tag) tag n)
 
 -- ---- a place has the value of the first object
@@ -97,7 +105,8 @@ abbrev pub Stands : List ℕ → LookupFound → Option (List ℕ) → Type 0
 Stands s Absent v = v ≡ none
 Stands s (At p) v = (p .start + p .len ≤ length s) × (v ≡ some (spanBytes s p))
 
-stands-behind : (s : List ℕ) (n : ℕ) (r : LookupFound) (v : Option (List ℕ)) → n ≤ length s → Stands (drop n s) r v → Stands s (lookupShifted n r) v
+stands-behind : (s : List ℕ) (n : ℕ) (r : LookupFound) (v : Option (List ℕ)) → n ≤ length s → Stands (drop n s) r v
+    → Stands s (lookupShifted n r) v
 unfolding lookupShifted
 stands-behind s n Absent v h w = w
 stands-behind s n (At p) v h w = (
@@ -108,11 +117,14 @@ stands-behind s n (At p) v h w = (
 pub stands : (tag : ℕ) (s : List ℕ) → Stands s (lookupFirst tag s) (firstValueOfTag tag (leadingPrimitiveObjects s))
 stands tag = shorter-first (λ s. Stands s (lookupFirst tag s) (firstValueOfTag tag (leadingPrimitiveObjects s))) step
   where
-    step : (s : List ℕ) → ((v : List ℕ) → length v < length s → Stands v (lookupFirst tag v) (firstValueOfTag tag (leadingPrimitiveObjects v)))
+    step : (s : List ℕ)
+        → ((v : List ℕ) → length v < length s
+        → Stands v (lookupFirst tag v) (firstValueOfTag tag (leadingPrimitiveObjects v)))
         → Stands s (lookupFirst tag s) (firstValueOfTag tag (leadingPrimitiveObjects s))
     step s ih = go (primitiveAtFront s) refl
       where
-        go : (x : ObjectFront) → primitiveAtFront s ≡ x → Stands s (lookupFirst tag s) (firstValueOfTag tag (leadingPrimitiveObjects s))
+        go : (x : ObjectFront) → primitiveAtFront s ≡ x
+            → Stands s (lookupFirst tag s) (firstValueOfTag tag (leadingPrimitiveObjects s))
         go front.Broken e = rw (at-broken tag s e) (value-broken tag s e)
         go (front.Object h) e =
             let f = primitive-fits s h e in
@@ -135,19 +147,24 @@ module _ (site defaults : List ℕ) where
   value-both Absent Absent v w f g = rw (f, g)
 
   inside-both : (x y : LookupFound) (v w : Option (List ℕ)) → Stands site x v → Stands defaults y w
-      → spanBySiteOrDefaults (length site) x y .start + spanBySiteOrDefaults (length site) x y .len ≤ length site + length defaults
+      → spanBySiteOrDefaults (length site) x y .start + spanBySiteOrDefaults (length site) x y .len ≤ length site
+      + length defaults
   unfolding spanBySiteOrDefaults
   inside-both (At p) y v w f g = omega arith
   inside-both Absent (At p) v w f g = omega arith
   inside-both Absent Absent v w f g = omega arith
 
   -- the bytes at the place are the value
-  pub value-at : (tag : ℕ) → spanBytes (site ++ defaults) (spanInSiteThenDefaults tag site defaults) ≡ lookupValue tag site defaults
-  value-at tag = value-both (lookupFirst tag site) (lookupFirst tag defaults) _ _ (stands tag site) (stands tag defaults)
+  pub value-at : (tag : ℕ) → spanBytes (site ++ defaults) (spanInSiteThenDefaults tag site defaults) ≡ lookupValue tag
+      site defaults
+  value-at tag = value-both (lookupFirst tag site) (lookupFirst tag defaults) _ _ (stands tag site)
+      (stands tag defaults)
 
   -- the place lies inside both lists
-  pub place-inside : (tag : ℕ) (p : LookupSpan) → p ≡ spanInSiteThenDefaults tag site defaults → p .start + p .len ≤ length site + length defaults
-  place-inside tag p e = rw e (inside-both (lookupFirst tag site) (lookupFirst tag defaults) _ _ (stands tag site) (stands tag defaults))
+  pub place-inside : (tag : ℕ) (p : LookupSpan) → p ≡ spanInSiteThenDefaults tag site defaults
+      → p .start + p .len ≤ length site + length defaults
+  place-inside tag p e = rw e (inside-both (lookupFirst tag site) (lookupFirst tag defaults) _ _ (stands tag site)
+      (stands tag defaults))
 
 -- ---- by what is found in each list
 
@@ -158,7 +175,8 @@ found-inside tag s p e = (rw e at (stands tag s)) .0
 module _ (tag : ℕ) (site defaults : List ℕ) where
   -- these bytes are the value, and they are those at the place
   abbrev pub Handed : List ℕ → Type 0
-  Handed v = (v ≡ lookupValue tag site defaults) × (v ≡ spanBytes (site ++ defaults) (spanInSiteThenDefaults tag site defaults))
+  Handed v = (v ≡ lookupValue tag site defaults)
+      × (v ≡ spanBytes (site ++ defaults) (spanInSiteThenDefaults tag site defaults))
 
   handed : (v : List ℕ) → v ≡ lookupValue tag site defaults → Handed v
   handed v e = (e, e ∙ sym (value-at site defaults tag))
@@ -171,15 +189,22 @@ module _ (tag : ℕ) (site defaults : List ℕ) where
     pub site-part : Handed (contents site (p .start) (p .len))
     unfolding valueOrDefault
     site-part =
-        let v : firstValueOfTag tag (leadingPrimitiveObjects site) ≡ some (spanBytes site p) = (rw e at (stands tag site)) .1 in
-        handed _ (contents-is site (p .start) (p .len) ∙ sym (ap (λ (x : Option (List ℕ)). valueOrDefault x (valueOrDefault (firstValueOfTag tag (leadingPrimitiveObjects defaults)) [])) v))
+        let v : firstValueOfTag tag (leadingPrimitiveObjects site) ≡ some (spanBytes site p) =
+        (rw e at (stands tag site)) .1 in
+        handed _
+        (contents-is site (p .start) (p .len) ∙ sym
+        (ap
+        (λ (x : Option (List ℕ)). valueOrDefault x
+        (valueOrDefault (firstValueOfTag tag (leadingPrimitiveObjects defaults)) [])) v))
 
   module _ (n : lookupFirst tag site ≡ Absent) where
     nothing : lookupValue tag site defaults ≡ valueOrDefault (firstValueOfTag tag (leadingPrimitiveObjects defaults)) []
     unfolding valueOrDefault
     nothing =
         let v : firstValueOfTag tag (leadingPrimitiveObjects site) ≡ none = rw n at (stands tag site) in
-        ap (λ (x : Option (List ℕ)). valueOrDefault x (valueOrDefault (firstValueOfTag tag (leadingPrimitiveObjects defaults)) [])) v
+        ap
+        (λ (x : Option (List ℕ)). valueOrDefault x
+        (valueOrDefault (firstValueOfTag tag (leadingPrimitiveObjects defaults)) [])) v
 
     module _ (p : LookupSpan) (e : lookupFirst tag defaults ≡ At p) where
       pub default-place : spanInSiteThenDefaults tag site defaults ≡ lookupSpan (length site + p .start) (p .len)
@@ -189,8 +214,11 @@ module _ (tag : ℕ) (site defaults : List ℕ) where
       pub default-part : Handed (contents defaults (p .start) (p .len))
       unfolding valueOrDefault
       default-part =
-          let v : firstValueOfTag tag (leadingPrimitiveObjects defaults) ≡ some (spanBytes defaults p) = (rw e at (stands tag defaults)) .1 in
-          handed _ (contents-is defaults (p .start) (p .len) ∙ sym (nothing ∙ ap (λ (x : Option (List ℕ)). valueOrDefault x []) v))
+          let v : firstValueOfTag tag (leadingPrimitiveObjects defaults) ≡ some (spanBytes defaults p) =
+          (rw e at (stands tag defaults)) .1 in
+          handed _
+          (contents-is defaults (p .start) (p .len) ∙ sym (nothing ∙ ap (λ (x : Option (List ℕ)). valueOrDefault x [])
+          v))
 
     module _ (e : lookupFirst tag defaults ≡ Absent) where
       pub no-place : spanInSiteThenDefaults tag site defaults ≡ lookupSpan (length site) 0
@@ -277,7 +305,8 @@ module _ (tag : ℕ) (bytes : List ℕ) where
 -- ---- the source of the value, by what is found in each list
 
 module _ (tag : ℕ) (site defaults : List ℕ) where
-  source-by : (v w : Option (List ℕ)) → firstValueOfTag tag (leadingPrimitiveObjects site) ≡ v → firstValueOfTag tag (leadingPrimitiveObjects defaults) ≡ w
+  source-by : (v w : Option (List ℕ)) → firstValueOfTag tag (leadingPrimitiveObjects site) ≡ v
+      → firstValueOfTag tag (leadingPrimitiveObjects defaults) ≡ w
       → lookupSource tag site defaults ≡ sourceByValues v w
   source-by v w e f = ap₂ sourceByValues e f
 
@@ -286,7 +315,8 @@ module _ (tag : ℕ) (site defaults : List ℕ) where
   source-site p e = source-by _ _ ((rw e at (stands tag site)) .1) refl
 
   module _ (n : lookupFirst tag site ≡ Absent) where
-    pub source-default : (p : LookupSpan) → lookupFirst tag defaults ≡ At p → lookupSource tag site defaults ≡ sourceDefaults
+    pub source-default : (p : LookupSpan) → lookupFirst tag defaults ≡ At p → lookupSource tag site defaults
+        ≡ sourceDefaults
     unfolding sourceByValues
     source-default p e = source-by _ _ (rw n at (stands tag site)) ((rw e at (stands tag defaults)) .1)
 
@@ -313,10 +343,12 @@ module _ (tag : ℕ) (site defaults : List ℕ) where
   word-long h = if-yes _ _ (le-leb 0x100000000 (length site + length defaults) h)
 
   module _ (short : length site + length defaults < 0x100000000) where
-    pub word-is : (k : ℕ) (p : LookupSpan) → lookupSource tag site defaults ≡ k → spanInSiteThenDefaults tag site defaults ≡ p
+    pub word-is : (k : ℕ) (p : LookupSpan) → lookupSource tag site defaults ≡ k
+        → spanInSiteThenDefaults tag site defaults ≡ p
         → lookupWordOfSpan k p ≡ lookupWord tag site defaults
     unfolding lookupWord
-    word-is k p f e = sym (if-no _ _ (lt-leb 0x100000000 (length site + length defaults) short) ∙ ap₂ lookupWordOfSpan f e)
+    word-is k p f e = sym (if-no _ _ (lt-leb 0x100000000 (length site + length defaults) short) ∙ ap₂ lookupWordOfSpan f
+        e)
 
     -- the word of a place is never all ones
     pub word-below : lookupWord tag site defaults < 0xFFFFFFFFFFFFFFFF
@@ -324,12 +356,14 @@ module _ (tag : ℕ) (site defaults : List ℕ) where
         let i = place-inside site defaults tag _ refl in
         rw (← (word-is _ _ refl refl)) (word-fits _ _ _ (source-few _ _) (omega arith))
 
-    pub word-site : (p : LookupSpan) → lookupFirst tag site ≡ At p → lookupWordOfSpan sourceSite p ≡ lookupWord tag site defaults
+    pub word-site : (p : LookupSpan) → lookupFirst tag site ≡ At p → lookupWordOfSpan sourceSite p ≡ lookupWord tag site
+        defaults
     word-site p e = word-is sourceSite p (source-site tag site defaults p e) (site-place tag site defaults p e)
 
     module _ (n : lookupFirst tag site ≡ Absent) where
       pub word-default : (p : LookupSpan) → lookupFirst tag defaults ≡ At p
-          → lookupWordOfSpan sourceDefaults (lookupSpan (length site + p .start) (p .len)) ≡ lookupWord tag site defaults
+          → lookupWordOfSpan sourceDefaults (lookupSpan (length site + p .start) (p .len)) ≡ lookupWord tag site
+          defaults
       word-default p e =
           word-is sourceDefaults _ (source-default tag site defaults n p e) (default-place tag site defaults n p e)
 

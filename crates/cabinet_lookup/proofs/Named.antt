@@ -16,7 +16,8 @@ use Rattle.cabinet_lookup.specs.declared.LookupSpan.{LookupSpan}
 use Rattle.cabinet_lookup.specs.declared.LookupFound.{LookupFound}
 use Rattle.cabinet_lookup.specs.declared.LookupFound.the-variants.{At, Absent}
 use Rattle.cabinet_lookup.specs.Value.{leadingPrimitiveObjects, firstValueOfTag, lookupValue}
-use Rattle.cabinet_lookup.specs.Place.{lookupSpan, spanBytes, lookupFirst, spanBySiteOrDefaults, spanInSiteThenDefaults}
+use Rattle.cabinet_lookup.specs.Place.{lookupSpan, spanBytes, lookupFirst, spanBySiteOrDefaults}
+use Rattle.cabinet_lookup.specs.Place.{spanInSiteThenDefaults}
 use Rattle.cabinet_lookup.specs.Address.{addressAfter, addressInSiteOrDefaults, addressOfValue}
 use Rattle.cabinet_lookup.specs.Word.{sourceSite, sourceByValues, lookupSource, lookupWordOfSpan, lookupWord}
 use Rattle.cabinet_lookup.specs.Word.{lookupWordStart, lookupWordSource, lookupWordLength}
@@ -64,7 +65,8 @@ addressBy n s d k a = if (eqb k sourceSite) (addressAfter a s) (addressAfter (a 
 
 module _ (site defaults : List ℕ) (s d : ℕ × ℕ) where
   address-both : (x y : LookupFound) (v w : Option (List ℕ)) → Stands site x v → Stands defaults y w
-      → addressInSiteOrDefaults s d x y ≡ addressBy (length site) s d (sourceByValues v w) (spanBySiteOrDefaults (length site) x y .start)
+      → addressInSiteOrDefaults s d x y ≡ addressBy (length site) s d (sourceByValues v w)
+      (spanBySiteOrDefaults (length site) x y .start)
   unfolding addressInSiteOrDefaults spanBySiteOrDefaults sourceByValues if
   address-both (At p) y v w f g = rw (f .1)
   address-both Absent (At p) v w f g =
@@ -92,7 +94,8 @@ module _ (tag : ℕ) (site defaults part : RefT (List ℕ)) (b : Bytes (site .no
       let start = word-start tag (site .now) (defaults .now) b d short in
       let source = word-source tag (site .now) (defaults .now) b d short in
       let len = word-length tag (site .now) (defaults .now) b d short in
-      let i = place-inside (site .now) (defaults .now) tag (spanInSiteThenDefaults tag (site .now) (defaults .now)) refl in
+      let i = place-inside (site .now) (defaults .now) tag (spanInSiteThenDefaults tag (site .now) (defaults .now)) refl
+      in
       let l = length-append (site .now) (defaults .now) in
       record {
         source = source;
@@ -102,7 +105,8 @@ module _ (tag : ℕ) (site defaults part : RefT (List ℕ)) (b : Bytes (site .no
             ∙ sym (ap₂ (addressBy (length (site .now)) (site .ptr) (defaults .ptr)) source start);
         len =
             ap length (h .1)
-            ∙ part-length (site .now ++ defaults .now) (spanInSiteThenDefaults tag (site .now) (defaults .now)) (omega arith)
+            ∙ part-length (site .now ++ defaults .now) (spanInSiteThenDefaults tag (site .now) (defaults .now))
+            (omega arith)
             ∙ sym len;
         bytes = h .1 ∙ sym (ap₂ (λ (m n : ℕ). spanBytes (site .now ++ defaults .now) (lookupSpan m n)) start len);
       }

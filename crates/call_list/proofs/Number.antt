@@ -9,12 +9,14 @@ use lib.ListN.{length, getD, take, drop, length-append, length-drop, take-append
 use Rattle.basics.specs.Number.{appendBigEndianBytes, bigEndianNumber}
 use Rattle.call_list.specs.Encoding.{bigEndianBytes}
 
-number-append : (n : ℕ) (s t : List ℕ) → appendBigEndianBytes n (s ++ t) ≡ appendBigEndianBytes (appendBigEndianBytes n s) t
+number-append : (n : ℕ) (s t : List ℕ) → appendBigEndianBytes n (s ++ t) ≡ appendBigEndianBytes
+    (appendBigEndianBytes n s) t
 unfolding appendBigEndianBytes
 number-append n [] t = refl
 number-append n (a ∷ s) t = number-append (n * 256 + a) s t
 
-pub four-from : (n : ℕ) (s : List ℕ) → length s ≡ 4 → appendBigEndianBytes n s ≡ (((n * 256 + getD s 0 0) * 256 + getD s 1 0) * 256 + getD s 2 0) * 256 + getD s 3 0
+pub four-from : (n : ℕ) (s : List ℕ) → length s ≡ 4
+    → appendBigEndianBytes n s ≡ (((n * 256 + getD s 0 0) * 256 + getD s 1 0) * 256 + getD s 2 0) * 256 + getD s 3 0
 unfolding appendBigEndianBytes
 four-from n [] h = absurd (omega arith)
 four-from n (a ∷ []) h = absurd (omega arith)
@@ -23,7 +25,8 @@ four-from n (a ∷ b ∷ c ∷ []) h = absurd (omega arith)
 four-from n (a ∷ b ∷ c ∷ d ∷ []) h = refl
 four-from n (a ∷ b ∷ c ∷ d ∷ e ∷ s) h = absurd (omega arith)
 
-pub eight-number : (s : List ℕ) → length s ≡ 8 → bigEndianNumber s ≡ bigEndianNumber (take 4 s) * 4294967296 + bigEndianNumber (drop 4 s)
+pub eight-number : (s : List ℕ) → length s ≡ 8 → bigEndianNumber s ≡ bigEndianNumber (take 4 s) * 4294967296
+    + bigEndianNumber (drop 4 s)
 eight-number s h =
     let l : length (drop 4 s) ≡ 4 = length-drop 4 s ∙ omega arith in
     ap bigEndianNumber (sym (take-append-drop 4 s)) ∙ number-append 0 (take 4 s) (drop 4 s)

@@ -19,7 +19,8 @@ use Rattle.call_list.specs.declared.PlayResult.{PlayResult}
 use Rattle.call_list.specs.declared.ListPlayed.{ListPlayed}
 use Rattle.call_list.specs.Encoding.{parsedCalls}
 use Rattle.call_list.specs.Inner.{callsCountedIn}
-use Rattle.call_list.specs.Playing.{replySize, replyBytesOfCalls, callBytesAfterPlay, callsIfRoomForReplies, playResultOf, PlaysCalls, PlaysListInPublishedOrder}
+use Rattle.call_list.specs.Playing.{replySize, replyBytesOfCalls, callBytesAfterPlay, callsIfRoomForReplies}
+use Rattle.call_list.specs.Playing.{playResultOf, PlaysCalls, PlaysListInPublishedOrder}
 use Rattle.call_list.specs.Inner.{CallsWithRoomForReplies, callsOrEmpty}
 
 -- ---- what counting reports
@@ -28,25 +29,31 @@ pub counted-none : (x : Option (List Call)) → callsCountedIn x ≡ CallsCounte
 counted-none none e = refl
 counted-none (some cs) e = let z : _≡_ {A = ℕ} 0 1 = cc in absurd (omega arith)
 
-pub counted-some : (x : Option (List Call)) (n : ℕ) → callsCountedIn x ≡ CallsCounted.Calls n → (x ≡ some (callsOrEmpty x)) × (length (callsOrEmpty x) ≡ n)
+pub counted-some : (x : Option (List Call)) (n : ℕ) → callsCountedIn x ≡ CallsCounted.Calls n
+    → (x ≡ some (callsOrEmpty x)) × (length (callsOrEmpty x) ≡ n)
 counted-some none n e = let z : _≡_ {A = ℕ} 0 1 = cc in absurd (omega arith)
 counted-some (some cs) n e = (refl, cc)
 
-pub ready : (x : Option (List Call)) (r : List ℕ) → x ≡ some (callsOrEmpty x) → replySize * length (callsOrEmpty x) ≤ length r → CallsWithRoomForReplies x r
+pub ready : (x : Option (List Call)) (r : List ℕ) → x ≡ some (callsOrEmpty x) → replySize * length (callsOrEmpty x)
+    ≤ length r → CallsWithRoomForReplies x r
 ready none r e h = let z : _≡_ {A = ℕ} 0 1 = cc in absurd (omega arith)
 ready (some cs) r e h = h
 
-pub ready-read : (x : Option (List Call)) (r : List ℕ) → CallsWithRoomForReplies x r → (x ≡ some (callsOrEmpty x)) × (replySize * length (callsOrEmpty x) ≤ length r)
+pub ready-read : (x : Option (List Call)) (r : List ℕ) → CallsWithRoomForReplies x r
+    → (x ≡ some (callsOrEmpty x)) × (replySize * length (callsOrEmpty x) ≤ length r)
 ready-read none r h = absurd h
 ready-read (some cs) r h = (refl, h)
 
 -- ---- the result
 
 module _ (c r : List ℕ) where
-  claimed : (s : Session) (cs : List Call) → s ≡ finalSession freshSession cs → CallsAndSessionAfterInPublishedOrder (playCalls freshSession cs) s
-  claimed s cs e = subst (CallsAndSessionAfterInPublishedOrder (playCalls freshSession cs)) (sym e) (always freshSession cs refl fresh-keeps)
+  claimed : (s : Session) (cs : List Call) → s ≡ finalSession freshSession cs
+      → CallsAndSessionAfterInPublishedOrder (playCalls freshSession cs) s
+  claimed s cs e = subst (CallsAndSessionAfterInPublishedOrder (playCalls freshSession cs)) (sym e)
+      (always freshSession cs refl fresh-keeps)
 
-  nothing : (x : ListPlayed) (w : PlayResult) → x ≡ record { session = freshSession; said = w } → playResultOf (parsedCalls c) r ≡ w → PlaysListInPublishedOrder x c r c r []
+  nothing : (x : ListPlayed) (w : PlayResult) → x ≡ record { session = freshSession; said = w }
+      → playResultOf (parsedCalls c) r ≡ w → PlaysListInPublishedOrder x c r c r []
   unfolding playCalls finalSession callBytesAfterPlay replyBytesOfCalls
   nothing x w e q =
       record {
@@ -55,20 +62,32 @@ module _ (c r : List ℕ) where
         claim = claimed (x .session) [] (ap (λ (y : ListPlayed). y .session) e);
       }
 
-  pub runs-none : (x : ListPlayed) → x ≡ record { session = freshSession; said = PlayResult.Malformed } → parsedCalls c ≡ none → PlaysListInPublishedOrder x c r c r (callsIfRoomForReplies (parsedCalls c) r)
+  pub runs-none : (x : ListPlayed) → x ≡ record { session = freshSession; said = PlayResult.Malformed }
+      → parsedCalls c ≡ none → PlaysListInPublishedOrder x c r c r (callsIfRoomForReplies (parsedCalls c) r)
   runs-none x e q =
-      subst (PlaysListInPublishedOrder x c r c r) (sym (ap (λ (y : Option (List Call)). callsIfRoomForReplies y r) q)) (nothing x PlayResult.Malformed e (ap (λ (y : Option (List Call)). playResultOf y r) q))
+      subst (PlaysListInPublishedOrder x c r c r) (sym (ap (λ (y : Option (List Call)). callsIfRoomForReplies y r) q))
+      (nothing x PlayResult.Malformed e (ap (λ (y : Option (List Call)). playResultOf y r) q))
 
   module _ (cs : List Call) (q : parsedCalls c ≡ some cs) where
-    pub runs-short : (x : ListPlayed) → x ≡ record { session = freshSession; said = PlayResult.TooShort } → length r < replySize * length cs → PlaysListInPublishedOrder x c r c r (callsIfRoomForReplies (parsedCalls c) r)
+    pub runs-short : (x : ListPlayed) → x ≡ record { session = freshSession; said = PlayResult.TooShort }
+        → length r < replySize * length cs
+        → PlaysListInPublishedOrder x c r c r (callsIfRoomForReplies (parsedCalls c) r)
     runs-short x e h =
         let f = lt-leb (replySize * length cs) (length r) h in
-        subst (PlaysListInPublishedOrder x c r c r) (sym (ap (λ (y : Option (List Call)). callsIfRoomForReplies y r) q ∙ if-no _ _ f))
+        subst (PlaysListInPublishedOrder x c r c r)
+        (sym (ap (λ (y : Option (List Call)). callsIfRoomForReplies y r) q ∙ if-no _ _ f))
         (nothing x PlayResult.TooShort e (ap (λ (y : Option (List Call)). playResultOf y r) q ∙ if-no _ _ f))
 
     pub runs-played : (s : Session) (c′ r′ : List ℕ) → replySize * length cs ≤ length r → PlaysCalls s c′ r′ c r cs
-        → PlaysListInPublishedOrder (record { session = s; said = PlayResult.Played }) c′ r′ c r (callsIfRoomForReplies (parsedCalls c) r)
+        → PlaysListInPublishedOrder (record { session = s; said = PlayResult.Played }) c′ r′ c r
+        (callsIfRoomForReplies (parsedCalls c) r)
     runs-played s c′ r′ h p =
         let f = le-leb (replySize * length cs) (length r) h in
-        subst (PlaysListInPublishedOrder (record { session = s; said = PlayResult.Played }) c′ r′ c r) (sym (ap (λ (y : Option (List Call)). callsIfRoomForReplies y r) q ∙ if-yes _ _ f))
-        (record { said = sym (ap (λ (y : Option (List Call)). playResultOf y r) q ∙ if-yes _ _ f); played = p; claim = claimed s cs (p .session) })
+        subst (PlaysListInPublishedOrder (record { session = s; said = PlayResult.Played }) c′ r′ c r)
+        (sym (ap (λ (y : Option (List Call)). callsIfRoomForReplies y r) q ∙ if-yes _ _ f))
+        (record {
+          said = sym (ap (λ (y : Option (List Call)). playResultOf y r) q ∙ if-yes _ _ f);
+          played = p;
+          claim =
+              claimed s cs (p .session);
+        })

@@ -18,7 +18,9 @@ use Rattle.tlv.proofs.Laws.{Bytes}
 use Rattle.dictionary.specs.Rows.{dictionaryRows}
 use Rattle.store.specs.Place.{absent, bytesOrEmptyIfAbsent, objectValue}
 use Rattle.dol.specs.Filling.{dolFilled}
-use Rattle.command.specs.WithList.{proprietaryCommand, commandIfDataIs1To255Bytes, generateAc, computeCryptographicChecksum, gpoDataTagAndLength, gpoDataOfFilledPdol, gpoCommandOfFilled, getProcessingOptions}
+use Rattle.command.specs.WithList.{proprietaryCommand, commandIfDataIs1To255Bytes, generateAc}
+use Rattle.command.specs.WithList.{computeCryptographicChecksum, gpoDataTagAndLength, gpoDataOfFilledPdol}
+use Rattle.command.specs.WithList.{gpoCommandOfFilled, getProcessingOptions}
 use Rattle.dol.proofs.Filling.{filled-nothing}
 use Rattle.dol.proofs.Bytes.{bytes-nil, bytes-cons, bytes-append, filled-bytes}
 use Rattle.command.proofs.Parts.{head-short, head-long, head-length}
@@ -34,7 +36,8 @@ pub record Carried (ins p1 p2 : ℕ) (body : List ℕ → List ℕ) (x : Option 
   pub few : length bytes ≤ 255
   pub fits : length (body bytes) ≤ 255
 
-gpo-carried : (x : Option (List ℕ)) (c : List ℕ) → gpoCommandOfFilled x ≡ some c → Carried 0xA8 0 0 gpoDataOfFilledPdol x c
+gpo-carried : (x : Option (List ℕ)) (c : List ℕ) → gpoCommandOfFilled x ≡ some c
+    → Carried 0xA8 0 0 gpoDataOfFilledPdol x c
 unfolding gpoCommandOfFilled
 gpo-carried none c p = no-command c p
 gpo-carried (some v) c p = elim (bool-cases (leb (length v) 252)) [
@@ -42,11 +45,19 @@ gpo-carried (some v) c p = elim (bool-cases (leb (length v) 252)) [
       let h = leb-true (length v) 252 t in
       let i : some (proprietaryCommand 0xA8 0 0 (gpoDataOfFilledPdol v)) ≡ some c = sym (if-yes _ _ t) ∙ p in
       let k = head-length (length v) (omega arith) in
-      record { bytes = v; is = refl; sent = cc; few = omega arith; fits = omega (arith, length-append (gpoDataTagAndLength (length v)) v) }
+      record {
+        bytes = v;
+        is = refl;
+        sent = cc;
+        few = omega arith;
+        fits =
+            omega (arith, length-append (gpoDataTagAndLength (length v)) v);
+      }
   | inr t ↦ no-command c (sym (if-no _ _ t) ∙ p)
 ]
 
-dol-carried : (ins p1 p2 : ℕ) (x : Option (List ℕ)) (c : List ℕ) → commandIfDataIs1To255Bytes (proprietaryCommand ins p1 p2) x ≡ some c → Carried ins p1 p2 (λ v. v) x c
+dol-carried : (ins p1 p2 : ℕ) (x : Option (List ℕ)) (c : List ℕ)
+    → commandIfDataIs1To255Bytes (proprietaryCommand ins p1 p2) x ≡ some c → Carried ins p1 p2 (λ v. v) x c
 unfolding commandIfDataIs1To255Bytes
 dol-carried ins p1 p2 none c p = no-command c p
 dol-carried ins p1 p2 (some v) c p = elim (bool-cases (both (leb 1 (length v)) (leb (length v) 255))) [
@@ -63,10 +74,12 @@ pub record Proper (ins : ℕ) (c : List ℕ) : Type 0 where
   pub least : 5 ≤ length c
   pub most : length c ≤ 261
 
-carried-proper : (ins p1 p2 : ℕ) (body : List ℕ → List ℕ) (x : Option (List ℕ)) (c : List ℕ) → Carried ins p1 p2 body x c → Proper ins c
+carried-proper : (ins p1 p2 : ℕ) (body : List ℕ → List ℕ) (x : Option (List ℕ)) (c : List ℕ)
+    → Carried ins p1 p2 body x c → Proper ins c
 carried-proper ins p1 p2 body x c d =
     let f = d .fits in
-    let l : length (proprietaryCommand ins p1 p2 (body (d .bytes))) ≡ length (body (d .bytes)) + 6 = simp length-append (omega arith) in
+    let l : length (proprietaryCommand ins p1 p2 (body (d .bytes))) ≡ length (body (d .bytes)) + 6 = simp length-append
+    (omega arith) in
     let e = ap length (d .sent) in
     record { starts = ap (take 2) (d .sent); least = omega arith; most = omega arith }
 
@@ -74,21 +87,26 @@ head-bytes : (n : ℕ) → n < 256 → Bytes (gpoDataTagAndLength n)
 head-bytes n h =
     let one = bytes-cons n [] h bytes-nil in
     elim (le-or-gt 128 n) [
-      | inl k ↦ subst⁻¹ Bytes (head-long n k h) (bytes-cons 0x83 (0x81 ∷ n ∷ []) (omega arith) (bytes-cons 0x81 (n ∷ []) (omega arith) one))
+      | inl k ↦ subst⁻¹ Bytes (head-long n k h)
+          (bytes-cons 0x83 (0x81 ∷ n ∷ []) (omega arith) (bytes-cons 0x81 (n ∷ []) (omega arith) one))
       | inr k ↦ subst⁻¹ Bytes (head-short n k) (bytes-cons 0x83 (n ∷ []) (omega arith) one)
     ]
 
-command-bytes : (ins p1 p2 : ℕ) (w : List ℕ) → ins < 256 → p1 < 256 → p2 < 256 → length w < 256 → Bytes w → Bytes (proprietaryCommand ins p1 p2 w)
+command-bytes : (ins p1 p2 : ℕ) (w : List ℕ) → ins < 256 → p1 < 256 → p2 < 256 → length w < 256 → Bytes w
+    → Bytes (proprietaryCommand ins p1 p2 w)
 command-bytes ins p1 p2 w h k m l b zero = omega arith
 command-bytes ins p1 p2 w h k m l b (suc zero) = h
 command-bytes ins p1 p2 w h k m l b (suc (suc zero)) = k
 command-bytes ins p1 p2 w h k m l b (suc (suc (suc zero))) = m
 command-bytes ins p1 p2 w h k m l b (suc (suc (suc (suc zero)))) = l
-command-bytes ins p1 p2 w h k m l b (suc (suc (suc (suc (suc i))))) = bytes-append w (0 ∷ []) b (bytes-cons 0 [] (omega arith) bytes-nil) i
+command-bytes ins p1 p2 w h k m l b (suc (suc (suc (suc (suc i))))) = bytes-append w (0 ∷ []) b
+    (bytes-cons 0 [] (omega arith) bytes-nil) i
 
-carried-bytes : (ins p1 p2 : ℕ) (body : List ℕ → List ℕ) (x : Option (List ℕ)) (c : List ℕ) (d : Carried ins p1 p2 body x c)
+carried-bytes : (ins p1 p2 : ℕ) (body : List ℕ → List ℕ) (x : Option (List ℕ)) (c : List ℕ)
+    (d : Carried ins p1 p2 body x c)
     → ins < 256 → p1 < 256 → p2 < 256 → Bytes (body (d .bytes)) → Bytes c
-carried-bytes ins p1 p2 body x c d h k m b = subst⁻¹ Bytes (d .sent) (command-bytes ins p1 p2 (body (d .bytes)) h k m (omega (arith, d .fits)) b)
+carried-bytes ins p1 p2 body x c d h k m b = subst⁻¹ Bytes (d .sent)
+    (command-bytes ins p1 p2 (body (d .bytes)) h k m (omega (arith, d .fits)) b)
 
 module _ (store c : List ℕ) where
   pub gpo-proper : getProcessingOptions store ≡ some c → Proper 0xA8 c
@@ -109,28 +127,34 @@ module _ (store c : List ℕ) where
   gpo-bytes b p =
       let d = gpo-carried _ c p in
       let h = head-bytes (length (d .bytes)) (omega (arith, d .few)) in
-      carried-bytes 0xA8 0 0 gpoDataOfFilledPdol _ c d (omega arith) (omega arith) (omega arith) (bytes-append (gpoDataTagAndLength (length (d .bytes))) (d .bytes) h (filled-bytes dictionaryRows store b _ (d .bytes) (d .is)))
+      carried-bytes 0xA8 0 0 gpoDataOfFilledPdol _ c d (omega arith) (omega arith) (omega arith)
+      (bytes-append (gpoDataTagAndLength (length (d .bytes))) (d .bytes) h
+      (filled-bytes dictionaryRows store b _ (d .bytes) (d .is)))
 
   pub cryptogram-bytes : Bytes store → (p1 : ℕ) → p1 < 256 → generateAc p1 store ≡ some c → Bytes c
   unfolding generateAc
   cryptogram-bytes b p1 h p =
       let d = dol-carried 0xAE p1 0 _ c p in
-      carried-bytes 0xAE p1 0 (λ v. v) _ c d (omega arith) h (omega arith) (filled-bytes dictionaryRows store b _ (d .bytes) (d .is))
+      carried-bytes 0xAE p1 0 (λ v. v) _ c d (omega arith) h (omega arith)
+      (filled-bytes dictionaryRows store b _ (d .bytes) (d .is))
 
   pub checksum-bytes : Bytes store → computeCryptographicChecksum store ≡ some c → Bytes c
   unfolding computeCryptographicChecksum
   checksum-bytes b p =
       let d = dol-carried 0x2A 0x8E 0x80 _ c p in
-      carried-bytes 0x2A 0x8E 0x80 (λ v. v) _ c d (omega arith) (omega arith) (omega arith) (filled-bytes dictionaryRows store b _ (d .bytes) (d .is))
+      carried-bytes 0x2A 0x8E 0x80 (λ v. v) _ c d (omega arith) (omega arith) (omega arith)
+      (filled-bytes dictionaryRows store b _ (d .bytes) (d .is))
 
 -- with no list, or an empty one, GPO has the data 83 00
 pub gpo-empty : (store : List ℕ) → bytesOrEmptyIfAbsent (objectValue store 0x9F38) ≡ []
     → getProcessingOptions store ≡ some (0x80 ∷ 0xA8 ∷ 0 ∷ 0 ∷ 2 ∷ 0x83 ∷ 0 ∷ 0 ∷ [])
 unfolding getProcessingOptions gpoCommandOfFilled lengthBytes if
-gpo-empty store e = ap (λ (l : List ℕ). gpoCommandOfFilled (dolFilled dictionaryRows store l)) e ∙ ap gpoCommandOfFilled (filled-nothing dictionaryRows store) ∙ gpo-nothing
+gpo-empty store e = ap (λ (l : List ℕ). gpoCommandOfFilled (dolFilled dictionaryRows store l)) e ∙ ap gpoCommandOfFilled
+    (filled-nothing dictionaryRows store) ∙ gpo-nothing
   where
     gpo-nothing : gpoCommandOfFilled (some []) ≡ some (0x80 ∷ 0xA8 ∷ 0 ∷ 0 ∷ 2 ∷ 0x83 ∷ 0 ∷ 0 ∷ [])
     gpo-nothing = refl
 
-pub gpo-absent : (store : List ℕ) → objectValue store 0x9F38 ≡ absent → getProcessingOptions store ≡ some (0x80 ∷ 0xA8 ∷ 0 ∷ 0 ∷ 2 ∷ 0x83 ∷ 0 ∷ 0 ∷ [])
+pub gpo-absent : (store : List ℕ) → objectValue store 0x9F38 ≡ absent
+    → getProcessingOptions store ≡ some (0x80 ∷ 0xA8 ∷ 0 ∷ 0 ∷ 2 ∷ 0x83 ∷ 0 ∷ 0 ∷ [])
 gpo-absent store e = gpo-empty store (ap bytesOrEmptyIfAbsent e)

@@ -8,7 +8,8 @@ use Rattle.basics.specs.Choice.{if, both}
 use Rattle.tlv.specs.Encoding.{lengthBytes}
 use Rattle.afl.specs.Records.{aflEntries, consecutiveRecords, recordsOfEntries, aflRecords}
 use Rattle.command.specs.ReadRecord.{readRecordCommand}
-use Rattle.command.specs.WithList.{proprietaryCommand, commandIfDataIs1To255Bytes, udolOrDefault, gpoCommandOfFilled}
+use Rattle.command.specs.WithList.{proprietaryCommand, commandIfDataIs1To255Bytes, udolOrDefault}
+use Rattle.command.specs.WithList.{gpoCommandOfFilled}
 
 -- ---- a record
 

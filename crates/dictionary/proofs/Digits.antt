@@ -13,7 +13,8 @@ use lib.Seq.{drop-cons}
 use borrow.Author.Tests.{ltb-true, lt-ltb, le-ltb, eqb-true, eqb-false, eq-eqb, ne-eqb}
 use Rattle.basics.specs.Choice.{if, both, every}
 use Rattle.basics.specs.Number.{nibbles}
-use Rattle.basics.proofs.Laws.{if-yes, if-no, both-yes, both-left, both-right, both-no-left, both-no-right, both-true, both-assoc}
+use Rattle.basics.proofs.Laws.{if-yes, if-no, both-yes, both-left, both-right, both-no-left, both-no-right, both-true}
+use Rattle.basics.proofs.Laws.{both-assoc}
 use Rattle.dictionary.specs.Form.{isDecimalNibble, isNibbleF, isNumeric, isDigitsThenFs, isCompressedNumeric}
 use Rattle.dictionary.specs.Inner.{isDecimalByte, leadingDecimalBytes, allBytesFF}
 
@@ -23,7 +24,8 @@ module _ (v : List ℕ) (i : ℕ) (h : i < length v) where
   unfolding leadingDecimalBytes
   stop-here e = rw (drop-cons v i 0) (ap (λ (n : ℕ). i + n) (if-no _ _ e) ∙ omega arith)
 
-  pub go-on : isDecimalByte (getD v i 0) ≡ true → i + leadingDecimalBytes (drop i v) ≡ i + 1 + leadingDecimalBytes (drop (i + 1) v)
+  pub go-on : isDecimalByte (getD v i 0) ≡ true → i + leadingDecimalBytes (drop i v) ≡ i + 1 + leadingDecimalBytes
+      (drop (i + 1) v)
   unfolding leadingDecimalBytes
   go-on e = rw (add-one, drop-cons v i 0) (ap (λ (n : ℕ). i + n) (if-yes _ _ e) ∙ omega arith)
 
@@ -37,7 +39,8 @@ unfolding leadingDecimalBytes if
 stops [] h = absurd (omega arith)
 stops (b ∷ v) h = go (isDecimalByte b) refl h (stops v)
   where
-    go : (x : Bool) → isDecimalByte b ≡ x → if x (suc (leadingDecimalBytes v)) 0 < suc (length v) → (leadingDecimalBytes v < length v → isDecimalByte (getD v (leadingDecimalBytes v) 0) ≡ false)
+    go : (x : Bool) → isDecimalByte b ≡ x → if x (suc (leadingDecimalBytes v)) 0 < suc (length v)
+        → (leadingDecimalBytes v < length v → isDecimalByte (getD v (leadingDecimalBytes v) 0) ≡ false)
         → isDecimalByte (getD (b ∷ v) (if x (suc (leadingDecimalBytes v)) 0) 0) ≡ false
     go true e k ih = ih (omega arith)
     go false e k ih = e
@@ -46,9 +49,11 @@ stops (b ∷ v) h = go (isDecimalByte b) refl h (stops v)
 pub numeric-is : (v : List ℕ) → isNumeric v ≡ eqb (leadingDecimalBytes v) (length v)
 unfolding isNumeric nibbles every leadingDecimalBytes isDecimalByte if both
 numeric-is [] = refl
-numeric-is (b ∷ v) = both-assoc (isDecimalNibble (b / 16)) (isDecimalNibble (b % 16)) (isNumeric v) ∙ go (isDecimalByte b) (numeric-is v)
+numeric-is (b ∷ v) = both-assoc (isDecimalNibble (b / 16)) (isDecimalNibble (b % 16)) (isNumeric v) ∙ go
+    (isDecimalByte b) (numeric-is v)
   where
-    go : (x : Bool) → isNumeric v ≡ eqb (leadingDecimalBytes v) (length v) → both x (isNumeric v) ≡ eqb (if x (suc (leadingDecimalBytes v)) 0) (suc (length v))
+    go : (x : Bool) → isNumeric v ≡ eqb (leadingDecimalBytes v) (length v)
+        → both x (isNumeric v) ≡ eqb (if x (suc (leadingDecimalBytes v)) 0) (suc (length v))
     go true ih = ih ∙ sym (eqb·suc-suc (leadingDecimalBytes v) (length v))
     go false ih = sym (ne-eqb 0 (suc (length v)) (omega arith))
 
@@ -56,7 +61,8 @@ numeric-is (b ∷ v) = both-assoc (isDecimalNibble (b / 16)) (isDecimalNibble (b
 pub byte-fs : (b : ℕ) → both (isNibbleF (b / 16)) (isNibbleF (b % 16)) ≡ eqb b 0xFF
 byte-fs b = go (eqb b 0xFF) refl (isNibbleF (b / 16)) refl
   where
-    go : (x : Bool) → eqb b 0xFF ≡ x → (y : Bool) → isNibbleF (b / 16) ≡ y → both (isNibbleF (b / 16)) (isNibbleF (b % 16)) ≡ x
+    go : (x : Bool) → eqb b 0xFF ≡ x → (y : Bool) → isNibbleF (b / 16) ≡ y
+        → both (isNibbleF (b / 16)) (isNibbleF (b % 16)) ≡ x
     go true e y f =
         let k = eqb-true b 0xFF e in
         both-yes _ _ (eq-eqb (b / 16) 15 (omega arith)) (eq-eqb (b % 16) 15 (omega arith))
@@ -85,16 +91,19 @@ ff-first b w e =
 half-first : (b : ℕ) (w : List ℕ) → b / 16 < 10 → b % 16 ≡ 15 → isCompressedNumeric (b ∷ w) ≡ allBytesFF w
 unfolding isCompressedNumeric isDigitsThenFs nibbles every
 half-first b w a e =
-    if-yes _ _ (lt-ltb (b / 16) 10 a) ∙ if-no _ _ (le-ltb (b % 16) 10 (omega arith)) ∙ both-true _ (eq-eqb (b % 16) 15 e) ∙ fs-bytes w
+    if-yes _ _ (lt-ltb (b / 16) 10 a) ∙ if-no _ _ (le-ltb (b % 16) 10 (omega arith)) ∙ both-true _
+    (eq-eqb (b % 16) 15 e) ∙ fs-bytes w
 
-wrong-first : (b : ℕ) (w : List ℕ) → isDecimalByte b ≡ false → (b ≡ 0xFF → ⊥) → (b / 16 < 10 → b % 16 ≡ 15 → ⊥) → isCompressedNumeric (b ∷ w) ≡ false
+wrong-first : (b : ℕ) (w : List ℕ) → isDecimalByte b ≡ false → (b ≡ 0xFF → ⊥) → (b / 16 < 10 → b % 16 ≡ 15 → ⊥)
+    → isCompressedNumeric (b ∷ w) ≡ false
 unfolding isCompressedNumeric isDigitsThenFs nibbles every isDecimalByte
 wrong-first b w d ne nh = go (ltb (b / 16) 10) refl
   where
     go : (x : Bool) → ltb (b / 16) 10 ≡ x → isCompressedNumeric (b ∷ w) ≡ false
     go true e =
         let a = ltb-true (b / 16) 10 e in
-        if-yes _ _ e ∙ if-no _ _ (sym (both-true (ltb (b % 16) 10) e) ∙ d) ∙ both-no-left _ _ (ne-eqb (b % 16) 15 (nh a))
+        if-yes _ _ e ∙ if-no _ _ (sym (both-true (ltb (b % 16) 10) e) ∙ d) ∙ both-no-left _ _
+        (ne-eqb (b % 16) 15 (nh a))
     go false e = if-no _ _ e ∙ both-assoc _ _ _ ∙ both-no-left _ _ (byte-fs b ∙ ne-eqb b 0xFF ne)
 
 skip-digits : (v : List ℕ) → isCompressedNumeric v ≡ isCompressedNumeric (drop (leadingDecimalBytes v) v)
@@ -102,7 +111,8 @@ unfolding leadingDecimalBytes if
 skip-digits [] = refl
 skip-digits (b ∷ v) = go (isDecimalByte b) refl (skip-digits v)
   where
-    go : (x : Bool) → isDecimalByte b ≡ x → isCompressedNumeric v ≡ isCompressedNumeric (drop (leadingDecimalBytes v) v) → isCompressedNumeric (b ∷ v) ≡ isCompressedNumeric (drop (if x (suc (leadingDecimalBytes v)) 0) (b ∷ v))
+    go : (x : Bool) → isDecimalByte b ≡ x → isCompressedNumeric v ≡ isCompressedNumeric (drop (leadingDecimalBytes v) v)
+        → isCompressedNumeric (b ∷ v) ≡ isCompressedNumeric (drop (if x (suc (leadingDecimalBytes v)) 0) (b ∷ v))
     go true e ih = digits-first b v e ∙ ih
     go false e ih = refl
 
@@ -117,7 +127,8 @@ module _ (v : List ℕ) (n : ℕ) (e : n ≡ leadingDecimalBytes v) (h : n < len
   pub is-half : getD v n 0 / 16 < 10 → getD v n 0 % 16 ≡ 15 → isCompressedNumeric v ≡ allBytesFF (drop (n + 1) v)
   is-half a p = from-there ∙ half-first _ _ a p
 
-  pub is-wrong : (getD v n 0 ≡ 0xFF → ⊥) → (getD v n 0 / 16 < 10 → getD v n 0 % 16 ≡ 15 → ⊥) → isCompressedNumeric v ≡ false
+  pub is-wrong : (getD v n 0 ≡ 0xFF → ⊥) → (getD v n 0 / 16 < 10 → getD v n 0 % 16 ≡ 15 → ⊥)
+      → isCompressedNumeric v ≡ false
   is-wrong a p =
       let k : leadingDecimalBytes v < length v = omega arith in
       from-there ∙ wrong-first _ _ (ap (λ (m : ℕ). isDecimalByte (getD v m 0)) e ∙ stops v k) a p

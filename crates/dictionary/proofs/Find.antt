@@ -16,7 +16,8 @@ abbrev Right : List Row → ℕ → RowFound → Type 0
 Right table t Unknown = Unit {0}
 Right table t (At k) = (k < length table) × (rowIn table k .tag ≡ t)
 
-later : (r : Row) (table : List Row) (t : ℕ) (x : RowFound) → Right table t x → Right (r ∷ table) t (rowFoundShifted 1 x)
+later : (r : Row) (table : List Row) (t : ℕ) (x : RowFound) → Right table t x
+    → Right (r ∷ table) t (rowFoundShifted 1 x)
 unfolding rowFoundShifted
 later r table t Unknown w = tt
 later r table t (At k) w = let e : 1 + k ≡ suc k = omega arith in rw e (omega arith, w .1)
@@ -33,8 +34,10 @@ pub found : (table : List Row) (t k : ℕ) → findRow table t ≡ At k → (k <
 found table t k e = rw e at (right table t)
 
 -- a tag that no row has
-pub absent : (table : List Row) (t : ℕ) → ((k : ℕ) → k < length table → rowIn table k .tag ≡ t → ⊥) → findRow table t ≡ Unknown
+pub absent : (table : List Row) (t : ℕ) → ((k : ℕ) → k < length table → rowIn table k .tag ≡ t → ⊥)
+    → findRow table t ≡ Unknown
 unfolding findRow rowFoundShifted
 absent [] t none = refl
 absent (r ∷ rs) t none =
-    if-no _ _ (ne-eqb (r .tag) t (none 0 (omega arith))) ∙ ap (rowFoundShifted 1) (absent rs t (λ k h. none (suc k) (omega arith)))
+    if-no _ _ (ne-eqb (r .tag) t (none 0 (omega arith))) ∙ ap (rowFoundShifted 1)
+    (absent rs t (λ k h. none (suc k) (omega arith)))

@@ -12,12 +12,14 @@ use Rattle.dictionary.specs.Packing.{attributesOf, rowWithAttributesAndT
 use Rattle.dictionary.specs.Form.{lengthAndDigitsFitRow, digitsMatchForm, isNumeric, isCompressedNumeric}
 
 -- a value that fits is neither too short nor too long
-pub fits-length : (r : Row) (v : List ℕ) → lengthAndDigitsFitRow r v ≡ true → (r .least ≤ length v) × (length v ≤ r .greatest)
+pub fits-length : (r : Row) (v : List ℕ) → lengthAndDigitsFitRow r v ≡ true
+    → (r .least ≤ length v) × (length v ≤ r .greatest)
 unfolding lengthAndDigitsFitRow
 fits-length r v e = (leb-true _ _ (both-left _ _ e), leb-true _ _ (both-left _ _ (both-right _ _ e)))
 
 -- what fits a row's attributes fits the row
-pub row-fits : (x : Row) (v : List ℕ) {r : Bool} {a : RowAttributes} → r ≡ lengthAndDigitsFitRow (rowWithAttributesAndTagZero a) v → a ≡ attributesOf x → r ≡ lengthAndDigitsFitRow x v
+pub row-fits : (x : Row) (v : List ℕ) {r : Bool} {a : RowAttributes}
+    → r ≡ lengthAndDigitsFitRow (rowWithAttributesAndTagZero a) v → a ≡ attributesOf x → r ≡ lengthAndDigitsFitRow x v
 unfolding lengthAndDigitsFitRow
 row-fits x v e f = e ∙ ap (λ (z : RowAttributes). lengthAndDigitsFitRow (rowWithAttributesAndTagZero z) v) f
 

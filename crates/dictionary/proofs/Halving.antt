@@ -20,7 +20,9 @@ use Rattle.dictionary.specs.declared.RowFound.the-variants.{At, Unknown}
 use Rattle.dictionary.specs.declared.SearchResult.{SearchResult}
 use Rattle.dictionary.specs.Rows.{Row, rowIn, findRow}
 use Rattle.dictionary.specs.Rule.{risingTags}
-use Rattle.dictionary.specs.Search.{SearchPart, searchPart, partMiddle, HalvingSearch, searchMiss, searchHit, prependProbe, halvingSearchIn, halvingSearch, probedPlaces, halvingSearchResult, tagsOf, tagsAt, ProbesCountedAndSufficient}
+use Rattle.dictionary.specs.Search.{SearchPart, searchPart, partMiddle, HalvingSearch, searchMiss, searchHit}
+use Rattle.dictionary.specs.Search.{prependProbe, halvingSearchIn, halvingSearch, probedPlaces}
+use Rattle.dictionary.specs.Search.{halvingSearchResult, tagsOf, tagsAt, ProbesCountedAndSufficient}
 use Rattle.dictionary.proofs.Table.{column}
 use Rattle.dictionary.proofs.Find.{absent}
 use Rattle.dictionary.proofs.Rule.{tags-rise, find-row}
@@ -35,28 +37,34 @@ abbrev looked : List ℕ → ℕ → ℕ → ℕ
 looked tags from to = getD tags (mid from to) 0
 
 module _ (tags : List ℕ) (t n from to : ℕ) (some : from < to) where
-  transition-here : looked tags from to ≡ t → halvingSearchIn tags t (suc n) (searchPart from to) ≡ prependProbe (mid from to) (searchHit (mid from to))
+  transition-here : looked tags from to ≡ t → halvingSearchIn tags t (suc n) (searchPart from to)
+      ≡ prependProbe (mid from to) (searchHit (mid from to))
   unfolding halvingSearchIn
   transition-here e = if-no _ _ (lt-leb to from some) ∙ ap (prependProbe (mid from to)) (if-yes _ _ (eq-eqb _ _ e))
 
-  transition-behind : looked tags from to < t → halvingSearchIn tags t (suc n) (searchPart from to) ≡ prependProbe (mid from to) (halvingSearchIn tags t n (searchPart (mid from to + 1) to))
+  transition-behind : looked tags from to < t → halvingSearchIn tags t (suc n) (searchPart from to)
+      ≡ prependProbe (mid from to) (halvingSearchIn tags t n (searchPart (mid from to + 1) to))
   unfolding halvingSearchIn
   transition-behind h =
       let other : looked tags from to ≡ t → ⊥ = λ e. omega arith in
-      if-no _ _ (lt-leb to from some) ∙ ap (prependProbe (mid from to)) (if-no _ _ (ne-eqb _ _ other) ∙ ap (halvingSearchIn tags t n) (if-yes _ _ (lt-ltb _ _ h)))
+      if-no _ _ (lt-leb to from some) ∙ ap (prependProbe (mid from to))
+      (if-no _ _ (ne-eqb _ _ other) ∙ ap (halvingSearchIn tags t n) (if-yes _ _ (lt-ltb _ _ h)))
 
-  transition-before : t < looked tags from to → halvingSearchIn tags t (suc n) (searchPart from to) ≡ prependProbe (mid from to) (halvingSearchIn tags t n (searchPart from (mid from to)))
+  transition-before : t < looked tags from to → halvingSearchIn tags t (suc n) (searchPart from to)
+      ≡ prependProbe (mid from to) (halvingSearchIn tags t n (searchPart from (mid from to)))
   unfolding halvingSearchIn
   transition-before h =
       let other : looked tags from to ≡ t → ⊥ = λ e. omega arith in
       let greater : t ≤ looked tags from to = omega arith in
-      if-no _ _ (lt-leb to from some) ∙ ap (prependProbe (mid from to)) (if-no _ _ (ne-eqb _ _ other) ∙ ap (halvingSearchIn tags t n) (if-no _ _ (le-ltb _ _ greater)))
+      if-no _ _ (lt-leb to from some) ∙ ap (prependProbe (mid from to))
+      (if-no _ _ (ne-eqb _ _ other) ∙ ap (halvingSearchIn tags t n) (if-no _ _ (le-ltb _ _ greater)))
 
 no-turns : (tags : List ℕ) (t : ℕ) (p : SearchPart) → halvingSearchIn tags t 0 p ≡ searchMiss
 unfolding halvingSearchIn
 no-turns tags t p = refl
 
-transition-none : (tags : List ℕ) (t n from to : ℕ) → to ≤ from → halvingSearchIn tags t n (searchPart from to) ≡ searchMiss
+transition-none : (tags : List ℕ) (t n from to : ℕ) → to ≤ from → halvingSearchIn tags t n (searchPart from to)
+    ≡ searchMiss
 unfolding halvingSearchIn
 transition-none tags t zero from to h = refl
 transition-none tags t (suc n) from to h = if-yes _ _ (le-leb to from h)
@@ -65,9 +73,12 @@ transition-none tags t (suc n) from to h = if-yes _ _ (le-leb to from h)
 -- holds of every search
 module _ (tags : List ℕ) (t : ℕ) (P : ℕ → ℕ → HalvingSearch → Type 0)
     (none : (from to : ℕ) → to ≤ from → P from to searchMiss)
-    (found : (from to : ℕ) → from < to → looked tags from to ≡ t → P from to (prependProbe (mid from to) (searchHit (mid from to))))
-    (behind : (from to : ℕ) (s : HalvingSearch) → from < to → looked tags from to < t → P (mid from to + 1) to s → P from to (prependProbe (mid from to) s))
-    (before : (from to : ℕ) (s : HalvingSearch) → from < to → t < looked tags from to → P from (mid from to) s → P from to (prependProbe (mid from to) s)) where
+    (found : (from to : ℕ) → from < to → looked tags from to ≡ t
+    → P from to (prependProbe (mid from to) (searchHit (mid from to))))
+    (behind : (from to : ℕ) (s : HalvingSearch) → from < to → looked tags from to < t → P (mid from to + 1) to s
+    → P from to (prependProbe (mid from to) s))
+    (before : (from to : ℕ) (s : HalvingSearch) → from < to → t < looked tags from to → P from (mid from to) s
+    → P from to (prependProbe (mid from to) s)) where
   by-turns : (n from to : ℕ) → to ≤ from + n → P from to (halvingSearchIn tags t n (searchPart from to))
   by-turns zero from to h = rw (no-turns tags t (searchPart from to)) (none from to (omega arith))
   by-turns (suc n) from to h =
@@ -76,8 +87,10 @@ module _ (tags : List ℕ) (t : ℕ) (P : ℕ → ℕ → HalvingSearch → Type
         | inr some ↦ elim (equal-or-not (looked tags from to) t) [
           | inl e ↦ rw (transition-here tags t n from to some e) (found from to some e)
           | inr other ↦ elim (sides (looked tags from to) t other) [
-            | inl l ↦ rw (transition-behind tags t n from to some l) (behind from to _ some l (by-turns n _ _ (omega arith)))
-            | inr g ↦ rw (transition-before tags t n from to some g) (before from to _ some g (by-turns n _ _ (omega arith)))
+            | inl l ↦ rw (transition-behind tags t n from to some l)
+                (behind from to _ some l (by-turns n _ _ (omega arith)))
+            | inr g ↦ rw (transition-before tags t n from to some g)
+                (before from to _ some g (by-turns n _ _ (omega arith)))
           ]
         ]
       ]
@@ -92,15 +105,18 @@ module _ (tags : List ℕ) (t : ℕ) where
   few-from : (n from to : ℕ) → to ≤ from + n → Few from to (halvingSearchIn tags t n (searchPart from to))
   few-from = by-turns tags t Few (λ from to z k h. omega arith) found behind before
     where
-      found : (from to : ℕ) → from < to → looked tags from to ≡ t → Few from to (prependProbe (mid from to) (searchHit (mid from to)))
+      found : (from to : ℕ) → from < to → looked tags from to ≡ t
+          → Few from to (prependProbe (mid from to) (searchHit (mid from to)))
       found from to some e zero h = omega arith
       found from to some e (suc k) h = omega arith
 
-      behind : (from to : ℕ) (s : HalvingSearch) → from < to → looked tags from to < t → Few (mid from to + 1) to s → Few from to (prependProbe (mid from to) s)
+      behind : (from to : ℕ) (s : HalvingSearch) → from < to → looked tags from to < t → Few (mid from to + 1) to s
+          → Few from to (prependProbe (mid from to) s)
       behind from to s some l ih zero h = omega arith
       behind from to s some l ih (suc k) h = let p = two-pow-succ k in let q = ih k (omega arith) in omega arith
 
-      before : (from to : ℕ) (s : HalvingSearch) → from < to → t < looked tags from to → Few from (mid from to) s → Few from to (prependProbe (mid from to) s)
+      before : (from to : ℕ) (s : HalvingSearch) → from < to → t < looked tags from to → Few from (mid from to) s
+          → Few from to (prependProbe (mid from to) s)
       before from to s some g ih zero h = omega arith
       before from to s some g ih (suc k) h = let p = two-pow-succ k in let q = ih k (omega arith) in omega arith
 
@@ -123,7 +139,8 @@ module _ (tags : List ℕ) (t : ℕ) where
 -- ---- the same tags at the places
 
 module _ (tags other : List ℕ) (t : ℕ) where
-  same-way : (n from to : ℕ) → tagsAt other (halvingSearchIn tags t n (searchPart from to) .places) ≡ tagsAt tags (halvingSearchIn tags t n (searchPart from to) .places)
+  same-way : (n from to : ℕ) → tagsAt other (halvingSearchIn tags t n (searchPart from to) .places)
+      ≡ tagsAt tags (halvingSearchIn tags t n (searchPart from to) .places)
       → halvingSearchIn other t n (searchPart from to) ≡ halvingSearchIn tags t n (searchPart from to)
   same-way zero from to e = no-turns other t (searchPart from to) ∙ sym (no-turns tags t (searchPart from to))
   same-way (suc n) from to e =
@@ -140,13 +157,15 @@ module _ (tags other : List ℕ) (t : ℕ) where
                 let first : looked other from to ≡ looked tags from to = cc in
                 let s = halvingSearchIn tags t n (searchPart (mid from to + 1) to) in
                 let rest : tagsAt other (s .places) ≡ tagsAt tags (s .places) = cc in
-                transition-behind other t n from to some (omega arith) ∙ ap (prependProbe (mid from to)) (same-way n _ _ rest) ∙ sym (transition-behind tags t n from to some l)
+                transition-behind other t n from to some (omega arith) ∙ ap (prependProbe (mid from to))
+                (same-way n _ _ rest) ∙ sym (transition-behind tags t n from to some l)
             | inr g ↦
                 let d = rw (transition-before tags t n from to some g) at e in
                 let first : looked other from to ≡ looked tags from to = cc in
                 let s = halvingSearchIn tags t n (searchPart from (mid from to)) in
                 let rest : tagsAt other (s .places) ≡ tagsAt tags (s .places) = cc in
-                transition-before other t n from to some (omega arith) ∙ ap (prependProbe (mid from to)) (same-way n _ _ rest) ∙ sym (transition-before tags t n from to some g)
+                transition-before other t n from to some (omega arith) ∙ ap (prependProbe (mid from to))
+                (same-way n _ _ rest) ∙ sym (transition-before tags t n from to some g)
           ]
         ]
       ]
@@ -185,24 +204,34 @@ module _ (table : List Row) (rises : risingTags table ≡ true) (t : ℕ) where
   finds-from : (n from to : ℕ) → to ≤ from + n → Finds from to (halvingSearchIn (tagsOf table) t n (searchPart from to))
   finds-from = by-turns (tagsOf table) t Finds none found behind before
     where
-      none : (from to : ℕ) → to ≤ from → to ≤ length table → Smaller table t from → Greater table t to → Unknown ≡ findRow table t
+      none : (from to : ℕ) → to ≤ from → to ≤ length table → Smaller table t from → Greater table t to
+          → Unknown ≡ findRow table t
       none from to z h s g =
-          sym (absent table t (λ k w e. elim (le-or-gt from k) [ inl b ↦ let x = g k (omega arith) w in omega arith | inr b ↦ let x = s k b w in omega arith ]))
+          sym
+          (absent table t
+          (λ k w e. elim (le-or-gt from k) [
+            | inl b ↦ let x = g k (omega arith) w in omega arith
+            | inr b ↦ let x =
+                s k b w in omega arith
+          ]))
 
-      found : (from to : ℕ) → from < to → looked (tagsOf table) from to ≡ t → to ≤ length table → Smaller table t from → Greater table t to
+      found : (from to : ℕ) → from < to → looked (tagsOf table) from to ≡ t → to ≤ length table → Smaller table t from
+          → Greater table t to
           → At (mid from to) ≡ findRow table t
       found from to some e h s g =
           let w : mid from to < length table = omega arith in
           let x : rowIn table (mid from to) .tag ≡ t = sym (at-row (mid from to)) ∙ e in
           sym (find-row table rises (mid from to) w) ∙ ap (findRow table) x
 
-      behind : (from to : ℕ) (s : HalvingSearch) → from < to → looked (tagsOf table) from to < t → Finds (mid from to + 1) to s → Finds from to s
+      behind : (from to : ℕ) (s : HalvingSearch) → from < to → looked (tagsOf table) from to < t
+          → Finds (mid from to + 1) to s → Finds from to s
       behind from to s some l ih h a b =
           let w : mid from to < length table = omega arith in
           let x = at-row (mid from to) in
           ih h (smaller-up-to (mid from to) w (omega arith)) b
 
-      before : (from to : ℕ) (s : HalvingSearch) → from < to → t < looked (tagsOf table) from to → Finds from (mid from to) s → Finds from to s
+      before : (from to : ℕ) (s : HalvingSearch) → from < to → t < looked (tagsOf table) from to
+          → Finds from (mid from to) s → Finds from to s
       before from to s some g ih h a b =
           let w : mid from to < length table = omega arith in
           let x = at-row (mid from to) in
@@ -225,11 +254,13 @@ module _ (tags : List ℕ) (t : ℕ) where
       let s = halvingSearchIn tags t (length tags) (searchPart 0 (length tags)) in
       let e : length (s .places) ≡ 0 + length (s .places) = omega arith in
       let all : length tags ≡ length tags - 0 = omega arith in
-      ap (λ (n : ℕ). record { found = s .found; probes = n }) e ∙ ap (λ (n : ℕ). after 0 (halvingSearchIn tags t n (searchPart 0 (length tags)))) all
+      ap (λ (n : ℕ). record { found = s .found; probes = n }) e ∙ ap
+      (λ (n : ℕ). after 0 (halvingSearchIn tags t n (searchPart 0 (length tags)))) all
 
   module _ (from to probes : ℕ) where
     pub end : to ≤ from → rest tags t from to probes ≡ record { found = Unknown; probes = probes }
-    end h = rw (transition-none tags t (length tags - probes) from to h) (ap (λ (n : ℕ). record { found = Unknown; probes = n }) (omega arith))
+    end h = rw (transition-none tags t (length tags - probes) from to h)
+        (ap (λ (n : ℕ). record { found = Unknown; probes = n }) (omega arith))
 
     module _ (room : probes + to ≤ from + length tags) (some : from < to) where
       one-more : (s : HalvingSearch) → after probes (prependProbe (mid from to) s) ≡ after (probes + 1) s
@@ -238,39 +269,52 @@ module _ (tags : List ℕ) (t : ℕ) where
       turns : length tags - probes ≡ suc (length tags - (probes + 1))
       turns = omega arith
 
-      pub go-here : looked tags from to ≡ t → rest tags t from to probes ≡ record { found = At (mid from to); probes = probes + 1 }
+      pub go-here : looked tags from to ≡ t
+          → rest tags t from to probes ≡ record { found = At (mid from to); probes = probes + 1 }
       go-here e = rw (turns, transition-here tags t (length tags - (probes + 1)) from to some e)
 
-      pub go-behind : looked tags from to < t → rest tags t from to probes ≡ rest tags t (mid from to + 1) to (probes + 1)
-      go-behind l = rw (turns, transition-behind tags t (length tags - (probes + 1)) from to some l) (one-more (halvingSearchIn tags t (length tags - (probes + 1)) (searchPart (mid from to + 1) to)))
+      pub go-behind : looked tags from to < t → rest tags t from to probes ≡ rest tags t (mid from to + 1) to
+          (probes + 1)
+      go-behind l = rw (turns, transition-behind tags t (length tags - (probes + 1)) from to some l)
+          (one-more (halvingSearchIn tags t (length tags - (probes + 1)) (searchPart (mid from to + 1) to)))
 
       pub go-before : t < looked tags from to → rest tags t from to probes ≡ rest tags t from (mid from to) (probes + 1)
-      go-before g = rw (turns, transition-before tags t (length tags - (probes + 1)) from to some g) (one-more (halvingSearchIn tags t (length tags - (probes + 1)) (searchPart from (mid from to))))
+      go-before g = rw (turns, transition-before tags t (length tags - (probes + 1)) from to some g)
+          (one-more (halvingSearchIn tags t (length tags - (probes + 1)) (searchPart from (mid from to))))
 
 -- ---- what `search_tags` promises, from the equation
 
 module _ (tags : List ℕ) (t : ℕ) where
-  finds : (table : List Row) → tagsOf table ≡ tags → risingTags table ≡ true → halvingSearchResult tags t .found ≡ findRow table t
+  finds : (table : List Row) → tagsOf table ≡ tags → risingTags table ≡ true → halvingSearchResult tags t .found
+      ≡ findRow table t
   unfolding halvingSearchResult halvingSearch
   finds table e rises =
       let n = length (tagsOf table) in
       let l : n ≡ length table = length-map table (λ r. r .tag) in
-      rw (← e) (finds-from table rises t n 0 n (omega arith) (omega arith) (λ k b. absurd (omega arith)) (λ k b w. absurd (omega arith)))
+      rw (← e) (finds-from table rises t n 0 n (omega arith) (omega arith) (λ k b. absurd (omega arith))
+      (λ k b w. absurd (omega arith)))
 
   few-probes : (k : ℕ) → length tags < 2 ^ k → halvingSearchResult tags t .probes ≤ k
   unfolding halvingSearchResult halvingSearch
   few-probes k h = few-from tags t (length tags) 0 (length tags) (omega arith) k (omega arith)
 
-  same : (other : List ℕ) → length other ≡ length tags → tagsAt other (probedPlaces tags t) ≡ tagsAt tags (probedPlaces tags t) → halvingSearchResult other t ≡ halvingSearchResult tags t
+  same : (other : List ℕ) → length other ≡ length tags → tagsAt other (probedPlaces tags t)
+      ≡ tagsAt tags (probedPlaces tags t) → halvingSearchResult other t ≡ halvingSearchResult tags t
   unfolding halvingSearchResult halvingSearch
   same other e h =
       let way = same-way tags other t (length tags) 0 (length tags) h in
-      let whole : halvingSearchIn other t (length other) (searchPart 0 (length other)) ≡ halvingSearchIn tags t (length tags) (searchPart 0 (length tags)) = rw e way in
+      let whole : halvingSearchIn other t (length other) (searchPart 0 (length other)) ≡ halvingSearchIn tags t
+      (length tags) (searchPart 0 (length tags)) = rw e way in
       ap (λ (s : HalvingSearch). record { found = s .found; probes = length (s .places) }) whole
 
   counted : ProbesCountedAndSufficient tags t (halvingSearchResult tags t)
   unfolding halvingSearchResult halvingSearch
-  counted = record { count = refl; within = within-from tags t (length tags) 0 (length tags) (omega arith) (omega arith); enough = same }
+  counted = record {
+    count = refl;
+    within = within-from tags t (length tags) 0 (length tags) (omega arith)
+        (omega arith);
+    enough = same;
+  }
 
   pub promised : {r : SearchResult} → r ≡ halvingSearchResult tags t
       → (r ≡ halvingSearchResult tags t)

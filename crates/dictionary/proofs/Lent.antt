@@ -19,7 +19,8 @@ use Rattle.dictionary.proofs.Packing.{code-unpacks}
 
 -- from what `search_tags` promises of every rising table
 pub lent-found : (t : ℕ) {tags : List ℕ} {x : RowFound} → tags ≡ tagsOf dictionaryRows
-    → ((table : List Row) → tagsOf table ≡ tags → risingTags table ≡ true → x ≡ findRow table t) → x ≡ findRow dictionaryRows t
+    → ((table : List Row) → tagsOf table ≡ tags → risingTags table ≡ true → x ≡ findRow table t)
+    → x ≡ findRow dictionaryRows t
 lent-found t e h = h dictionaryRows (sym e) (proper-rising dictionaryRows rows-proper)
 
 -- a found row is one of them
@@ -28,6 +29,8 @@ unfolding dictionaryRows
 row-found t {k} e = found dictionaryRows t k e .0
 
 -- a row's number, taken apart
-pub lent-row : {codes : List ℕ} {k : ℕ} → codes ≡ packedAttributesOfRows dictionaryRows → k < rowCount → unpackedRowAttributes (getD codes k 0) ≡ attributesOf (rowAt k)
+pub lent-row : {codes : List ℕ} {k : ℕ} → codes ≡ packedAttributesOfRows dictionaryRows → k < rowCount
+    → unpackedRowAttributes (getD codes k 0) ≡ attributesOf (rowAt k)
 unfolding dictionaryRows
-lent-row {codes} {k} e h = ap (λ (cs : List ℕ). unpackedRowAttributes (getD cs k 0)) e ∙ ap unpackedRowAttributes (column packedRowAttributes dictionaryRows k) ∙ code-unpacks k h
+lent-row {codes} {k} e h = ap (λ (cs : List ℕ). unpackedRowAttributes (getD cs k 0)) e ∙ ap unpackedRowAttributes
+    (column packedRowAttributes dictionaryRows k) ∙ code-unpacks k h

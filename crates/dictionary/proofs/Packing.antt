@@ -33,7 +33,8 @@ rows-unpack = refl
 abbrev made : ℕ → ℕ → ℕ → ℕ → ℕ → ℕ → ℕ → RowAttributes
 made a g f s t w m = record { least = a; greatest = g; form = f; setters = s; templates = t; answers = w; must = m }
 
-equal : {a b c d e f g a' b' c' d' e' f' g' : ℕ} → a ≡ a' → b ≡ b' → c ≡ c' → d ≡ d' → e ≡ e' → f ≡ f' → g ≡ g' → made a b c d e f g ≡ made a' b' c' d' e' f' g'
+equal : {a b c d e f g a' b' c' d' e' f' g' : ℕ} → a ≡ a' → b ≡ b' → c ≡ c' → d ≡ d' → e ≡ e' → f ≡ f' → g ≡ g'
+    → made a b c d e f g ≡ made a' b' c' d' e' f' g'
 equal p q r s t u v = rw (p, q, r, s, t, u, v)
 
 row-unpacks : (r : Row) → unpacks r ≡ true → unpackedRowAttributes (packedRowAttributes r) ≡ attributesOf r
@@ -45,8 +46,10 @@ row-unpacks r t =
     let templates = both-right _ _ setters in
     let answers = both-right _ _ templates in
     equal (eqb-true _ _ (both-left _ _ t)) (eqb-true _ _ (both-left _ _ greatest)) (eqb-true _ _ (both-left _ _ form))
-    (eqb-true _ _ (both-left _ _ setters)) (eqb-true _ _ (both-left _ _ templates)) (eqb-true _ _ (both-left _ _ answers)) (eqb-true _ _ (both-right _ _ answers))
+    (eqb-true _ _ (both-left _ _ setters)) (eqb-true _ _ (both-left _ _ templates))
+    (eqb-true _ _ (both-left _ _ answers)) (eqb-true _ _ (both-right _ _ answers))
 
 -- every row's attributes are in its number
-pub code-unpacks : (k : ℕ) → k < length dictionaryRows → unpackedRowAttributes (packedRowAttributes (rowIn dictionaryRows k)) ≡ attributesOf (rowIn dictionaryRows k)
+pub code-unpacks : (k : ℕ) → k < length dictionaryRows
+    → unpackedRowAttributes (packedRowAttributes (rowIn dictionaryRows k)) ≡ attributesOf (rowIn dictionaryRows k)
 code-unpacks k h = row-unpacks (rowIn dictionaryRows k) (at unpacks dictionaryRows blankRow rows-unpack k h)

@@ -18,7 +18,8 @@ use Rattle.dictionary.specs.declared.RowRange.{RowRange}
 use Rattle.dictionary.specs.declared.SearchResult.{SearchResult}
 use Rattle.dictionary.specs.Rows.{Row, dictionaryRows, rowCount, rowFoundShifted, findRow}
 use Rattle.dictionary.specs.Rule.{risingTags}
-use Rattle.dictionary.specs.Search.{halvingSearchResult, tagsOf, searchPartNumber, filterTags, tagsInPartOf, halvingSearchResultInPart}
+use Rattle.dictionary.specs.Search.{halvingSearchResult, tagsOf, searchPartNumber, filterTags, tagsInPartOf}
+use Rattle.dictionary.specs.Search.{halvingSearchResultInPart}
 use Rattle.dictionary.specs.Named.{firstRowOf5F, firstRowOf9F, firstRowOfDF, firstRowOfThreeByteTags}
 use Rattle.dictionary.specs.Inner.{rowRange, rowRangeForTag}
 
@@ -36,13 +37,15 @@ past-more a (At k) = let e : 1 + (a + k) ≡ suc a + k = omega arith in ap At e
 abbrev below : ℕ → Row → Bool
 below low r = ltb (r .tag) low
 
-find-behind : (a : ℕ) (table : List Row) (low t : ℕ) → every (below low) (take a table) ≡ true → low ≤ t → findRow table t ≡ rowFoundShifted a (findRow (drop a table) t)
+find-behind : (a : ℕ) (table : List Row) (low t : ℕ) → every (below low) (take a table) ≡ true → low ≤ t
+    → findRow table t ≡ rowFoundShifted a (findRow (drop a table) t)
 unfolding every findRow rowFoundShifted
 find-behind zero table low t h l = sym (past-none (findRow table t))
 find-behind (suc a) [] low t h l = refl
 find-behind (suc a) (r ∷ rs) low t h l =
     let n : r .tag ≡ t → ⊥ = λ e. let s = ltb-true (r .tag) low (both-left _ _ h) in omega arith in
-    if-no _ _ (ne-eqb _ _ n) ∙ ap (rowFoundShifted 1) (find-behind a rs low t (both-right _ _ h) l) ∙ past-more a (findRow (drop a rs) t)
+    if-no _ _ (ne-eqb _ _ n) ∙ ap (rowFoundShifted 1) (find-behind a rs low t (both-right _ _ h) l) ∙ past-more a
+    (findRow (drop a rs) t)
 
 -- rows of greater tags after it do not have the tag
 abbrev above : ℕ → Row → Bool
@@ -55,11 +58,13 @@ none-above (r ∷ rs) high t h l =
     let n : r .tag ≡ t → ⊥ = λ e. let s = leb-true high (r .tag) (both-left _ _ h) in omega arith in
     if-no _ _ (ne-eqb _ _ n) ∙ ap (rowFoundShifted 1) (none-above rs high t (both-right _ _ h) l)
 
-find-before : (n : ℕ) (table : List Row) (high t : ℕ) → every (above high) (drop n table) ≡ true → t < high → findRow table t ≡ findRow (take n table) t
+find-before : (n : ℕ) (table : List Row) (high t : ℕ) → every (above high) (drop n table) ≡ true → t < high
+    → findRow table t ≡ findRow (take n table) t
 unfolding findRow
 find-before zero table high t h l = none-above table high t h l
 find-before (suc n) [] high t h l = refl
-find-before (suc n) (r ∷ rs) high t h l = ap (λ (x : RowFound). if (eqb (r .tag) t) (At 0) (rowFoundShifted 1 x)) (find-before n rs high t h l)
+find-before (suc n) (r ∷ rs) high t h l = ap (λ (x : RowFound). if (eqb (r .tag) t) (At 0) (rowFoundShifted 1 x))
+    (find-before n rs high t h l)
 
 -- ---- the dictionary's parts
 
@@ -82,9 +87,11 @@ pub record Stands (t : ℕ) (p : RowRange) : Type 0 where
   pub numbered : Numbered (searchPartNumber t) p
 
 -- of a part between two tags
-between : (a n low high t : ℕ) → every (below low) (take a dictionaryRows) ≡ true → every (above high) (drop n (drop a dictionaryRows)) ≡ true → low ≤ t → t < high
+between : (a n low high t : ℕ) → every (below low) (take a dictionaryRows) ≡ true
+    → every (above high) (drop n (drop a dictionaryRows)) ≡ true → low ≤ t → t < high
     → findRow dictionaryRows t ≡ rowFoundShifted a (findRow (take n (drop a dictionaryRows)) t)
-between a n low high t h i l m = find-behind a dictionaryRows low t h l ∙ ap (rowFoundShifted a) (find-before n (drop a dictionaryRows) high t i m)
+between a n low high t h i l m = find-behind a dictionaryRows low t h l ∙ ap (rowFoundShifted a)
+    (find-before n (drop a dictionaryRows) high t i m)
 
 -- of the part of a number
 numbered : (t : ℕ) {n : ℕ} {p : RowRange} → searchPartNumber t ≡ n → Numbered n p → Numbered (searchPartNumber t) p
@@ -124,11 +131,13 @@ module _ (t : ℕ) where
   unfolding searchPartNumber
   number-2 a b c = if-no _ _ a ∙ if-no _ _ b ∙ if-yes _ _ c
 
-  number-3 : ltb t 0x100 ≡ false → ltb t 0x9F00 ≡ false → ltb t 0xDF00 ≡ false → ltb t 0x10000 ≡ true → searchPartNumber t ≡ 3
+  number-3 : ltb t 0x100 ≡ false → ltb t 0x9F00 ≡ false → ltb t 0xDF00 ≡ false → ltb t 0x10000 ≡ true
+      → searchPartNumber t ≡ 3
   unfolding searchPartNumber
   number-3 a b c d = if-no _ _ a ∙ if-no _ _ b ∙ if-no _ _ c ∙ if-yes _ _ d
 
-  number-4 : ltb t 0x100 ≡ false → ltb t 0x9F00 ≡ false → ltb t 0xDF00 ≡ false → ltb t 0x10000 ≡ false → searchPartNumber t ≡ 4
+  number-4 : ltb t 0x100 ≡ false → ltb t 0x9F00 ≡ false → ltb t 0xDF00 ≡ false → ltb t 0x10000 ≡ false
+      → searchPartNumber t ≡ 4
   unfolding searchPartNumber
   number-4 a b c d = if-no _ _ a ∙ if-no _ _ b ∙ if-no _ _ c ∙ if-no _ _ d
 
@@ -136,16 +145,48 @@ pub part-stands : (t : ℕ) → Stands t (rowRangeForTag t)
 unfolding rowRangeForTag dictionaryRows risingTags every both
 part-stands t =
     if-ind (Stands t) _ _ _
-    (λ a. record { tags = refl; rises = refl; finds = between 0 firstRowOf5F 0 0x100 t refl refl (omega arith) (ltb-true _ _ a); numbered = numbered t (number-0 t a) part-0 })
+    (λ a. record {
+      tags = refl;
+      rises = refl;
+      finds = between 0 firstRowOf5F 0 0x100 t refl refl (omega arith)
+          (ltb-true _ _ a);
+      numbered = numbered t (number-0 t a) part-0;
+    })
     (λ a. if-ind (Stands t) _ _ _
-    (λ b. record { tags = refl; rises = refl; finds = between firstRowOf5F (firstRowOf9F - firstRowOf5F) 0x100 0x9F00 t refl refl (ltb-false _ _ a) (ltb-true _ _ b); numbered = numbered t (number-1 t a b) part-1 })
+    (λ b. record {
+      tags = refl;
+      rises = refl;
+      finds = between firstRowOf5F (firstRowOf9F - firstRowOf5F) 0x100 0x9F00 t
+          refl refl (ltb-false _ _ a) (ltb-true _ _ b);
+      numbered = numbered t (number-1 t a b) part-1;
+    })
     (λ b. if-ind (Stands t) _ _ _
-    (λ c. record { tags = refl; rises = refl; finds = between firstRowOf9F (firstRowOfDF - firstRowOf9F) 0x9F00 0xDF00 t refl refl (ltb-false _ _ b) (ltb-true _ _ c); numbered = numbered t (number-2 t a b c) part-2 })
+    (λ c. record {
+      tags = refl;
+      rises = refl;
+      finds = between firstRowOf9F (firstRowOfDF - firstRowOf9F) 0x9F00 0xDF00 t
+          refl refl (ltb-false _ _ b) (ltb-true _ _ c);
+      numbered = numbered t (number-2 t a b c) part-2;
+    })
     (λ c. if-ind (Stands t) _ _ _
-    (λ d. record { tags = refl; rises = refl; finds = between firstRowOfDF (firstRowOfThreeByteTags - firstRowOfDF) 0xDF00 0x10000 t refl refl (ltb-false _ _ c) (ltb-true _ _ d); numbered = numbered t (number-3 t a b c d) part-3 })
-    (λ d. record { tags = refl; rises = refl; finds = find-behind firstRowOfThreeByteTags dictionaryRows 0x10000 t refl (ltb-false _ _ d) ∙ ap (rowFoundShifted firstRowOfThreeByteTags) (sym all-left); numbered = numbered t (number-4 t a b c d) part-4 }))))
+    (λ d. record {
+      tags = refl;
+      rises = refl;
+      finds = between firstRowOfDF (firstRowOfThreeByteTags - firstRowOfDF)
+          0xDF00 0x10000 t refl refl (ltb-false _ _ c) (ltb-true _ _ d);
+      numbered = numbered t (number-3 t a b c d) part-3;
+    })
+    (λ d. record {
+      tags = refl;
+      rises = refl;
+      finds = find-behind firstRowOfThreeByteTags dictionaryRows 0x10000 t refl
+          (ltb-false _ _ d) ∙ ap (rowFoundShifted firstRowOfThreeByteTags) (sym all-left);
+      numbered =
+          numbered t (number-4 t a b c d) part-4;
+    }))))
   where
-    all-left : findRow (take (rowCount - firstRowOfThreeByteTags) (drop firstRowOfThreeByteTags dictionaryRows)) t ≡ findRow (drop firstRowOfThreeByteTags dictionaryRows) t
+    all-left : findRow (take (rowCount - firstRowOfThreeByteTags) (drop firstRowOfThreeByteTags dictionaryRows)) t
+        ≡ findRow (drop firstRowOfThreeByteTags dictionaryRows) t
     all-left = refl
 
 pub tags-length : length (tagsOf dictionaryRows) ≡ rowCount
@@ -172,11 +213,13 @@ module _ (t : ℕ) where
       module _ (c : 0xDF00 ≤ t) where
         pub from-DF : t < 0x10000 → rowRange firstRowOfDF firstRowOfThreeByteTags ≡ rowRangeForTag t
         unfolding rowRangeForTag
-        from-DF d = sym (if-no _ _ (le-ltb _ _ a) ∙ if-no _ _ (le-ltb _ _ b) ∙ if-no _ _ (le-ltb _ _ c) ∙ if-yes _ _ (lt-ltb _ _ d))
+        from-DF d = sym (if-no _ _ (le-ltb _ _ a) ∙ if-no _ _ (le-ltb _ _ b) ∙ if-no _ _ (le-ltb _ _ c) ∙ if-yes _ _
+            (lt-ltb _ _ d))
 
         pub three-bytes : 0x10000 ≤ t → rowRange firstRowOfThreeByteTags rowCount ≡ rowRangeForTag t
         unfolding rowRangeForTag
-        three-bytes d = sym (if-no _ _ (le-ltb _ _ a) ∙ if-no _ _ (le-ltb _ _ b) ∙ if-no _ _ (le-ltb _ _ c) ∙ if-no _ _ (le-ltb _ _ d))
+        three-bytes d = sym (if-no _ _ (le-ltb _ _ a) ∙ if-no _ _ (le-ltb _ _ b) ∙ if-no _ _ (le-ltb _ _ c) ∙ if-no _ _
+            (le-ltb _ _ d))
 
 -- ---- a search of a part
 
@@ -185,34 +228,47 @@ module _ (t : ℕ) {p : RowRange} (e : p ≡ rowRangeForTag t) where
   stands = subst (Stands t) (sym e) (part-stands t)
 
   -- from what `search_tags` promises of every rising table
-  in-part : {x : RowFound} → ((table : List Row) → tagsOf table ≡ partTags p → risingTags table ≡ true → x ≡ findRow table t)
+  in-part : {x : RowFound} → ((table : List Row) → tagsOf table ≡ partTags p → risingTags table ≡ true
+      → x ≡ findRow table t)
       → rowFoundShifted (p .from) x ≡ findRow dictionaryRows t
   in-part h = ap (rowFoundShifted (p .from)) (h (partRows p) (stands .tags) (stands .rises)) ∙ sym (stands .finds)
 
-  pub part-known : {x : RowFound} {k : ℕ} → ((table : List Row) → tagsOf table ≡ partTags p → risingTags table ≡ true → x ≡ findRow table t)
+  pub part-known : {x : RowFound} {k : ℕ} → ((table : List Row) → tagsOf table ≡ partTags p → risingTags table ≡ true
+      → x ≡ findRow table t)
       → x ≡ At k → At (p .from + k) ≡ findRow dictionaryRows t
   unfolding rowFoundShifted
   part-known h q = sym (ap (rowFoundShifted (p .from)) q) ∙ in-part h
 
-  pub part-unknown : {x : RowFound} → ((table : List Row) → tagsOf table ≡ partTags p → risingTags table ≡ true → x ≡ findRow table t)
+  pub part-unknown : {x : RowFound} → ((table : List Row) → tagsOf table ≡ partTags p → risingTags table ≡ true
+      → x ≡ findRow table t)
       → x ≡ Unknown → Unknown ≡ findRow dictionaryRows t
   unfolding rowFoundShifted
   part-unknown h q = sym (ap (rowFoundShifted (p .from)) q) ∙ in-part h
 
   -- from the equation that it promises: the search of the part, with the places of the whole table
-  shifted : {s : SearchResult} → s ≡ halvingSearchResult (partTags p) t → record { found = rowFoundShifted (p .from) (s .found); probes = s .probes } ≡ halvingSearchResultInPart (tagsOf dictionaryRows) t
+  shifted : {s : SearchResult} → s ≡ halvingSearchResult (partTags p) t
+      → record { found = rowFoundShifted (p .from) (s .found); probes = s .probes } ≡ halvingSearchResultInPart
+      (tagsOf dictionaryRows) t
   unfolding halvingSearchResultInPart
   shifted q =
       let n = stands .numbered in
-      ap (λ (r : SearchResult). record { found = rowFoundShifted (p .from) (r .found); probes = r .probes }) (q ∙ ap (λ (l : List ℕ). halvingSearchResult l t) (sym (n .tags)))
-      ∙ ap (λ (a : ℕ). record { found = rowFoundShifted a (halvingSearchResult (tagsInPartOf (tagsOf dictionaryRows) t) t .found); probes = halvingSearchResult (tagsInPartOf (tagsOf dictionaryRows) t) t .probes }) (sym (n .start))
+      ap (λ (r : SearchResult). record { found = rowFoundShifted (p .from) (r .found); probes = r .probes })
+      (q ∙ ap (λ (l : List ℕ). halvingSearchResult l t) (sym (n .tags)))
+      ∙ ap
+      (λ (a : ℕ). record {
+        found = rowFoundShifted a (halvingSearchResult (tagsInPartOf (tagsOf dictionaryRows) t) t .found);
+        probes =
+            halvingSearchResult (tagsInPartOf (tagsOf dictionaryRows) t) t .probes;
+      }) (sym (n .start))
 
   pub halved-known : {s : SearchResult} {k : ℕ} → s ≡ halvingSearchResult (partTags p) t → s .found ≡ At k
       → record { found = At (p .from + k); probes = s .probes } ≡ halvingSearchResultInPart (tagsOf dictionaryRows) t
   unfolding rowFoundShifted
-  halved-known {s} q f = ap (λ (x : RowFound). record { found = rowFoundShifted (p .from) x; probes = s .probes }) (sym f) ∙ shifted q
+  halved-known {s} q f = ap (λ (x : RowFound). record { found = rowFoundShifted (p .from) x; probes = s .probes })
+      (sym f) ∙ shifted q
 
   pub halved-unknown : {s : SearchResult} → s ≡ halvingSearchResult (partTags p) t → s .found ≡ Unknown
       → record { found = Unknown; probes = s .probes } ≡ halvingSearchResultInPart (tagsOf dictionaryRows) t
   unfolding rowFoundShifted
-  halved-unknown {s} q f = ap (λ (x : RowFound). record { found = rowFoundShifted (p .from) x; probes = s .probes }) (sym f) ∙ shifted q
+  halved-unknown {s} q f = ap (λ (x : RowFound). record { found = rowFoundShifted (p .from) x; probes = s .probes })
+      (sym f) ∙ shifted q

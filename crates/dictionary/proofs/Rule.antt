@@ -21,7 +21,8 @@ use Rattle.dictionary.specs.Rule.{rowHasValidTagAndLengths, tagBelowNext
 
 -- this table passes its test
 pub rows-proper : tagsRiseAndRowsValid dictionaryRows ≡ true
-unfolding dictionaryRows tagsRiseAndRowsValid risingTags every both if wellFormedTag tagBytes tagSize tagSizeFromSecondByte tagSizeFromThirdByte
+unfolding dictionaryRows tagsRiseAndRowsValid risingTags every both if wellFormedTag tagBytes tagSize
+    tagSizeFromSecondByte tagSizeFromThirdByte
 rows-proper = refl
 
 -- what each row of a proper table keeps
@@ -29,7 +30,8 @@ pub record ProperRow (r : Row) : Type 0 where
   pub tag : wellFormedTag (r .tag) ≡ true
   pub lengths : r .least ≤ r .greatest
 
-pub proper-row : (table : List Row) → tagsRiseAndRowsValid table ≡ true → (k : ℕ) → k < length table → ProperRow (rowIn table k)
+pub proper-row : (table : List Row) → tagsRiseAndRowsValid table ≡ true → (k : ℕ) → k < length table
+    → ProperRow (rowIn table k)
 unfolding tagsRiseAndRowsValid
 proper-row table t k h =
     let w = at rowHasValidTagAndLengths table blankRow (both-right _ _ t) k h in
@@ -40,7 +42,8 @@ unfolding tagsRiseAndRowsValid
 proper-rising table t = both-left _ _ t
 
 -- tags rise from each row to every later one
-first-below : (t : ℕ) (rs : List Row) → tagBelowNextRow t rs ≡ true → risingTags rs ≡ true → (k : ℕ) → k < length rs → t < rowIn rs k .tag
+first-below : (t : ℕ) (rs : List Row) → tagBelowNextRow t rs ≡ true → risingTags rs ≡ true → (k : ℕ) → k < length rs
+    → t < rowIn rs k .tag
 unfolding risingTags
 first-below t [] b r k h = absurd (omega arith)
 first-below t (s ∷ ss) b r zero h = ltb-true _ _ b
@@ -49,7 +52,8 @@ first-below t (s ∷ ss) b r (suc k) h =
     let c = first-below (s .tag) ss (both-left _ _ r) (both-right _ _ r) k (omega arith) in
     omega arith
 
-pub tags-rise : (table : List Row) → risingTags table ≡ true → (j k : ℕ) → j < k → k < length table → rowIn table j .tag < rowIn table k .tag
+pub tags-rise : (table : List Row) → risingTags table ≡ true → (j k : ℕ) → j < k → k < length table
+    → rowIn table j .tag < rowIn table k .tag
 unfolding risingTags
 tags-rise [] r j k h l = absurd (omega arith)
 tags-rise (s ∷ ss) r zero zero h l = absurd (omega arith)
@@ -66,10 +70,12 @@ unfolding rowFoundShifted
 shifted n = ap At (omega arith)
 
 -- every row is found by its tag
-pub find-row : (table : List Row) → risingTags table ≡ true → (k : ℕ) → k < length table → findRow table (rowIn table k .tag) ≡ At k
+pub find-row : (table : List Row) → risingTags table ≡ true → (k : ℕ) → k < length table
+    → findRow table (rowIn table k .tag) ≡ At k
 unfolding findRow
 find-row [] r k h = absurd (omega arith)
 find-row (s ∷ ss) r zero h = if-yes (At 0) (rowFoundShifted 1 (findRow ss (s .tag))) (eq-eqb (s .tag) (s .tag) refl)
 find-row (s ∷ ss) r (suc k) h =
     let lt : s .tag < rowIn ss k .tag = tags-rise (s ∷ ss) r 0 (suc k) (omega arith) h in
-    if-no _ _ (ne-eqb (s .tag) (rowIn ss k .tag) (λ e. omega arith)) ∙ ap (rowFoundShifted 1) (find-row ss (rises-on s ss r) k (omega arith)) ∙ shifted k
+    if-no _ _ (ne-eqb (s .tag) (rowIn ss k .tag) (λ e. omega arith)) ∙ ap (rowFoundShifted 1)
+    (find-row ss (rises-on s ss r) k (omega arith)) ∙ shifted k

@@ -13,4 +13,5 @@ column f table k = List·getD-map f table k blankRow
 -- past the last row
 pub beyond : {A : Type 0} (f : Row → A) (k : ℕ) → rowCount ≤ k → f blankRow ≡ f (rowAt k)
 unfolding dictionaryRows
-beyond f k h = let l : length dictionaryRows ≤ k = omega arith in sym (ap f (List·getD-eq-default dictionaryRows blankRow l))
+beyond f k h = let l : length dictionaryRows ≤ k = omega arith in
+    sym (ap f (List·getD-eq-default dictionaryRows blankRow l))

@@ -8,7 +8,8 @@ use Prim.Native.Nat.{ℕ, _+_, _-_, _≤_, _<_}
 use native.Mathlib.Nat.{add-zero, add-assoc}
 use native.Mathlib.Numerals.{add-one}
 use native.Mathlib.Omega.{arith}
-use lib.ListN.{length, take, drop, set, replicate, length-append, length-take, length-drop, take-append-drop, drop-of-length-le, length-replicate, replicate-append-replicate}
+use lib.ListN.{length, take, drop, set, replicate, length-append, length-take, length-drop, take-append-drop}
+use lib.ListN.{drop-of-length-le, length-replicate, replicate-append-replicate}
 use lib.Seq.{take-at, drop-at, drop-drop, take-length, set-split, length-take-le, sets, sets-eq}
 use Rattle.dol.specs.Measure.{bufferWithBytesAt, bufferWithFilledDolAt}
 
@@ -41,7 +42,8 @@ module _ (b : List ℕ) (at : ℕ) (v : List ℕ) (h : at + length v ≤ length 
   over-behind n l =
       let m = n - (at + length v) in
       let e : n ≡ at + length v + m = omega arith in
-      rw (e, front-is) (sym (drop-drop m _ _) ∙ ap (drop m) (drop-at (take at b ++ v) _ _ front-length) ∙ drop-drop m _ b)
+      rw (e, front-is) (sym (drop-drop m _ _) ∙ ap (drop m) (drop-at (take at b ++ v) _ _ front-length) ∙ drop-drop m _
+      b)
 
   -- the bytes written are there
   pub over-there : take (length v) (drop at (bufferWithBytesAt b at v)) ≡ v
@@ -49,25 +51,37 @@ module _ (b : List ℕ) (at : ℕ) (v : List ℕ) (h : at + length v ≤ length 
   over-there = ap (take (length v)) (drop-at (take at b) _ at (length-take-le at b (omega arith))) ∙ take-at v _ _ refl
 
   -- concatenated
-  pub over-join : (w : List ℕ) → bufferWithBytesAt (bufferWithBytesAt b at v) (at + length v) w ≡ bufferWithBytesAt b at (v ++ w)
+  pub over-join : (w : List ℕ) → bufferWithBytesAt (bufferWithBytesAt b at v) (at + length v) w ≡ bufferWithBytesAt b at
+      (v ++ w)
   unfolding bufferWithBytesAt
   over-join w =
       let n = at + length v in
       ap (λ (l : List ℕ). take n l ++ (w ++ drop (n + length w) l)) front-is
-      ∙ rw (take-at (take at b ++ v) (drop n b) n front-length, ← (drop-drop (length w) n ((take at b ++ v) ++ drop n b)), drop-at (take at b ++ v) (drop n b) n front-length, drop-drop, length-append, ← (add-assoc at (length v) (length w)))
+      ∙ rw (
+        take-at (take at b ++ v) (drop n b) n front-length,
+        ←
+            (drop-drop (length w) n ((take at b ++ v) ++ drop n b)),
+        drop-at (take at b ++ v) (drop n b) n front-length,
+        drop-drop,
+        length-append,
+        ← (add-assoc at (length v) (length w)),
+      )
       (simp append-assoc)
 
   -- written so in two steps
-  pub over-then : (k : ℕ) (w x y : List ℕ) → k ≡ at + length v → x ≡ bufferWithBytesAt b at v → y ≡ bufferWithBytesAt x k w → y ≡ bufferWithBytesAt b at (v ++ w)
+  pub over-then : (k : ℕ) (w x y : List ℕ) → k ≡ at + length v → x ≡ bufferWithBytesAt b at v
+      → y ≡ bufferWithBytesAt x k w → y ≡ bufferWithBytesAt b at (v ++ w)
   over-then k w x y e p q = q ∙ rw (p, e) (over-join w)
 
   -- what is written over the front, as far as those bytes or further, leaves nothing of them
-  pub over-cover : (w : List ℕ) → at + length v ≤ length w → bufferWithBytesAt (bufferWithBytesAt b at v) 0 w ≡ bufferWithBytesAt b 0 w
+  pub over-cover : (w : List ℕ) → at + length v ≤ length w → bufferWithBytesAt (bufferWithBytesAt b at v) 0 w
+      ≡ bufferWithBytesAt b 0 w
   unfolding bufferWithBytesAt
   over-cover w l = ap (λ (r : List ℕ). w ++ r) (over-behind (0 + length w) (omega arith))
 
 -- a filling that is there is written
-pub over-some : (b : List ℕ) (at : ℕ) (x : Option (List ℕ)) (v : List ℕ) → x ≡ some v → bufferWithFilledDolAt b at x ≡ bufferWithBytesAt b at v
+pub over-some : (b : List ℕ) (at : ℕ) (x : Option (List ℕ)) (v : List ℕ) → x ≡ some v
+    → bufferWithFilledDolAt b at x ≡ bufferWithBytesAt b at v
 unfolding bufferWithFilledDolAt
 over-some b at x v e = ap (bufferWithFilledDolAt b at) e
 
@@ -83,11 +97,13 @@ over-part b at v ys h p =
     rw (q, e, drop-drop (length v) at b)
 
 -- one more byte of a run
-pub repeat-more : (b : List ℕ) (at i x : ℕ) → at + i < length b → set (bufferWithBytesAt b at (replicate i x)) (at + i) x ≡ bufferWithBytesAt b at (replicate (i + 1) x)
+pub repeat-more : (b : List ℕ) (at i x : ℕ) → at + i < length b → set (bufferWithBytesAt b at (replicate i x)) (at + i)
+    x ≡ bufferWithBytesAt b at (replicate (i + 1) x)
 repeat-more b at i x h =
     let n : length (replicate i x) ≡ i = length-replicate i x in
     let l : at + length (replicate i x) ≤ length b = omega arith in
     let k : at + i < length (bufferWithBytesAt b at (replicate i x)) = rw (over-length b at _ l) h in
     let e : at + i ≡ at + length (replicate i x) = omega arith in
-    over-one (bufferWithBytesAt b at (replicate i x)) (at + i) x k ∙ ap (λ (m : ℕ). bufferWithBytesAt (bufferWithBytesAt b at (replicate i x)) m (x ∷ [])) e
+    over-one (bufferWithBytesAt b at (replicate i x)) (at + i) x k ∙ ap
+    (λ (m : ℕ). bufferWithBytesAt (bufferWithBytesAt b at (replicate i x)) m (x ∷ [])) e
     ∙ over-join b at (replicate i x) l (x ∷ []) ∙ ap (bufferWithBytesAt b at) (replicate-append-replicate i 1 x)

@@ -19,7 +19,8 @@ use Rattle.dictionary.specs.declared.RowFound.the-variants.{At, Unknown}
 use Rattle.store.specs.Place.{StoredValue, absent, present, bytesOrEmptyIfAbsent, rowOffset, rowValue}
 use Rattle.store.proofs.Laws.{storedLength, value-bytes, no-place}
 use Rattle.dol.specs.declared.DolEntry.{DolEntry}
-use Rattle.dol.specs.Filling.{zeroBytes, truncatedToLength, paddingByte, paddedToLength, fittedToLength, dolValueBytes, dolBytesOfRowFound, dolEntryBytes, dolData, dolDataIfParsed}
+use Rattle.dol.specs.Filling.{zeroBytes, truncatedToLength, paddingByte, paddedToLength, fittedToLength}
+use Rattle.dol.specs.Filling.{dolValueBytes, dolBytesOfRowFound, dolEntryBytes, dolData, dolDataIfParsed}
 
 -- ---- lists
 
@@ -61,7 +62,8 @@ unfolding paddedToLength
 padded-bytes form n v b =
     if-ind Bytes (eqb form formN) _ _
     (λ _. bytes-append (zeroBytes (n - length v)) v (bytes-run (n - length v) 0 (omega arith)) b)
-    (λ _. bytes-append v (replicate (n - length v) (paddingByte form)) b (bytes-run (n - length v) (paddingByte form) (padding-small form)))
+    (λ _. bytes-append v (replicate (n - length v) (paddingByte form)) b
+    (bytes-run (n - length v) (paddingByte form) (padding-small form)))
 
 pub fitted-bytes : (form n : ℕ) (v : List ℕ) → Bytes v → Bytes (fittedToLength form n v)
 unfolding fittedToLength
@@ -75,7 +77,8 @@ module _ (table : List Row) (store : List ℕ) (b : Bytes store) where
     | inl h ↦ subst⁻¹ Bytes (ap bytesOrEmptyIfAbsent (no-place table store k h)) bytes-nil
     | inr h ↦
         let o = rowOffset table k + 1 in
-        subst⁻¹ Bytes (value-bytes table store k h) (bytes-take (storedLength table store k) (drop o store) (bytes-drop o store b))
+        subst⁻¹ Bytes (value-bytes table store k h) (bytes-take (storedLength table store k) (drop o store)
+        (bytes-drop o store b))
   ]
 
   of-value : (form n : ℕ) (x : StoredValue) → Bytes (bytesOrEmptyIfAbsent x) → Bytes (dolValueBytes form n x)
@@ -89,12 +92,14 @@ module _ (table : List Row) (store : List ℕ) (b : Bytes store) where
   entry-bytes : (e : DolEntry) → Bytes (dolEntryBytes table store e)
   unfolding dolEntryBytes
   entry-bytes e =
-      if-ind Bytes (isTemplate (e .tag)) _ _ (λ _. bytes-run (e .asked) 0 (omega arith)) (λ _. of-found (e .asked) (findRow table (e .tag)))
+      if-ind Bytes (isTemplate (e .tag)) _ _ (λ _. bytes-run (e .asked) 0 (omega arith))
+      (λ _. of-found (e .asked) (findRow table (e .tag)))
 
   filling-bytes : (es : List DolEntry) → Bytes (dolData table store es)
   unfolding dolData
   filling-bytes [] = bytes-nil
-  filling-bytes (e ∷ es) = bytes-append (dolEntryBytes table store e) (dolData table store es) (entry-bytes e) (filling-bytes es)
+  filling-bytes (e ∷ es) = bytes-append (dolEntryBytes table store e) (dolData table store es) (entry-bytes e)
+      (filling-bytes es)
 
   pub filled-bytes : (x : Option (List DolEntry)) (v : List ℕ) → dolDataIfParsed table store x ≡ some v → Bytes v
   unfolding dolDataIfParsed

@@ -26,7 +26,8 @@ use Rattle.dol.specs.declared.DolEntryFront.{DolEntryFront}
 use Rattle.dol.specs.declared.DolEntryFront.the-variants.{Asked, Broken}
 use Rattle.dol.specs.declared.DolTotal.{DolTotal}
 use Rattle.dol.specs.declared.DolTotal.the-variants.{Total, Unfit}
-use Rattle.dol.specs.Entries.{dolEntry, dolEntryWithLength, dolEntryAt, prependDolEntry, dolEntryThenRest, dolEntriesStep, dolEntries, dolTotalLength}
+use Rattle.dol.specs.Entries.{dolEntry, dolEntryWithLength, dolEntryAt, prependDolEntry, dolEntryThenRest}
+use Rattle.dol.specs.Entries.{dolEntriesStep, dolEntries, dolTotalLength}
 use Rattle.dol.specs.Measure.{dolTotalIfAtMost255}
 
 -- ---- one entry, as the code reads it
@@ -36,7 +37,8 @@ module _ (s : List ℕ) (x : TagFront) (p : x ≡ tagAt s) where
   unfolding dolEntryAt
   entry-untagged q = rw (← p, q)
 
-  pub entry-asked : (t : Tag) → x ≡ Tagged t → t .size < length s → dolEntryAt s ≡ Asked (dolEntry (t .number) (getD s (t .size) 0)) (t .size + 1)
+  pub entry-asked : (t : Tag) → x ≡ Tagged t → t .size < length s
+      → dolEntryAt s ≡ Asked (dolEntry (t .number) (getD s (t .size) 0)) (t .size + 1)
   unfolding dolEntryAt dolEntryWithLength
   entry-asked t q h = rw (← p, q, drop-cons s (t .size) 0 h)
 
@@ -83,7 +85,8 @@ pub entry-kept : (s r : List ℕ) (e : DolEntry) (n : ℕ) → dolEntryAt s ≡ 
 entry-kept s r e n p =
     let f = entry-fits s e n p in
     entry-asked (s ++ r) _ refl (f .tag) (tag-kept s r (f .tag) (f .read)) (simp length-append (omega arith))
-    ∙ ap (λ (b : ℕ). Asked (dolEntry (f .tag .number) b) (f .tag .size + 1)) (List·getD-append s r 0 (f .tag .size) (f .inside))
+    ∙ ap (λ (b : ℕ). Asked (dolEntry (f .tag .number) b) (f .tag .size + 1))
+    (List·getD-append s r 0 (f .tag .size) (f .inside))
     ∙ sym (ap₂ Asked (f .is) (f .size))
 
 -- ---- the steps allowed do not matter
@@ -112,7 +115,8 @@ unfolding dolEntriesStep
 entries-end [] h = unroll []
 entries-end (b ∷ s) h = absurd (omega arith)
 
-at : (s : List ℕ) (x : DolEntryFront) → (length s ≡ 0 → ⊥) → dolEntryAt s ≡ x → dolEntries s ≡ dolEntryThenRest dolEntries s x
+at : (s : List ℕ) (x : DolEntryFront) → (length s ≡ 0 → ⊥) → dolEntryAt s ≡ x
+    → dolEntries s ≡ dolEntryThenRest dolEntries s x
 unfolding dolEntriesStep
 at [] x h p = absurd (h refl)
 at (b ∷ s) x h p = unroll (b ∷ s) ∙ ap (dolEntryThenRest dolEntries (b ∷ s)) p
@@ -120,10 +124,12 @@ at (b ∷ s) x h p = unroll (b ∷ s) ∙ ap (dolEntryThenRest dolEntries (b ∷
 pub entries-broken : (s : List ℕ) → (length s ≡ 0 → ⊥) → dolEntryAt s ≡ Broken → dolEntries s ≡ none
 entries-broken s h p = at s Broken h p
 
-pub entries-more : (s : List ℕ) (e : DolEntry) (n : ℕ) → dolEntryAt s ≡ Asked e n → dolEntries s ≡ prependDolEntry e (dolEntries (drop n s))
+pub entries-more : (s : List ℕ) (e : DolEntry) (n : ℕ) → dolEntryAt s ≡ Asked e n
+    → dolEntries s ≡ prependDolEntry e (dolEntries (drop n s))
 entries-more s e n p = let i = entry-inside s e n p in at s (Asked e n) (λ z. omega arith) p
 
-pub with-entry : (e : DolEntry) (x : Option (List DolEntry)) (es : List DolEntry) → x ≡ some es → prependDolEntry e x ≡ some (e ∷ es)
+pub with-entry : (e : DolEntry) (x : Option (List DolEntry)) (es : List DolEntry) → x ≡ some es
+    → prependDolEntry e x ≡ some (e ∷ es)
 unfolding prependDolEntry
 with-entry e x es p = rw p
 
@@ -132,16 +138,19 @@ with-entry e x es p = rw p
 module _
     (P : List ℕ → List DolEntry → Type 0)
     (at-end : P [] [])
-    (at-entry : (s : List ℕ) (e : DolEntry) (n : ℕ) (es : List DolEntry) → dolEntryAt s ≡ Asked e n → dolEntries (drop n s) ≡ some es → P (drop n s) es → P s (e ∷ es))
+    (at-entry : (s : List ℕ) (e : DolEntry) (n : ℕ) (es : List DolEntry) → dolEntryAt s ≡ Asked e n
+    → dolEntries (drop n s) ≡ some es → P (drop n s) es → P s (e ∷ es))
   where
     Holds : List ℕ → Type 0
     Holds s = (es : List DolEntry) → dolEntries s ≡ some es → P s es
 
-    module _ (s : List ℕ) (before : (v : List ℕ) → length v < length s → Holds v) (es : List DolEntry) (p : dolEntries s ≡ some es) where
+    module _ (s : List ℕ) (before : (v : List ℕ) → length v < length s → Holds v) (es : List DolEntry)
+        (p : dolEntries s ≡ some es) where
       never : dolEntries s ≡ none → P s es
       never q = let z : _≡_ {A = ℕ} 0 1 = cc in absurd (omega arith)
 
-      of-entry : (e : DolEntry) (n : ℕ) → dolEntryAt s ≡ Asked e n → (x : Option (List DolEntry)) → dolEntries (drop n s) ≡ x → P s es
+      of-entry : (e : DolEntry) (n : ℕ) → dolEntryAt s ≡ Asked e n → (x : Option (List DolEntry))
+          → dolEntries (drop n s) ≡ x → P s es
       unfolding prependDolEntry Holds
       of-entry e n q none r = never (entries-more s e n q ∙ rw r)
       of-entry e n q (some fs) r =
@@ -164,7 +173,8 @@ module _
 
 -- ---- one list after another
 
-pub entries-join : (s t : List ℕ) (es fs : List DolEntry) → dolEntries s ≡ some es → dolEntries t ≡ some fs → dolEntries (s ++ t) ≡ some (es ++ fs)
+pub entries-join : (s t : List ℕ) (es fs : List DolEntry) → dolEntries s ≡ some es → dolEntries t ≡ some fs
+    → dolEntries (s ++ t) ≡ some (es ++ fs)
 entries-join s t es fs p q =
     entries-ind (λ s es. dolEntries (s ++ t) ≡ some (es ++ fs)) q
     (λ s e n es r k h.
@@ -181,7 +191,8 @@ measuredFrom n (some es) = if (leb (n + dolTotalLength es) 255) (Total (n + dolT
 pub measured-from : (x : Option (List DolEntry)) → dolTotalIfAtMost255 x ≡ measuredFrom 0 x
 unfolding dolTotalIfAtMost255 measuredFrom
 measured-from none = refl
-measured-from (some es) = let e : dolTotalLength es ≡ 0 + dolTotalLength es = omega arith in ap (λ (n : ℕ). if (leb n 255) (Total n) Unfit) e
+measured-from (some es) = let e : dolTotalLength es ≡ 0 + dolTotalLength es = omega arith in
+    ap (λ (n : ℕ). if (leb n 255) (Total n) Unfit) e
 
 module _ (n : ℕ) (s : List ℕ) where
   pub measured-end : length s ≡ 0 → n ≤ 255 → measuredFrom n (dolEntries s) ≡ Total n
@@ -194,7 +205,8 @@ module _ (n : ℕ) (s : List ℕ) where
   unfolding measuredFrom
   measured-broken h p = ap (measuredFrom n) (entries-broken s h p)
 
-  pub measured-more : (e : DolEntry) (k : ℕ) → dolEntryAt s ≡ Asked e k → measuredFrom n (dolEntries s) ≡ measuredFrom (n + e .asked) (dolEntries (drop k s))
+  pub measured-more : (e : DolEntry) (k : ℕ) → dolEntryAt s ≡ Asked e k → measuredFrom n (dolEntries s)
+      ≡ measuredFrom (n + e .asked) (dolEntries (drop k s))
   unfolding prependDolEntry dolTotalLength measuredFrom
   measured-more e k p = ap (measuredFrom n) (entries-more s e k p) ∙ go (dolEntries (drop k s))
     where

@@ -8,47 +8,57 @@ use Rattle.basics.specs.Number.{appendBigEndianBytes}
 use Rattle.tlv.specs.Tag.{tagSize, tagSizeFromSecondByte, tagSizeFromThirdByte, tagAt}
 use Rattle.dictionary.specs.Rows.{formB, formN, formCn}
 use Rattle.store.specs.Place.{absent, present}
-use Rattle.dol.specs.Entries.{dolEntry, dolEntryWithLength, dolEntryAt, prependDolEntry, dolEntriesStep, dolEntries}
+use Rattle.dol.specs.Entries.{dolEntry, dolEntryWithLength, dolEntryAt, prependDolEntry, dolEntriesStep}
+use Rattle.dol.specs.Entries.{dolEntries}
 use Rattle.dol.specs.Filling.{truncatedToLength, paddingByte, paddedToLength, fittedToLength, dolValueBytes}
 
 -- ---- lists
 
 -- two entries, tags of two bytes and of one
 pub two-entries : dolEntries (0x9F ∷ 0x02 ∷ 6 ∷ 0x95 ∷ 5 ∷ []) ≡ some (dolEntry 0x9F02 6 ∷ dolEntry 0x95 5 ∷ [])
-unfolding dolEntries recurseWithFuelFromLength recurseWithFuel dolEntriesStep dolEntryAt dolEntryWithLength prependDolEntry tagAt tagSize tagSizeFromSecondByte tagSizeFromThirdByte appendBigEndianBytes if
+unfolding dolEntries recurseWithFuelFromLength recurseWithFuel dolEntriesStep dolEntryAt dolEntryWithLength
+    prependDolEntry tagAt tagSize tagSizeFromSecondByte tagSizeFromThirdByte appendBigEndianBytes if
 two-entries = refl
 
 -- a tag of three bytes
 pub three-bytes : dolEntries (0xDF ∷ 0x81 ∷ 0x23 ∷ 3 ∷ []) ≡ some (dolEntry 0xDF8123 3 ∷ [])
-unfolding dolEntries recurseWithFuelFromLength recurseWithFuel dolEntriesStep dolEntryAt dolEntryWithLength prependDolEntry tagAt tagSize tagSizeFromSecondByte tagSizeFromThirdByte appendBigEndianBytes if
+unfolding dolEntries recurseWithFuelFromLength recurseWithFuel dolEntriesStep dolEntryAt dolEntryWithLength
+    prependDolEntry tagAt tagSize tagSizeFromSecondByte tagSizeFromThirdByte appendBigEndianBytes if
 three-bytes = refl
 
 -- one length byte, and no long form
 pub plain-length : dolEntries (0x95 ∷ 0x81 ∷ []) ≡ some (dolEntry 0x95 129 ∷ [])
-unfolding dolEntries recurseWithFuelFromLength recurseWithFuel dolEntriesStep dolEntryAt dolEntryWithLength prependDolEntry tagAt tagSize tagSizeFromSecondByte tagSizeFromThirdByte appendBigEndianBytes if
+unfolding dolEntries recurseWithFuelFromLength recurseWithFuel dolEntriesStep dolEntryAt dolEntryWithLength
+    prependDolEntry tagAt tagSize tagSizeFromSecondByte tagSizeFromThirdByte appendBigEndianBytes if
 plain-length = refl
 
 -- broken: a first byte 00, a second byte 80, an end inside a tag, an end before the length
 pub first-00 : dolEntries (0 ∷ 0 ∷ []) ≡ none
-unfolding dolEntries recurseWithFuelFromLength recurseWithFuel dolEntriesStep dolEntryAt dolEntryWithLength prependDolEntry tagAt tagSize tagSizeFromSecondByte tagSizeFromThirdByte appendBigEndianBytes if
+unfolding dolEntries recurseWithFuelFromLength recurseWithFuel dolEntriesStep dolEntryAt dolEntryWithLength
+    prependDolEntry tagAt tagSize tagSizeFromSecondByte tagSizeFromThirdByte appendBigEndianBytes if
 first-00 = refl
 
 pub second-80 : dolEntries (0x9F ∷ 0x80 ∷ 2 ∷ []) ≡ none
-unfolding dolEntries recurseWithFuelFromLength recurseWithFuel dolEntriesStep dolEntryAt dolEntryWithLength prependDolEntry tagAt tagSize tagSizeFromSecondByte tagSizeFromThirdByte appendBigEndianBytes if
+unfolding dolEntries recurseWithFuelFromLength recurseWithFuel dolEntriesStep dolEntryAt dolEntryWithLength
+    prependDolEntry tagAt tagSize tagSizeFromSecondByte tagSizeFromThirdByte appendBigEndianBytes if
 second-80 = refl
 
 pub half-a-tag : dolEntries (0x95 ∷ 5 ∷ 0x9F ∷ []) ≡ none
-unfolding dolEntries recurseWithFuelFromLength recurseWithFuel dolEntriesStep dolEntryAt dolEntryWithLength prependDolEntry tagAt tagSize tagSizeFromSecondByte tagSizeFromThirdByte appendBigEndianBytes if
+unfolding dolEntries recurseWithFuelFromLength recurseWithFuel dolEntriesStep dolEntryAt dolEntryWithLength
+    prependDolEntry tagAt tagSize tagSizeFromSecondByte tagSizeFromThirdByte appendBigEndianBytes if
 half-a-tag = refl
 
 pub no-length : dolEntries (0x9F ∷ 0x02 ∷ []) ≡ none
-unfolding dolEntries recurseWithFuelFromLength recurseWithFuel dolEntriesStep dolEntryAt dolEntryWithLength prependDolEntry tagAt tagSize tagSizeFromSecondByte tagSizeFromThirdByte appendBigEndianBytes if
+unfolding dolEntries recurseWithFuelFromLength recurseWithFuel dolEntriesStep dolEntryAt dolEntryWithLength
+    prependDolEntry tagAt tagSize tagSizeFromSecondByte tagSizeFromThirdByte appendBigEndianBytes if
 no-length = refl
 
 -- padding before the first tag, after the last length and between two entries
-pub padding-around : map dolEntries ((0 ∷ 0x9F ∷ 0x02 ∷ 6 ∷ []) ∷ (0x9F ∷ 0x02 ∷ 6 ∷ 0 ∷ []) ∷ (0 ∷ 0x95 ∷ 5 ∷ []) ∷ (0x95 ∷ 5 ∷ 0 ∷ []) ∷ (0x9F ∷ 0x02 ∷ 6 ∷ 0 ∷ 0x95 ∷ 5 ∷ []) ∷ [])
+pub padding-around : map dolEntries ((0 ∷ 0x9F ∷ 0x02 ∷ 6 ∷ []) ∷ (0x9F ∷ 0x02 ∷ 6 ∷ 0 ∷ []) ∷ (0 ∷ 0x95 ∷ 5 ∷ [])
+    ∷ (0x95 ∷ 5 ∷ 0 ∷ []) ∷ (0x9F ∷ 0x02 ∷ 6 ∷ 0 ∷ 0x95 ∷ 5 ∷ []) ∷ [])
     ≡ none ∷ none ∷ none ∷ none ∷ none ∷ []
-unfolding dolEntries recurseWithFuelFromLength recurseWithFuel dolEntriesStep dolEntryAt dolEntryWithLength prependDolEntry tagAt tagSize tagSizeFromSecondByte tagSizeFromThirdByte appendBigEndianBytes if
+unfolding dolEntries recurseWithFuelFromLength recurseWithFuel dolEntriesStep dolEntryAt dolEntryWithLength
+    prependDolEntry tagAt tagSize tagSizeFromSecondByte tagSizeFromThirdByte appendBigEndianBytes if
 padding-around = refl
 
 -- ---- values

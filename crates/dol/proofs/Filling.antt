@@ -16,7 +16,8 @@ use Rattle.dictionary.specs.declared.RowFound.the-variants.{At, Unknown}
 use Rattle.store.specs.Place.{StoredValue, absent, present, bytesOrEmptyIfAbsent, isPresent, rowValue}
 use Rattle.dol.specs.declared.DolEntry.{DolEntry}
 use Rattle.dol.specs.Entries.{dolEntries, dolTotalLength}
-use Rattle.dol.specs.Filling.{zeroBytes, fittedToLength, dolValueBytes, dolBytesOfRowFound, dolEntryBytes, dolData, dolDataIfParsed, dolFilled}
+use Rattle.dol.specs.Filling.{zeroBytes, fittedToLength, dolValueBytes, dolBytesOfRowFound, dolEntryBytes}
+use Rattle.dol.specs.Filling.{dolData, dolDataIfParsed, dolFilled}
 use Rattle.dol.proofs.Fitting.{fitted-length}
 use Rattle.dol.proofs.Entries.{entries-end, entries-join}
 
@@ -27,30 +28,39 @@ module _ (table : List Row) (store : List ℕ) (e : DolEntry) where
   unfolding dolEntryBytes
   of-template t = if-yes _ _ t
 
-  of-primitive : (x : RowFound) → isTemplate (e .tag) ≡ false → findRow table (e .tag) ≡ x → dolEntryBytes table store e ≡ dolBytesOfRowFound table store (e .asked) x
+  of-primitive : (x : RowFound) → isTemplate (e .tag) ≡ false → findRow table (e .tag) ≡ x
+      → dolEntryBytes table store e ≡ dolBytesOfRowFound table store (e .asked) x
   unfolding dolEntryBytes
   of-primitive x t p = if-no _ _ t ∙ ap (dolBytesOfRowFound table store (e .asked)) p
 
-  pub of-unknown : isTemplate (e .tag) ≡ false → findRow table (e .tag) ≡ Unknown → dolEntryBytes table store e ≡ zeroBytes (e .asked)
+  pub of-unknown : isTemplate (e .tag) ≡ false → findRow table (e .tag) ≡ Unknown
+      → dolEntryBytes table store e ≡ zeroBytes (e .asked)
   of-unknown t p = of-primitive Unknown t p
 
   module _ (k : ℕ) (t : isTemplate (e .tag) ≡ false) (p : findRow table (e .tag) ≡ At k) where
-    by-value : (x : StoredValue) → rowValue table store k ≡ x → dolEntryBytes table store e ≡ dolValueBytes (rowIn table k .form) (e .asked) x
+    by-value : (x : StoredValue) → rowValue table store k ≡ x
+        → dolEntryBytes table store e ≡ dolValueBytes (rowIn table k .form) (e .asked) x
     by-value x q = of-primitive (At k) t p ∙ ap (dolValueBytes (rowIn table k .form) (e .asked)) q
 
     pub of-absent : isPresent (rowValue table store k) ≡ false → dolEntryBytes table store e ≡ zeroBytes (e .asked)
     of-absent q = go (rowValue table store k) refl q
       where
-        go : (x : StoredValue) → rowValue table store k ≡ x → isPresent x ≡ false → dolEntryBytes table store e ≡ zeroBytes (e .asked)
+        go : (x : StoredValue) → rowValue table store k ≡ x → isPresent x ≡ false
+            → dolEntryBytes table store e ≡ zeroBytes (e .asked)
         go absent r a = by-value absent r
         go (present v) r a = cc
 
-    pub of-present : isPresent (rowValue table store k) ≡ true → dolEntryBytes table store e ≡ fittedToLength (rowIn table k .form) (e .asked) (bytesOrEmptyIfAbsent (rowValue table store k))
+    pub of-present : isPresent (rowValue table store k) ≡ true
+        → dolEntryBytes table store e ≡ fittedToLength (rowIn table k .form) (e .asked)
+        (bytesOrEmptyIfAbsent (rowValue table store k))
     of-present q = go (rowValue table store k) refl q
       where
-        go : (x : StoredValue) → rowValue table store k ≡ x → isPresent x ≡ true → dolEntryBytes table store e ≡ fittedToLength (rowIn table k .form) (e .asked) (bytesOrEmptyIfAbsent (rowValue table store k))
+        go : (x : StoredValue) → rowValue table store k ≡ x → isPresent x ≡ true
+            → dolEntryBytes table store e ≡ fittedToLength (rowIn table k .form) (e .asked)
+            (bytesOrEmptyIfAbsent (rowValue table store k))
         go absent r a = cc
-        go (present v) r a = by-value (present v) r ∙ ap (λ (x : StoredValue). fittedToLength (rowIn table k .form) (e .asked) (bytesOrEmptyIfAbsent x)) (sym r)
+        go (present v) r a = by-value (present v) r ∙ ap (λ (x : StoredValue). fittedToLength (rowIn table k .form)
+            (e .asked) (bytesOrEmptyIfAbsent x)) (sym r)
 
 -- ---- lengths
 
@@ -78,28 +88,34 @@ module _ (table : List Row) (store : List ℕ) where
 
   -- ---- one list after another
 
-  pub filling-join : (es fs : List DolEntry) → dolData table store (es ++ fs) ≡ dolData table store es ++ dolData table store fs
+  pub filling-join : (es fs : List DolEntry) → dolData table store (es ++ fs) ≡ dolData table store es
+      ++ dolData table store fs
   unfolding dolData
   filling-join [] fs = refl
   filling-join (e ∷ es) fs =
-      ap (λ (r : List ℕ). dolEntryBytes table store e ++ r) (filling-join es fs) ∙ sym (append-assoc (dolEntryBytes table store e) _ _)
+      ap (λ (r : List ℕ). dolEntryBytes table store e ++ r) (filling-join es fs) ∙ sym
+      (append-assoc (dolEntryBytes table store e) _ _)
 
-  pub filled-some : (x : Option (List DolEntry)) (es : List DolEntry) → x ≡ some es → dolDataIfParsed table store x ≡ some (dolData table store es)
+  pub filled-some : (x : Option (List DolEntry)) (es : List DolEntry) → x ≡ some es → dolDataIfParsed table store x
+      ≡ some (dolData table store es)
   unfolding dolDataIfParsed
   filled-some x es p = rw p
 
   -- where a filling is, there are its entries
-  filled-entries : (x : Option (List DolEntry)) (v : List ℕ) → dolDataIfParsed table store x ≡ some v → (es : List DolEntry) × (x ≡ some es) × (dolData table store es ≡ v)
+  filled-entries : (x : Option (List DolEntry)) (v : List ℕ) → dolDataIfParsed table store x ≡ some v
+      → (es : List DolEntry) × (x ≡ some es) × (dolData table store es ≡ v)
   unfolding dolDataIfParsed
   filled-entries none v p = let z : _≡_ {A = ℕ} 0 1 = cc in absurd (omega arith)
   filled-entries (some es) v p = let e : dolData table store es ≡ v = cc in (es, refl, e)
 
   -- the filling of two whole lists concatenated is their fillings concatenated
-  pub filled-join : (s t v w : List ℕ) → dolFilled table store s ≡ some v → dolFilled table store t ≡ some w → dolFilled table store (s ++ t) ≡ some (v ++ w)
+  pub filled-join : (s t v w : List ℕ) → dolFilled table store s ≡ some v → dolFilled table store t ≡ some w
+      → dolFilled table store (s ++ t) ≡ some (v ++ w)
   filled-join s t v w p q =
       let a = filled-entries (dolEntries s) v p in
       let b = filled-entries (dolEntries t) w q in
-      filled-some _ _ (entries-join s t (a .0) (b .0) (a .1) (b .1)) ∙ ap some (filling-join (a .0) (b .0) ∙ ap₂ _++_ (a .2) (b .2))
+      filled-some _ _ (entries-join s t (a .0) (b .0) (a .1) (b .1)) ∙ ap some
+      (filling-join (a .0) (b .0) ∙ ap₂ _++_ (a .2) (b .2))
 
   -- nothing is requested, nothing is filled
   pub filled-nothing : dolFilled table store [] ≡ some []

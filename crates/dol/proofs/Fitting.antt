@@ -8,7 +8,8 @@ use Prim.Native.Nat.{ℕ, _+_, _-_, _≤_, _<_}
 use native.Mathlib.Nat.{le-refl}
 use native.Mathlib.Omega.{arith}
 use lib.Dec.{eqb}
-use lib.ListN.{length, take, drop, replicate, length-append, length-take, length-drop, length-replicate, replicate-append-replicate}
+use lib.ListN.{length, take, drop, replicate, length-append, length-take, length-drop, length-replicate}
+use lib.ListN.{replicate-append-replicate}
 use lib.Seq.{take-length}
 use borrow.Author.Tests.{le-leb, lt-leb, eq-eqb, ne-eqb, eqb-true, eqb-false}
 use Rattle.basics.proofs.Laws.{if-yes, if-no, if-ind, bool-cases}
@@ -47,7 +48,8 @@ module _ (form n : ℕ) (v : List ℕ) where
   unfolding paddedToLength
   padded-length h =
       if-ind (λ (l : List ℕ). length l ≡ n) (eqb form formN) _ _
-      (λ _. simp (length-append, length-replicate) (omega arith)) (λ _. simp (length-append, length-replicate) (omega arith))
+      (λ _. simp (length-append, length-replicate) (omega arith))
+      (λ _. simp (length-append, length-replicate) (omega arith))
 
   -- a value that is long enough is truncated, one that is short is padded
   pub fitted-cut : n ≤ length v → fittedToLength form n v ≡ truncatedToLength form n v
@@ -86,7 +88,8 @@ module _ (form : ℕ) (v : List ℕ) where
 -- a value that is not too long is padded: at its own length that changes nothing
 pub fitted-padded : (form n : ℕ) (v : List ℕ) → length v ≤ n → fittedToLength form n v ≡ paddedToLength form n v
 fitted-padded form n v h = elim (le-or-gt n (length v)) [
-  | inl k ↦ let e : n ≡ length v = omega arith in ap (λ (m : ℕ). fittedToLength form m v) e ∙ fitted-own form v ∙ sym (ap (λ (m : ℕ). paddedToLength form m v) e ∙ padded-own form v)
+  | inl k ↦ let e : n ≡ length v = omega arith in ap (λ (m : ℕ). fittedToLength form m v) e ∙ fitted-own form v ∙ sym
+      (ap (λ (m : ℕ). paddedToLength form m v) e ∙ padded-own form v)
   | inr k ↦ fitted-short form n v k
 ]
 
@@ -111,13 +114,16 @@ module _ (form m n : ℕ) (v : List ℕ) (h : length v ≤ m) (k : m ≤ n) wher
         | inr f ↦ of-other l (eqb-false form formN f)
       ]
     where
-      of-n : length (paddedToLength form m v) ≡ m → form ≡ formN → paddedToLength form n (paddedToLength form m v) ≡ paddedToLength form n v
+      of-n : length (paddedToLength form m v) ≡ m → form ≡ formN → paddedToLength form n (paddedToLength form m v)
+          ≡ paddedToLength form n v
       of-n l e =
           padded-n form n (paddedToLength form m v) e ∙ rw l
-          (ap (λ (w : List ℕ). zeroBytes (n - m) ++ w) (padded-n form m v e) ∙ sym (append-assoc (zeroBytes (n - m)) (zeroBytes (m - length v)) v)
+          (ap (λ (w : List ℕ). zeroBytes (n - m) ++ w) (padded-n form m v e) ∙ sym
+          (append-assoc (zeroBytes (n - m)) (zeroBytes (m - length v)) v)
           ∙ ap (λ (w : List ℕ). w ++ v) (gap 0) ∙ sym (padded-n form n v e))
 
-      of-other : length (paddedToLength form m v) ≡ m → (form ≡ formN → ⊥) → paddedToLength form n (paddedToLength form m v) ≡ paddedToLength form n v
+      of-other : length (paddedToLength form m v) ≡ m → (form ≡ formN → ⊥)
+          → paddedToLength form n (paddedToLength form m v) ≡ paddedToLength form n v
       of-other l e =
           padded-other form n (paddedToLength form m v) e ∙ rw l
           (ap (λ (w : List ℕ). w ++ replicate (n - m) (paddingByte form)) (padded-other form m v e)
@@ -128,4 +134,5 @@ module _ (form m n : ℕ) (v : List ℕ) (h : length v ≤ m) (k : m ≤ n) wher
   pub fitted-twice : fittedToLength form n (fittedToLength form m v) ≡ fittedToLength form n v
   fitted-twice =
       let l : length (paddedToLength form m v) ≤ n = omega (arith, padded-length form m v h) in
-      ap (fittedToLength form n) (fitted-padded form m v h) ∙ fitted-padded form n (paddedToLength form m v) l ∙ padded-twice ∙ sym (fitted-padded form n v (omega arith))
+      ap (fittedToLength form n) (fitted-padded form m v h) ∙ fitted-padded form n (paddedToLength form m v) l ∙
+      padded-twice ∙ sym (fitted-padded form n v (omega arith))

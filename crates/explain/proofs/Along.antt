@@ -21,4 +21,7 @@ toldAlong s = explanationWord (if (rangesAlong s) (explanationInPhase (s .phase)
 
 pub told-along : (ss : List Session) (words : List ℕ) → map toldAlong ss ≡ words → told ss ≡ words
 unfolding told explanationOf
-told-along ss words e = (λ i. map (λ s. explanationWord (if (ranges-along s i) (explanationInPhase (s .phase) (storeBytes s)) Explanation.Refused)) ss) ∙ e
+told-along ss words e =
+    (λ i. map
+    (λ s. explanationWord (if (ranges-along s i) (explanationInPhase (s .phase) (storeBytes s)) Explanation.Refused))
+    ss) ∙ e

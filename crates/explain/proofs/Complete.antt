@@ -19,7 +19,8 @@ use Rattle.dictionary.specs.Rows.{dictionaryRows}
 use Rattle.dictionary.specs.TerminalType.{listedTerminalType}
 use Rattle.dictionary.proofs.Named.{at-DF8120, at-DF8121, at-DF8122}
 use Rattle.store.specs.Held.{hasObject, storedByte}
-use Rattle.analysis.specs.Choice.{lowestTvrBitInCodes, onlineCapabilityByDigit, onlineCapabilityOfType, someTvrBitInCodesOfStage, denialStage, generateAcP1}
+use Rattle.analysis.specs.Choice.{lowestTvrBitInCodes, onlineCapabilityByDigit, onlineCapabilityOfType}
+use Rattle.analysis.specs.Choice.{someTvrBitInCodesOfStage, denialStage, generateAcP1}
 use Rattle.analysis.specs.Action.{terminalType, actionCodesOf}
 use Rattle.analysis.specs.declared.choice.OnlineCapability.{OnlineCapability}
 use Rattle.analysis.specs.declared.choice.LowestBit.{LowestBit}
@@ -37,7 +38,12 @@ use Rattle.session.specs.Answer.{outcomeForCryptogramType}
 use Rattle.explain.specs.declared.Stage.{Stage}
 use Rattle.explain.specs.declared.DecidingStage.{DecidingStage}
 use Rattle.explain.specs.declared.Explanation.{Explanation}
-use Rattle.explain.specs.Explain.{storedTvr, recomputedChoice, decidingStageByDenialBit, decidingStageIn, tagsNeededByStage, stageIfItsDataPresent, decidingStageIfItsDataPresent, actionCodesOfStage, explanationByBit, explanationAtStage, explanationAwaitingCryptogram, storedCryptogramType, isDecisionOutcome, explanationOfDecision, explanationOfEnding, aipIndicatesMagStripe, explanationOfEndingByMode, explanationInPhase, explanationOf}
+use Rattle.explain.specs.Explain.{storedTvr, recomputedChoice, decidingStageByDenialBit, decidingStageIn}
+use Rattle.explain.specs.Explain.{tagsNeededByStage, stageIfItsDataPresent, decidingStageIfItsDataPresent}
+use Rattle.explain.specs.Explain.{actionCodesOfStage, explanationByBit, explanationAtStage}
+use Rattle.explain.specs.Explain.{explanationAwaitingCryptogram, storedCryptogramType, isDecisionOutcome}
+use Rattle.explain.specs.Explain.{explanationOfDecision, explanationOfEnding, aipIndicatesMagStripe}
+use Rattle.explain.specs.Explain.{explanationOfEndingByMode, explanationInPhase, explanationOf}
 use Rattle.explain.specs.Promise.{StoredCryptogramDecidesOutcome}
 use Rattle.explain.proofs.Laws.{ended-reason, by-reason, by-mag-stripe, by-choice}
 
@@ -71,10 +77,12 @@ digit t e = go (bool-cases (between 0x11 t 0x16)) (bool-cases (between 0x21 t 0x
     low : (a z : ℕ) → between a t z ≡ true → (a ≤ t) × (t ≤ z)
     low a z h = (leb-true a t (both-left _ _ h), leb-true t z (both-right _ _ h))
 
-    go : (between 0x11 t 0x16 ≡ true) ⊎ (between 0x11 t 0x16 ≡ false) → (between 0x21 t 0x26 ≡ true) ⊎ (between 0x21 t 0x26 ≡ false) → (1 ≤ t % 16) × (t % 16 ≤ 6)
+    go : (between 0x11 t 0x16 ≡ true) ⊎ (between 0x11 t 0x16 ≡ false)
+        → (between 0x21 t 0x26 ≡ true) ⊎ (between 0x21 t 0x26 ≡ false) → (1 ≤ t % 16) × (t % 16 ≤ 6)
     go (inl y) w = let h = low 0x11 0x16 y in (omega arith, omega arith)
     go (inr n) (inl y) = let h = low 0x21 0x26 y in (omega arith, omega arith)
-    go (inr n) (inr m) = let h = low 0x34 0x36 (sym (either-false _ n ∙ either-false _ m) ∙ e) in (omega arith, omega arith)
+    go (inr n) (inr m) = let h = low 0x34 0x36 (sym (either-false _ n ∙ either-false _ m) ∙ e) in
+        (omega arith, omega arith)
 
 capable : (x : ℕ) → 1 ≤ x → x ≤ 6 → onlineCapabilityByDigit x ≡ OnlineCapability.Unlisted → ⊥
 unfolding onlineCapabilityByDigit if either
@@ -97,14 +105,18 @@ module _ (b : List ℕ) (w : Complete b) where
   unfolding every
   all-there Stage.Denial = both-yes _ _ (w .results) (both-yes _ _ (w .denial-code) refl)
   all-there Stage.OnlineOnly = both-yes _ _ (w .results) (both-yes _ _ (w .denial-code) refl)
-  all-there Stage.Default = both-yes _ _ (w .results) (both-yes _ _ (w .denial-code) (both-yes _ _ (w .default-code) refl))
-  all-there Stage.Online = both-yes _ _ (w .results) (both-yes _ _ (w .denial-code) (both-yes _ _ (w .online-code) refl))
+  all-there Stage.Default = both-yes _ _ (w .results)
+      (both-yes _ _ (w .denial-code) (both-yes _ _ (w .default-code) refl))
+  all-there Stage.Online = both-yes _ _ (w .results)
+      (both-yes _ _ (w .denial-code) (both-yes _ _ (w .online-code) refl))
 
   some-stage : decidingStageIn b ≡ DecidingStage.Nothing → ⊥
   unfolding decidingStageIn
-  some-stage = go (onlineCapabilityOfType (terminalType b)) (someTvrBitInCodesOfStage (storedTvr b) (actionCodesOf b) denialStage) (listed-capable (terminalType b) (w .terminal))
+  some-stage = go (onlineCapabilityOfType (terminalType b)) (someTvrBitInCodesOfStage (storedTvr b) (actionCodesOf b)
+      denialStage) (listed-capable (terminalType b) (w .terminal))
     where
-      go : (r : OnlineCapability) (h : Bool) → (r ≡ OnlineCapability.Unlisted → ⊥) → decidingStageByDenialBit r h ≡ DecidingStage.Nothing → ⊥
+      go : (r : OnlineCapability) (h : Bool) → (r ≡ OnlineCapability.Unlisted → ⊥)
+          → decidingStageByDenialBit r h ≡ DecidingStage.Nothing → ⊥
       go r true n e = let z : _≡_ {A = ℕ} 0 1 = cc in omega arith
       go OnlineCapability.OnlineOnly false n e = let z : _≡_ {A = ℕ} 0 1 = cc in omega arith
       go OnlineCapability.OnlineCapable false n e = let z : _≡_ {A = ℕ} 0 1 = cc in omega arith
@@ -117,7 +129,8 @@ module _ (b : List ℕ) (w : Complete b) where
     where
       go : (d : DecidingStage) → (d ≡ DecidingStage.Nothing → ⊥) → stageIfItsDataPresent b d ≡ DecidingStage.Nothing → ⊥
       go DecidingStage.Nothing n e = n refl
-      go (DecidingStage.At stage) n e = let z : DecidingStage.At stage ≡ DecidingStage.Nothing = sym (if-yes _ _ (all-there stage)) ∙ e in n z
+      go (DecidingStage.At stage) n e = let z : DecidingStage.At stage ≡ DecidingStage.Nothing =
+          sym (if-yes _ _ (all-there stage)) ∙ e in n z
 
 -- what a stage reports is no refusal
 says : (b : List ℕ) (stage : Stage) → explanationAtStage b stage ≡ Explanation.Refused → ⊥
@@ -132,19 +145,24 @@ says b stage = go (lowestTvrBitInCodes (storedTvr b) (actionCodesOfStage b stage
 
 module _ (b : List ℕ) (w : Complete b) where
   -- waiting on the cryptogram with the choice of the store
-  pub waiting-answers : (a : RequestedCryptogram) → a .choice ≡ recomputedChoice b → explanationAwaitingCryptogram a b (decidingStageIfItsDataPresent b) ≡ Explanation.Refused → ⊥
+  pub waiting-answers : (a : RequestedCryptogram) → a .choice ≡ recomputedChoice b
+      → explanationAwaitingCryptogram a b (decidingStageIfItsDataPresent b) ≡ Explanation.Refused → ⊥
   waiting-answers a c = go (decidingStageIfItsDataPresent b) (decides b w)
     where
-      go : (d : DecidingStage) → (d ≡ DecidingStage.Nothing → ⊥) → explanationAwaitingCryptogram a b d ≡ Explanation.Refused → ⊥
+      go : (d : DecidingStage) → (d ≡ DecidingStage.Nothing → ⊥) → explanationAwaitingCryptogram a b d
+          ≡ Explanation.Refused → ⊥
       go DecidingStage.Nothing n e = n refl
       go (DecidingStage.At stage) n e = says b stage (sym (if-yes _ _ (eq-eqb _ _ (ap generateAcP1 c))) ∙ e)
 
   -- ended with the outcome that the cryptogram gives on it
-  pub decided-answers : (x : Ending) → hasObject b 0x9F27 ≡ true → StoredCryptogramDecidesOutcome b (x .outcome) → explanationOfDecision x b (decidingStageIfItsDataPresent b) ≡ Explanation.Refused → ⊥
+  pub decided-answers : (x : Ending) → hasObject b 0x9F27 ≡ true → StoredCryptogramDecidesOutcome b (x .outcome)
+      → explanationOfDecision x b (decidingStageIfItsDataPresent b) ≡ Explanation.Refused → ⊥
   decided-answers x h g = go (decidingStageIfItsDataPresent b) (decides b w)
     where
-      given : isDecisionOutcome (outcomeForCryptogramType (recomputedChoice b) (storedCryptogramType b)) (x .outcome) ≡ true
-      given = ap (λ (d : Option Outcome). isDecisionOutcome d (x .outcome)) g ∙ eq-eqb (outcomeNumber (x .outcome)) (outcomeNumber (x .outcome)) refl
+      given : isDecisionOutcome (outcomeForCryptogramType (recomputedChoice b) (storedCryptogramType b)) (x .outcome)
+          ≡ true
+      given = ap (λ (d : Option Outcome). isDecisionOutcome d (x .outcome)) g ∙ eq-eqb (outcomeNumber (x .outcome))
+          (outcomeNumber (x .outcome)) refl
 
       P : Explanation → Type 0
       P r = r ≡ Explanation.Refused → ⊥
@@ -152,24 +170,33 @@ module _ (b : List ℕ) (w : Complete b) where
       go : (d : DecidingStage) → (d ≡ DecidingStage.Nothing → ⊥) → explanationOfDecision x b d ≡ Explanation.Refused → ⊥
       go DecidingStage.Nothing n = λ e. n refl
       go (DecidingStage.At stage) n =
-          if-ind P _ _ _ (λ t e. (let z : _≡_ {A = Bool} false true = sym (ap not h) ∙ t in let y : _≡_ {A = ℕ} 0 1 = cc in omega arith))
-          (λ t. if-ind P _ _ _ (λ u e. (let z : _≡_ {A = Bool} false true = sym (ap not given) ∙ u in let y : _≡_ {A = ℕ} 0 1 = cc in omega arith))
+          if-ind P _ _ _ (λ t e. (let z : _≡_ {A = Bool} false true = sym (ap not h) ∙ t in let y : _≡_ {A = ℕ} 0 1 = cc
+          in omega arith))
+          (λ t. if-ind P _ _ _
+          (λ u e. (let z : _≡_ {A = Bool} false true = sym (ap not given) ∙ u in let y : _≡_ {A = ℕ} 0 1 = cc in
+          omega arith))
           (λ u. if-ind P _ _ _ (λ v e. (let z : _≡_ {A = ℕ} 0 1 = cc in omega arith)) (λ v e. says b stage e)))
 
-  pub ended-answers : (x : Ending) → x .reason ≡ reasonNone → aipIndicatesMagStripe b ≡ false → hasObject b 0x9F27 ≡ true → StoredCryptogramDecidesOutcome b (x .outcome) → explanationOfEndingByMode x b ≡ Explanation.Refused → ⊥
+  pub ended-answers : (x : Ending) → x .reason ≡ reasonNone → aipIndicatesMagStripe b ≡ false
+      → hasObject b 0x9F27 ≡ true → StoredCryptogramDecidesOutcome b (x .outcome) → explanationOfEndingByMode x b
+      ≡ Explanation.Refused → ⊥
   unfolding explanationOfEnding
   ended-answers x z m h g e = decided-answers x h g (sym (if-yes _ _ (eq-eqb _ _ z)) ∙ sym (by-choice x b m) ∙ e)
 
 -- ended with a reason
-pub reason-answers : (x : Ending) (b : List ℕ) → (x .reason ≡ reasonNone → ⊥) → explanationOfEndingByMode x b ≡ Explanation.Refused → ⊥
-reason-answers x b n e = let w = sym (by-reason x b n ∙ ended-reason x b n) ∙ e in let z : _≡_ {A = ℕ} 0 1 = cc in omega arith
+pub reason-answers : (x : Ending) (b : List ℕ) → (x .reason ≡ reasonNone → ⊥) → explanationOfEndingByMode x b
+    ≡ Explanation.Refused → ⊥
+reason-answers x b n e = let w = sym (by-reason x b n ∙ ended-reason x b n) ∙ e in let z : _≡_ {A = ℕ} 0 1 = cc in
+    omega arith
 
 -- ended in mag-stripe mode
-pub mag-stripe-answers : (x : Ending) (b : List ℕ) → x .reason ≡ reasonNone → aipIndicatesMagStripe b ≡ true → explanationOfEndingByMode x b ≡ Explanation.Refused → ⊥
+pub mag-stripe-answers : (x : Ending) (b : List ℕ) → x .reason ≡ reasonNone → aipIndicatesMagStripe b ≡ true
+    → explanationOfEndingByMode x b ≡ Explanation.Refused → ⊥
 mag-stripe-answers x b z m e = let w = sym (by-mag-stripe x b z m) ∙ e in let y : _≡_ {A = ℕ} 0 1 = cc in omega arith
 
 -- ---- a session in its ranges is what its phase says
 
-pub phase-answers : (s : Session) (p : Phase) → sessionRecordInRanges s ≡ true → s .phase ≡ p → (explanationInPhase p (storeBytes s) ≡ Explanation.Refused → ⊥) → explanationOf s ≡ Explanation.Refused → ⊥
+pub phase-answers : (s : Session) (p : Phase) → sessionRecordInRanges s ≡ true → s .phase ≡ p
+    → (explanationInPhase p (storeBytes s) ≡ Explanation.Refused → ⊥) → explanationOf s ≡ Explanation.Refused → ⊥
 unfolding explanationOf
 phase-answers s p i q n e = n (sym (if-yes _ _ i ∙ ap (λ (x : Phase). explanationInPhase x (storeBytes s)) q) ∙ e)

@@ -23,7 +23,9 @@ use Rattle.command.specs.ReadRecord.{readRecordCommand}
 use Rattle.command.specs.WithList.{proprietaryCommand, commandIfDataIs1To255Bytes, generateAc}
 use Rattle.command.proofs.Commands as list
 use Rattle.analysis.specs.Value.{firstBytesZeroPadded}
-use Rattle.analysis.specs.Choice.{tvrBitIsInEitherActionCode, lowestTvrBitInCodes, denialStage, onlineStage, defaultStage, noActionCodes, someTvrBitInCodesOfStage, onlineCapabilityOfType, generateAcP1}
+use Rattle.analysis.specs.Choice.{tvrBitIsInEitherActionCode, lowestTvrBitInCodes, denialStage, onlineStage}
+use Rattle.analysis.specs.Choice.{defaultStage, noActionCodes, someTvrBitInCodesOfStage, onlineCapabilityOfType}
+use Rattle.analysis.specs.Choice.{generateAcP1}
 use Rattle.analysis.specs.Action.{terminalType, actionCodesOf}
 use Rattle.analysis.specs.declared.choice.Choice.{Choice}
 use Rattle.analysis.specs.declared.choice.LowestBit.{LowestBit}
@@ -46,13 +48,21 @@ use Rattle.explain.specs.declared.DecidingStage.{DecidingStage}
 use Rattle.explain.specs.declared.Explanation.{Explanation}
 use Rattle.explain.specs.declared.ActionCodeHolder.{ActionCodeHolder}
 use Rattle.explain.specs.declared.Stage.{Stage}
-use Rattle.explain.specs.Explain.{storedTvr, recomputedChoice, decidingStageByDenialBit, decidingStageIn, decidingStageIfItsDataPresent, actionCodeHolderOfBit, actionCodesOfStage, explanationByBit}
-use Rattle.explain.specs.Explain.{explanationAtStage, explanationAwaitingCryptogram, rankOfCryptogramType, storedCryptogramType, requestedCryptogramType, explanationOfDecision, explanationOfEnding}
+use Rattle.explain.specs.Explain.{storedTvr, recomputedChoice, decidingStageByDenialBit, decidingStageIn}
+use Rattle.explain.specs.Explain.{decidingStageIfItsDataPresent, actionCodeHolderOfBit, actionCodesOfStage}
+use Rattle.explain.specs.Explain.{explanationByBit}
+use Rattle.explain.specs.Explain.{explanationAtStage, explanationAwaitingCryptogram, rankOfCryptogramType}
+use Rattle.explain.specs.Explain.{storedCryptogramType, requestedCryptogramType, explanationOfDecision}
+use Rattle.explain.specs.Explain.{explanationOfEnding}
 use Rattle.explain.specs.Explain.{aipIndicatesMagStripe, explanationInPhase, explanationOf}
-use Rattle.explain.specs.Promise.{choiceForcedBy, choiceUnforcedAt, ForcedChoiceExplained, UnforcedChoiceExplained, ExplanationHolds}
+use Rattle.explain.specs.Promise.{choiceForcedBy, choiceUnforcedAt, ForcedChoiceExplained, UnforcedChoiceExplained}
+use Rattle.explain.specs.Promise.{ExplanationHolds}
 use Rattle.explain.proofs.Laws.{deciding-stage, ended-reason, by-reason, by-mag-stripe, by-choice, same-p1, told}
-use Rattle.explain_claim.specs.Explained.{awaitsCryptogram, isEndedWithReasonNone, choiceMadeAndNotEndedForReason, lastCallIsFinalAcAnswerBringingIac, generateAcCommands, generateAcP1s}
-use Rattle.explain_claim.specs.Explained.{storesWhenGenerateAcSent, HoldsAtOnlyGenerateAc, tvrBitSetAndInStageCodes, StageDecides, LowestTvrBitInStageCodes, NoTvrBitInStageCodes, CauseNamesHolderOfBit}
+use Rattle.explain_claim.specs.Explained.{awaitsCryptogram, isEndedWithReasonNone, choiceMadeAndNotEndedForReason}
+use Rattle.explain_claim.specs.Explained.{lastCallIsFinalAcAnswerBringingIac, generateAcCommands, generateAcP1s}
+use Rattle.explain_claim.specs.Explained.{storesWhenGenerateAcSent, HoldsAtOnlyGenerateAc}
+use Rattle.explain_claim.specs.Explained.{tvrBitSetAndInStageCodes, StageDecides, LowestTvrBitInStageCodes}
+use Rattle.explain_claim.specs.Explained.{NoTvrBitInStageCodes, CauseNamesHolderOfBit}
 use Rattle.explain_claim.specs.Explained.{explainedChoice, explainedStage, ChoiceRankIsCryptogramRank}
 use Rattle.explain_claim.proofs.Kept.{SameTerminal, SameCard, same-choice}
 
@@ -70,7 +80,8 @@ one-rank Choice.Offline = refl
 
 -- ---- GENERATE AC among commands
 
-generate-append : (xs ys : List (List ℕ)) → generateAcCommands (xs ++ ys) ≡ generateAcCommands xs ++ generateAcCommands ys
+generate-append : (xs ys : List (List ℕ)) → generateAcCommands (xs ++ ys) ≡ generateAcCommands xs ++ generateAcCommands
+    ys
 unfolding generateAcCommands
 generate-append [] ys = refl
 generate-append (c ∷ xs) ys =
@@ -79,11 +90,13 @@ generate-append (c ∷ xs) ys =
           if-yes _ _ t ∙ ap (λ (l : List (List ℕ)). c ∷ l) (generate-append xs ys)
           ∙ sym (ap (λ (l : List (List ℕ)). l ++ generateAcCommands ys) (if-yes _ _ t))
       | inr t ↦
-          if-no _ _ t ∙ generate-append xs ys ∙ sym (ap (λ (l : List (List ℕ)). l ++ generateAcCommands ys) (if-no _ _ t))
+          if-no _ _ t ∙ generate-append xs ys ∙ sym (ap (λ (l : List (List ℕ)). l ++ generateAcCommands ys)
+          (if-no _ _ t))
     ]
 
 p1s-append : (xs ys : List (List ℕ)) → generateAcP1s (xs ++ ys) ≡ generateAcP1s xs ++ generateAcP1s ys
-p1s-append xs ys = ap (map third) (generate-append xs ys) ∙ map-append third (generateAcCommands xs) (generateAcCommands ys)
+p1s-append xs ys = ap (map third) (generate-append xs ys) ∙ map-append third (generateAcCommands xs)
+    (generateAcCommands ys)
   where
     third : List ℕ → ℕ
     third c = getD c 2 0
@@ -93,11 +106,13 @@ put-in : (x buf : List ℕ) → take (length x) (x ++ drop (length x) buf) ≡ x
 put-in x buf = take-at x (drop (length x) buf) (length x) refl
 
 module _ (x buf : List ℕ) where
-  pub not-asked : beginsWithTwoBytes 0x80 0xAE x ≡ false → generateAcCommands (take (length x) (x ++ drop (length x) buf) ∷ []) ≡ []
+  pub not-asked : beginsWithTwoBytes 0x80 0xAE x ≡ false
+      → generateAcCommands (take (length x) (x ++ drop (length x) buf) ∷ []) ≡ []
   unfolding generateAcCommands
   not-asked t = ap (λ (c : List ℕ). generateAcCommands (c ∷ [])) (put-in x buf) ∙ if-no _ _ t
 
-  pub is-asked : beginsWithTwoBytes 0x80 0xAE x ≡ true → generateAcCommands (take (length x) (x ++ drop (length x) buf) ∷ []) ≡ x ∷ []
+  pub is-asked : beginsWithTwoBytes 0x80 0xAE x ≡ true
+      → generateAcCommands (take (length x) (x ++ drop (length x) buf) ∷ []) ≡ x ∷ []
   unfolding generateAcCommands
   is-asked t = ap (λ (c : List ℕ). generateAcCommands (c ∷ [])) (put-in x buf) ∙ if-yes _ _ t
 
@@ -108,7 +123,8 @@ second (x ∷ []) a b e = ap (λ (l : List ℕ). getD l 1 0) e
 second (x ∷ y ∷ c) a b e = ap (λ (l : List ℕ). getD l 1 0) e
 
 -- of another instruction
-pub other-instruction : (ins : ℕ) (c : List ℕ) → (ins ≡ 0xAE → ⊥) → list.Proper ins c → beginsWithTwoBytes 0x80 0xAE c ≡ false
+pub other-instruction : (ins : ℕ) (c : List ℕ) → (ins ≡ 0xAE → ⊥) → list.Proper ins c → beginsWithTwoBytes 0x80 0xAE c
+    ≡ false
 other-instruction ins c n p =
     both-no-right _ _ (ne-eqb (getD c 1 0) 0xAE (λ z. n (sym (second c 0x80 ins (p .starts)) ∙ z)))
 
@@ -119,7 +135,8 @@ record-command r = both-no-left _ _ (ne-eqb 0 0x80 (λ z. omega arith))
 abbrev pub Asks : ℕ → List ℕ → Type 0
 Asks p1 c = (beginsWithTwoBytes 0x80 0xAE c ≡ true) × (getD c 2 0 ≡ p1)
 
-sent-is : (p1 : ℕ) (x : Option (List ℕ)) (c : List ℕ) → commandIfDataIs1To255Bytes (proprietaryCommand 0xAE p1 0) x ≡ some c → Asks p1 c
+sent-is : (p1 : ℕ) (x : Option (List ℕ)) (c : List ℕ) → commandIfDataIs1To255Bytes (proprietaryCommand 0xAE p1 0) x
+    ≡ some c → Asks p1 c
 unfolding commandIfDataIs1To255Bytes
 sent-is p1 none c = λ e. let z : _≡_ {A = ℕ} 0 1 = cc in absurd (omega arith)
 sent-is p1 (some v) c =
@@ -150,7 +167,8 @@ pub record KeptChoice (ps : List ℕ) (qs : List (List ℕ)) (b : List ℕ) : Ty
   pub results : objectValue b 0x95 ≡ objectValue store 0x95
 
 -- it is made now
-pub chosen-now : {ps : List ℕ} {qs : List (List ℕ)} (b : List ℕ) → ps ≡ generateAcP1 (recomputedChoice b) ∷ [] → qs ≡ b ∷ []
+pub chosen-now : {ps : List ℕ} {qs : List (List ℕ)} (b : List ℕ) → ps ≡ generateAcP1 (recomputedChoice b) ∷ []
+    → qs ≡ b ∷ []
     → KeptChoice ps qs b
 chosen-now b p o =
     record {
@@ -186,12 +204,12 @@ kept-on {ps} {qs} {b} {d} k t c r =
 
 -- before the last command
 abbrev pub isEarly : Phase → Bool
-isEarly Phase.Fresh                                    = true
-isEarly (Phase.Waiting AwaitedResponse.Gpo)            = true
-isEarly (Phase.Waiting (AwaitedResponse.Record p))     = true
+isEarly Phase.Fresh = true
+isEarly (Phase.Waiting AwaitedResponse.Gpo) = true
+isEarly (Phase.Waiting (AwaitedResponse.Record p)) = true
 isEarly (Phase.Waiting (AwaitedResponse.Cryptogram a)) = false
-isEarly (Phase.Waiting (AwaitedResponse.Checksum c))   = false
-isEarly (Phase.Ended e)                                = false
+isEarly (Phase.Waiting (AwaitedResponse.Checksum c)) = false
+isEarly (Phase.Ended e) = false
 
 -- what holds of a session after calls that handed out ps, with the stores qs; code is whether the last of them brought
 -- a code
@@ -200,7 +218,8 @@ pub record Traced (ps : List ℕ) (qs : List (List ℕ)) (code : Bool) (s : Sess
   pub waiting : awaitsCryptogram (s .phase) ≡ true → KeptChoice ps qs (storeBytes s)
   pub decided : code ≡ false → isEndedWithReasonNone (s .phase) ≡ true → aipIndicatesMagStripe (storeBytes s) ≡ false
       → KeptChoice ps qs (storeBytes s)
-  pub mode : isEndedWithReasonNone (s .phase) ≡ true → aipIndicatesMagStripe (storeBytes s) ≡ magStripeMode (storeBytes s)
+  pub mode : isEndedWithReasonNone (s .phase) ≡ true → aipIndicatesMagStripe (storeBytes s)
+      ≡ magStripeMode (storeBytes s)
 
 -- a fresh session
 pub fresh-traced : (s : Session) → s .phase ≡ Phase.Fresh → Traced [] [] false s
@@ -233,7 +252,8 @@ nothing-sent (CallResult.Refused x) buf e = refl
 
 module _ (ps : List ℕ) (qs : List (List ℕ)) where
   -- nothing was added
-  pub none-traced : {code : Bool} {s : Session} → Traced ps qs code s → Traced (ps ++ generateAcP1s []) (qs ++ []) code s
+  pub none-traced : {code : Bool} {s : Session} → Traced ps qs code s → Traced (ps ++ generateAcP1s []) (qs ++ []) code
+      s
   unfolding generateAcCommands
   none-traced {code} {s} t =
       subst (λ (l : List ℕ). Traced l (qs ++ []) code s) (sym (append-nil ps))
@@ -252,7 +272,8 @@ module _ (ps : List ℕ) (qs : List (List ℕ)) where
     where
       P : List (List ℕ) → Type 0
       P cs =
-          Traced (ps ++ generateAcP1s cs) (qs ++ map (λ (c : List ℕ). storeBytes (st .reply .session)) (generateAcCommands cs)) d
+          Traced (ps ++ generateAcP1s cs) (qs ++ map (λ (c : List ℕ). storeBytes (st .reply .session))
+          (generateAcCommands cs)) d
           (st .reply .session)
 
   -- the commands of one call, and of those after it
@@ -262,7 +283,8 @@ module _ (ps : List ℕ) (qs : List (List ℕ)) where
   joined xs ys us vs {code} {s} t =
       subst (λ (l : List ℕ). Traced l (qs ++ (us ++ vs)) code s)
       (append-assoc ps (generateAcP1s xs) (generateAcP1s ys) ∙ ap (λ (l : List ℕ). ps ++ l) (sym (p1s-append xs ys)))
-      (subst (λ (l : List (List ℕ)). Traced ((ps ++ generateAcP1s xs) ++ generateAcP1s ys) l code s) (append-assoc qs us vs) t)
+      (subst (λ (l : List (List ℕ)). Traced ((ps ++ generateAcP1s xs) ++ generateAcP1s ys) l code s)
+      (append-assoc qs us vs) t)
 
 -- ---- what explain reports of the store, it says of the one at the time of the choice
 
@@ -287,18 +309,21 @@ module _ {ps : List ℕ} {qs : List (List ℕ)} (b : List ℕ) (k : KeptChoice p
   pair-same Stage.Default = ap (λ (l : List ActionCodes). getD l defaultStage noActionCodes) codes-same
   pair-same Stage.Online = ap (λ (l : List ActionCodes). getD l onlineStage noActionCodes) codes-same
 
-  bit-same : (stage : Stage) (i : ℕ) → tvrBitIsInEitherActionCode (storedTvr b) (actionCodesOfStage b stage) i ≡ tvrBitSetAndInStageCodes (k .store) stage i
+  bit-same : (stage : Stage) (i : ℕ) → tvrBitIsInEitherActionCode (storedTvr b) (actionCodesOfStage b stage) i
+      ≡ tvrBitSetAndInStageCodes (k .store) stage i
   bit-same stage i = ap₂ (λ (r : List ℕ) (p : ActionCodes). tvrBitIsInEitherActionCode r p i) tvr-same (pair-same stage)
 
   -- the stage that decided
-  then-decided : (stage : Stage) → decidingStageIfItsDataPresent b ≡ DecidingStage.At stage → StageDecides stage (k .store)
+  then-decided : (stage : Stage) → decidingStageIfItsDataPresent b ≡ DecidingStage.At stage
+      → StageDecides stage (k .store)
   unfolding decidingStageIn
   then-decided stage e =
       sym (ap₂ decidingStageByDenialBit (ap onlineCapabilityOfType type-same)
       (ap₂ (λ (r : List ℕ) (l : List ActionCodes). someTvrBitInCodesOfStage r l denialStage) tvr-same codes-same))
       ∙ deciding-stage b stage e
 
-  then-lowest : (c : ForcedChoiceCause) → ForcedChoiceExplained b c → LowestTvrBitInStageCodes (c .stage) (c .bit) (k .store)
+  then-lowest : (c : ForcedChoiceCause) → ForcedChoiceExplained b c
+      → LowestTvrBitInStageCodes (c .stage) (c .bit) (k .store)
   unfolding tvrBitIsInEitherActionCode
   then-lowest c n =
       record {
@@ -350,7 +375,8 @@ module _ (b : List ℕ) where
   abbrev NotLower : Explanation → Type 0
   NotLower r =
       (stage : Stage) → explainedStage r ≡ some stage
-      → rankOfCryptogramType (requestedCryptogramType (recomputedChoice b)) ≤ rankOfCryptogramType (storedCryptogramType b)
+      → rankOfCryptogramType (requestedCryptogramType (recomputedChoice b)) ≤ rankOfCryptogramType
+      (storedCryptogramType b)
 
   decided-rank : (x : Ending) (d : DecidingStage) → NotLower (explanationOfDecision x b d)
   decided-rank x DecidingStage.Nothing = λ g e. none-some e
@@ -363,11 +389,11 @@ module _ (b : List ℕ) where
 
 -- an explanation of a choice
 abbrev ofChoice : Explanation → Bool
-ofChoice Explanation.Refused          = false
-ofChoice (Explanation.Reason n)       = false
-ofChoice Explanation.NoChoice         = false
-ofChoice Explanation.LowerCryptogram  = true
-ofChoice (Explanation.Forced c)       = true
+ofChoice Explanation.Refused = false
+ofChoice (Explanation.Reason n) = false
+ofChoice Explanation.NoChoice = false
+ofChoice Explanation.LowerCryptogram = true
+ofChoice (Explanation.Forced c) = true
 ofChoice (Explanation.Unforced stage) = true
 
 -- a list of calls ended with an answer that brought a code
@@ -381,7 +407,8 @@ TracedBy ms s = Traced (generateAcP1s (commandsSent ms)) (storesWhenGenerateAcSe
 abbrev KeptBy : List CallMade → Session → Type 0
 KeptBy ms s = KeptChoice (generateAcP1s (commandsSent ms)) (storesWhenGenerateAcSent ms) (storeBytes s)
 
-module _ (ms : List CallMade) (s : Session) (i : sessionRecordInRanges s ≡ true) (t : TracedBy ms s) (n : endsWithCode ms ≡ false) where
+module _ (ms : List CallMade) (s : Session) (i : sessionRecordInRanges s ≡ true) (t : TracedBy ms s)
+    (n : endsWithCode ms ≡ false) where
   -- so a choice is kept
   kept : ofChoice (explanationOf s) ≡ true → KeptBy ms s
   unfolding explanationOf
@@ -414,7 +441,8 @@ module _ (ms : List CallMade) (s : Session) (i : sessionRecordInRanges s ≡ tru
   phase-says p q = if-yes _ _ i ∙ ap (λ (x : Phase). explanationInPhase x (storeBytes s)) q
 
   decided-says : (x : Ending) → s .phase ≡ Phase.Ended x → eqb (x .reason) reasonNone ≡ true
-      → aipIndicatesMagStripe (storeBytes s) ≡ false → explanationOf s ≡ explanationOfDecision x (storeBytes s) (decidingStageIfItsDataPresent (storeBytes s))
+      → aipIndicatesMagStripe (storeBytes s) ≡ false → explanationOf s ≡ explanationOfDecision x (storeBytes s)
+      (decidingStageIfItsDataPresent (storeBytes s))
   unfolding explanationOfEnding
   decided-says x q z m = phase-says (Phase.Ended x) q ∙ by-choice x (storeBytes s) m ∙ if-yes _ _ z
 
@@ -432,12 +460,14 @@ module _ (ms : List CallMade) (s : Session) (i : sessionRecordInRanges s ≡ tru
       go (Phase.Waiting AwaitedResponse.Gpo) q w = apart w
       go (Phase.Waiting (AwaitedResponse.Record p)) q w = apart w
       go (Phase.Waiting (AwaitedResponse.Cryptogram a)) q w =
-          by-explained (phase-says (Phase.Waiting (AwaitedResponse.Cryptogram a)) q) (waiting-explains (storeBytes s) a (decidingStageIfItsDataPresent (storeBytes s)))
+          by-explained (phase-says (Phase.Waiting (AwaitedResponse.Cryptogram a)) q)
+          (waiting-explains (storeBytes s) a (decidingStageIfItsDataPresent (storeBytes s)))
       go (Phase.Waiting (AwaitedResponse.Checksum k)) q w = apart w
       go (Phase.Ended x) q w =
           let z = both-left (eqb (x .reason) reasonNone) _ w in
           let m = t .mode (ap isEndedWithReasonNone q ∙ z) ∙ not-true _ (both-right (eqb (x .reason) reasonNone) _ w) in
-          by-explained (decided-says x q z m) (decided-explains (storeBytes s) x (decidingStageIfItsDataPresent (storeBytes s)))
+          by-explained (decided-says x q z m)
+          (decided-explains (storeBytes s) x (decidingStageIfItsDataPresent (storeBytes s)))
 
   pub p1-clause : (choice : Choice) → explainedChoice (storeBytes s) (explanationOf s) ≡ some choice
       → generateAcP1s (commandsSent ms) ≡ generateAcP1 choice ∷ []
@@ -463,15 +493,19 @@ module _ (ms : List CallMade) (s : Session) (i : sessionRecordInRanges s ≡ tru
   at : {P : List ℕ → Type 0} (k : KeptBy ms s) → P (k .store) → HoldsAtOnlyGenerateAc ms P
   at k p = record { store = k .store; only = k .only; fact = p }
 
-  pub stage-clause : (stage : Stage) → explainedStage (explanationOf s) ≡ some stage → HoldsAtOnlyGenerateAc ms (StageDecides stage)
+  pub stage-clause : (stage : Stage) → explainedStage (explanationOf s) ≡ some stage
+      → HoldsAtOnlyGenerateAc ms (StageDecides stage)
   stage-clause stage = go (explanationOf s) refl
     where
-      is : (g : Stage) → g ≡ stage → decidingStageIfItsDataPresent (storeBytes s) ≡ DecidingStage.At g → ofChoice (explanationOf s) ≡ true
+      is : (g : Stage) → g ≡ stage → decidingStageIfItsDataPresent (storeBytes s) ≡ DecidingStage.At g
+          → ofChoice (explanationOf s) ≡ true
           → HoldsAtOnlyGenerateAc ms (StageDecides stage)
       is g z d e =
-          let k = kept e in at k (subst (λ (x : Stage). StageDecides x (k .store)) z (then-decided (storeBytes s) k g d))
+          let k = kept e in
+          at k (subst (λ (x : Stage). StageDecides x (k .store)) z (then-decided (storeBytes s) k g d))
 
-      go : (r : Explanation) → explanationOf s ≡ r → explainedStage r ≡ some stage → HoldsAtOnlyGenerateAc ms (StageDecides stage)
+      go : (r : Explanation) → explanationOf s ≡ r → explainedStage r ≡ some stage
+          → HoldsAtOnlyGenerateAc ms (StageDecides stage)
       go Explanation.Refused q e = let z : _≡_ {A = ℕ} 0 1 = cc in absurd (omega arith)
       go (Explanation.Reason m) q e = let z : _≡_ {A = ℕ} 0 1 = cc in absurd (omega arith)
       go Explanation.NoChoice q e = let z : _≡_ {A = ℕ} 0 1 = cc in absurd (omega arith)
@@ -480,17 +514,22 @@ module _ (ms : List CallMade) (s : Session) (i : sessionRecordInRanges s ≡ tru
           let z : c .stage ≡ stage = cc in is (c .stage) z (says .named c q .decides) (ap ofChoice q)
       go (Explanation.Unforced g) q e = let z : g ≡ stage = cc in is g z (says .unnamed g q .decides) (ap ofChoice q)
 
-  pub bit-clause : (c : ForcedChoiceCause) → explanationOf s ≡ Explanation.Forced c → HoldsAtOnlyGenerateAc ms (LowestTvrBitInStageCodes (c .stage) (c .bit))
+  pub bit-clause : (c : ForcedChoiceCause) → explanationOf s ≡ Explanation.Forced c
+      → HoldsAtOnlyGenerateAc ms (LowestTvrBitInStageCodes (c .stage) (c .bit))
   bit-clause c q = let k = kept (ap ofChoice q) in at k (then-lowest (storeBytes s) k c (says .named c q))
 
-  pub no-bit-clause : (stage : Stage) → explanationOf s ≡ Explanation.Unforced stage → HoldsAtOnlyGenerateAc ms (NoTvrBitInStageCodes stage)
-  no-bit-clause stage q = let k = kept (ap ofChoice q) in at k (then-none (storeBytes s) k stage (says .unnamed stage q))
+  pub no-bit-clause : (stage : Stage) → explanationOf s ≡ Explanation.Unforced stage
+      → HoldsAtOnlyGenerateAc ms (NoTvrBitInStageCodes stage)
+  no-bit-clause stage q = let k = kept (ap ofChoice q) in
+      at k (then-none (storeBytes s) k stage (says .unnamed stage q))
 
-  pub holder-clause : (c : ForcedChoiceCause) → explanationOf s ≡ Explanation.Forced c → HoldsAtOnlyGenerateAc ms (CauseNamesHolderOfBit c)
+  pub holder-clause : (c : ForcedChoiceCause) → explanationOf s ≡ Explanation.Forced c
+      → HoldsAtOnlyGenerateAc ms (CauseNamesHolderOfBit c)
   holder-clause c q = let k = kept (ap ofChoice q) in at k (then-held (storeBytes s) k c (says .named c q))
 
   -- the choice whose P1 was handed out is the one that the store gives, and so is its rank
-  rank-same : (choice : Choice) → generateAcP1s (commandsSent ms) ≡ generateAcP1 choice ∷ [] → ofChoice (explanationOf s) ≡ true
+  rank-same : (choice : Choice) → generateAcP1s (commandsSent ms) ≡ generateAcP1 choice ∷ []
+      → ofChoice (explanationOf s) ≡ true
       → rankOfCryptogramType (requestedCryptogramType (recomputedChoice (storeBytes s))) ≡ choiceRank choice
   rank-same choice e o = ap (λ (c : Choice). rankOfCryptogramType (requestedCryptogramType c)) same ∙ one-rank choice
     where
@@ -498,11 +537,14 @@ module _ (ms : List CallMade) (s : Session) (i : sessionRecordInRanges s ≡ tru
       same = same-p1 _ _ (ap (λ (l : List ℕ). getD l 0 0) (sym (kept o .p1) ∙ e))
 
   pub lower-clause : explanationOf s ≡ Explanation.LowerCryptogram → (choice : Choice)
-      → generateAcP1s (commandsSent ms) ≡ generateAcP1 choice ∷ [] → rankOfCryptogramType (storedCryptogramType (storeBytes s)) < choiceRank choice
+      → generateAcP1s (commandsSent ms) ≡ generateAcP1 choice ∷ []
+      → rankOfCryptogramType (storedCryptogramType (storeBytes s)) < choiceRank choice
   lower-clause q choice e = let r = rank-same choice e (ap ofChoice q) in omega (arith, r, says .lower q)
 
-  pub not-lower-clause : isEndedWithReasonNone (s .phase) ≡ true → (stage : Stage) → explainedStage (explanationOf s) ≡ some stage
-      → (choice : Choice) → generateAcP1s (commandsSent ms) ≡ generateAcP1 choice ∷ [] → choiceRank choice ≤ rankOfCryptogramType (storedCryptogramType (storeBytes s))
+  pub not-lower-clause : isEndedWithReasonNone (s .phase) ≡ true → (stage : Stage) → explainedStage (explanationOf s)
+      ≡ some stage
+      → (choice : Choice) → generateAcP1s (commandsSent ms) ≡ generateAcP1 choice ∷ []
+      → choiceRank choice ≤ rankOfCryptogramType (storedCryptogramType (storeBytes s))
   not-lower-clause d stage f choice e =
       let r = rank-same choice e (of-stage (explanationOf s) f) in omega (arith, r, go (s .phase) refl d)
     where
@@ -515,7 +557,8 @@ module _ (ms : List CallMade) (s : Session) (i : sessionRecordInRanges s ≡ tru
       of-stage (Explanation.Unforced g) z = refl
 
       go : (p : Phase) → s .phase ≡ p → isEndedWithReasonNone p ≡ true
-          → rankOfCryptogramType (requestedCryptogramType (recomputedChoice (storeBytes s))) ≤ rankOfCryptogramType (storedCryptogramType (storeBytes s))
+          → rankOfCryptogramType (requestedCryptogramType (recomputedChoice (storeBytes s))) ≤ rankOfCryptogramType
+          (storedCryptogramType (storeBytes s))
       go Phase.Fresh q w = apart w
       go (Phase.Waiting r) q w = apart w
       go (Phase.Ended x) q w =

@@ -31,7 +31,9 @@ selected = 0x6F ∷ 0x0A ∷ 0x84 ∷ 0x02 ∷ 0xA0 ∷ 0x00 ∷ 0xA5 ∷ 0x04 �
 
 places : map (word selected) (0x6F ∷ 0x84 ∷ 0xA5 ∷ 0x9F38 ∷ 0x4F ∷ [])
     ≡ 0x000000020000000A ∷ 0x0000000400000002 ∷ 0x0000000800000004 ∷ 0x0000000B00000001 ∷ none ∷ []
-unfolding findTag findTagWithinLevels recurseWithFuelFromLength recurseWithFuel nextInTemplate headerOf tagAt tagSize tagSizeFromSecondByte lengthAt tagFirstByte isTemplate isPrivate appendBigEndianBytes if firstFoundUnlessMalformed foundShifted
+unfolding findTag findTagWithinLevels recurseWithFuelFromLength recurseWithFuel nextInTemplate headerOf tagAt tagSize
+    tagSizeFromSecondByte lengthAt tagFirstByte isTemplate isPrivate appendBigEndianBytes if firstFoundUnlessMalformed
+    foundShifted
 places = refl
 
 -- no bytes; the first of two; one in a template before the one after it; an empty one
@@ -44,7 +46,8 @@ firsts =
     ∷ []
 
 orders : map (λ s. word s 0x84) firsts ≡ none ∷ 0x0000000200000001 ∷ 0x0000000400000001 ∷ 0x0000000400000000 ∷ []
-unfolding findTag findTagWithinLevels recurseWithFuelFromLength recurseWithFuel nextInTemplate headerOf tagAt tagSize lengthAt tagFirstByte isTemplate isPrivate appendBigEndianBytes if firstFoundUnlessMalformed foundShifted
+unfolding findTag findTagWithinLevels recurseWithFuelFromLength recurseWithFuel nextInTemplate headerOf tagAt tagSize
+    lengthAt tagFirstByte isTemplate isPrivate appendBigEndianBytes if firstFoundUnlessMalformed foundShifted
 orders = refl
 
 -- four levels, and a fifth: 84 in the innermost, found first and then not
@@ -56,7 +59,8 @@ nests =
     ∷ []
 
 levels : map (λ s. word s 0x84) nests ≡ 0x0000000A00000000 ∷ malformed ∷ malformed ∷ []
-unfolding findTag findTagWithinLevels recurseWithFuelFromLength recurseWithFuel nextInTemplate headerOf tagAt tagSize lengthAt tagFirstByte isTemplate isPrivate appendBigEndianBytes if firstFoundUnlessMalformed foundShifted
+unfolding findTag findTagWithinLevels recurseWithFuelFromLength recurseWithFuel nextInTemplate headerOf tagAt tagSize
+    lengthAt tagFirstByte isTemplate isPrivate appendBigEndianBytes if firstFoundUnlessMalformed foundShifted
 levels = refl
 
 -- malformed after the object that is found, in a template after it, and within the template that is found
@@ -68,8 +72,10 @@ tails =
     ∷ []
 
 broken : map (λ s. map (word s) (0x84 ∷ 0xE1 ∷ 0x4F ∷ [])) tails
-    ≡ (malformed ∷ malformed ∷ malformed ∷ []) ∷ (malformed ∷ malformed ∷ malformed ∷ []) ∷ (malformed ∷ malformed ∷ malformed ∷ []) ∷ []
-unfolding findTag findTagWithinLevels recurseWithFuelFromLength recurseWithFuel nextInTemplate headerOf tagAt tagSize lengthAt tagFirstByte isTemplate isPrivate appendBigEndianBytes if firstFoundUnlessMalformed foundShifted
+    ≡ (malformed ∷ malformed ∷ malformed ∷ []) ∷ (malformed ∷ malformed ∷ malformed ∷ [])
+    ∷ (malformed ∷ malformed ∷ malformed ∷ []) ∷ []
+unfolding findTag findTagWithinLevels recurseWithFuelFromLength recurseWithFuel nextInTemplate headerOf tagAt tagSize
+    lengthAt tagFirstByte isTemplate isPrivate appendBigEndianBytes if firstFoundUnlessMalformed foundShifted
 broken = refl
 
 -- one object that takes 65,535 bytes, and one that takes 65,536
@@ -77,14 +83,19 @@ abbrev longest : List (List ℕ)
 longest = (0x84 ∷ 0x82 ∷ 0xFF ∷ 0xFB ∷ replicate 0xFFFB 0) ∷ (0x84 ∷ 0x82 ∷ 0xFF ∷ 0xFC ∷ replicate 0xFFFC 0) ∷ []
 
 lengths : map (λ s. word s 0x84) longest ≡ 0x000000040000FFFB ∷ malformed ∷ []
-unfolding findTag findTagWithinLevels recurseWithFuelFromLength recurseWithFuel nextInTemplate headerOf tagAt tagSize lengthAt lengthAfter82 tagFirstByte isTemplate isPrivate appendBigEndianBytes if firstFoundUnlessMalformed foundShifted
+unfolding findTag findTagWithinLevels recurseWithFuelFromLength recurseWithFuel nextInTemplate headerOf tagAt tagSize
+    lengthAt lengthAfter82 tagFirstByte isTemplate isPrivate appendBigEndianBytes if firstFoundUnlessMalformed
+    foundShifted
 lengths = refl
 
 -- padding: before 6F, before 84, in A5 and after all; places count it. A value of a template begins with its padding
 abbrev spaced : List ℕ
-spaced = 0x00 ∷ 0x6F ∷ 0x0C ∷ 0x00 ∷ 0x84 ∷ 0x02 ∷ 0xA0 ∷ 0x00 ∷ 0xA5 ∷ 0x05 ∷ 0x00 ∷ 0x9F ∷ 0x38 ∷ 0x01 ∷ 0xAA ∷ 0x00 ∷ []
+spaced = 0x00 ∷ 0x6F ∷ 0x0C ∷ 0x00 ∷ 0x84 ∷ 0x02 ∷ 0xA0 ∷ 0x00 ∷ 0xA5 ∷ 0x05 ∷ 0x00 ∷ 0x9F ∷ 0x38 ∷ 0x01 ∷ 0xAA ∷ 0x00
+    ∷ []
 
 spaces : map (word spaced) (0x6F ∷ 0x84 ∷ 0xA5 ∷ 0x9F38 ∷ 0x00 ∷ 0x4F ∷ [])
     ≡ 0x000000030000000C ∷ 0x0000000600000002 ∷ 0x0000000A00000005 ∷ 0x0000000E00000001 ∷ none ∷ none ∷ []
-unfolding findTag findTagWithinLevels recurseWithFuelFromLength recurseWithFuel nextInTemplate headerOf tagAt tagSize tagSizeFromSecondByte lengthAt tagFirstByte isTemplate isPrivate appendBigEndianBytes if firstFoundUnlessMalformed foundShifted
+unfolding findTag findTagWithinLevels recurseWithFuelFromLength recurseWithFuel nextInTemplate headerOf tagAt tagSize
+    tagSizeFromSecondByte lengthAt tagFirstByte isTemplate isPrivate appendBigEndianBytes if firstFoundUnlessMalformed
+    foundShifted
 spaces = refl

@@ -22,7 +22,9 @@ use Rattle.tlv.proofs.Tree.{shorter-value, shorter-behind}
 use Rattle.find.specs.declared.ValueSpan.{ValueSpan}
 use Rattle.find.specs.declared.TagFound.{TagFound}
 use Rattle.find.specs.declared.TagFound.the-variants.{At, Absent, Malformed}
-use Rattle.find.specs.Find.{valueSpan, foundIfTagMatches, firstFoundUnlessMalformed, foundShifted, foundIfHeaderTag, foundWithOneLevelLess, foundInContents, foundAfterObject, foundFromNextInTemplate, findTagStep, findTagWithinLevels}
+use Rattle.find.specs.Find.{valueSpan, foundIfTagMatches, firstFoundUnlessMalformed, foundShifted}
+use Rattle.find.specs.Find.{foundIfHeaderTag, foundWithOneLevelLess, foundInContents, foundAfterObject}
+use Rattle.find.specs.Find.{foundFromNextInTemplate, findTagStep, findTagWithinLevels}
 
 -- ---- finds, concatenated
 
@@ -46,7 +48,8 @@ pub malformed-first : (a : TagFound) → firstFoundUnlessMalformed Malformed a �
 unfolding firstFoundUnlessMalformed
 malformed-first a = refl
 
-pub first-assoc : (a b r : TagFound) → firstFoundUnlessMalformed (firstFoundUnlessMalformed a b) r ≡ firstFoundUnlessMalformed a (firstFoundUnlessMalformed b r)
+pub first-assoc : (a b r : TagFound) → firstFoundUnlessMalformed (firstFoundUnlessMalformed a b) r
+    ≡ firstFoundUnlessMalformed a (firstFoundUnlessMalformed b r)
 unfolding firstFoundUnlessMalformed
 first-assoc Malformed b r = refl
 first-assoc Absent b r = refl
@@ -57,14 +60,16 @@ first-assoc (At p) (At q) Absent = refl
 first-assoc (At p) (At q) (At o) = refl
 
 -- what was found before stays
-pub first-kept : (f : TagFound) (p : ValueSpan) → f ≡ At p → (same : Bool) (a n : ℕ) → At p ≡ firstFoundUnlessMalformed f (foundIfTagMatches same a n)
+pub first-kept : (f : TagFound) (p : ValueSpan) → f ≡ At p → (same : Bool) (a n : ℕ)
+    → At p ≡ firstFoundUnlessMalformed f (foundIfTagMatches same a n)
 unfolding firstFoundUnlessMalformed if
 first-kept f p e true a n = ap (λ (x : TagFound). firstFoundUnlessMalformed x (At (valueSpan a n))) (sym e)
 first-kept f p e false a n = ap (λ (x : TagFound). firstFoundUnlessMalformed x Absent) (sym e)
 
 -- ---- shifted
 
-pub shift-first : (n : ℕ) (a b : TagFound) → foundShifted n (firstFoundUnlessMalformed a b) ≡ firstFoundUnlessMalformed (foundShifted n a) (foundShifted n b)
+pub shift-first : (n : ℕ) (a b : TagFound) → foundShifted n (firstFoundUnlessMalformed a b) ≡ firstFoundUnlessMalformed
+    (foundShifted n a) (foundShifted n b)
 unfolding firstFoundUnlessMalformed foundShifted
 shift-first n Malformed b = refl
 shift-first n Absent b = refl
@@ -76,7 +81,8 @@ pub shift-shift : (n m : ℕ) (a : TagFound) → foundShifted n (foundShifted m 
 unfolding foundShifted
 shift-shift n m Malformed = refl
 shift-shift n m Absent = refl
-shift-shift n m (At p) = let e : n + (m + p .start) ≡ n + m + p .start = omega arith in ap (λ (k : ℕ). At (valueSpan k (p .len))) e
+shift-shift n m (At p) = let e : n + (m + p .start) ≡ n + m + p .start = omega arith in
+    ap (λ (k : ℕ). At (valueSpan k (p .len))) e
 
 pub shift-zero : (a : TagFound) → foundShifted 0 a ≡ a
 unfolding foundShifted
@@ -84,7 +90,8 @@ shift-zero Malformed = refl
 shift-zero Absent = refl
 shift-zero (At p) = let e : 0 + p .start ≡ p .start = omega arith in ap (λ (k : ℕ). At (valueSpan k (p .len))) e
 
-pub shift-here : (n : ℕ) (same : Bool) (a k : ℕ) → foundShifted n (foundIfTagMatches same a k) ≡ foundIfTagMatches same (n + a) k
+pub shift-here : (n : ℕ) (same : Bool) (a k : ℕ) → foundShifted n (foundIfTagMatches same a k) ≡ foundIfTagMatches same
+    (n + a) k
 unfolding foundShifted if
 shift-here n true a k = refl
 shift-here n false a k = refl
@@ -102,19 +109,23 @@ shift-malformed n = refl
 abbrev Finder : Type 0
 Finder = List ℕ → ℕ → TagFound
 
-nested-same : (k k′ : ℕ → TagFound) (l : ℕ) → ((m : ℕ) → k m ≡ k′ m) → foundWithOneLevelLess k l ≡ foundWithOneLevelLess k′ l
+nested-same : (k k′ : ℕ → TagFound) (l : ℕ) → ((m : ℕ) → k m ≡ k′ m) → foundWithOneLevelLess k l ≡ foundWithOneLevelLess
+    k′ l
 nested-same k k′ zero p = refl
 nested-same k k′ (suc l) p = p l
 
-from-same : (tag : ℕ) (k k′ : Finder) (s : List ℕ) (l : ℕ) → ((v : List ℕ) → length v < length s → (m : ℕ) → k v m ≡ k′ v m)
-    → (x : NextInTemplate) → nextInTemplate s ≡ x → foundFromNextInTemplate tag k s l x ≡ foundFromNextInTemplate tag k′ s l x
+from-same : (tag : ℕ) (k k′ : Finder) (s : List ℕ) (l : ℕ)
+    → ((v : List ℕ) → length v < length s → (m : ℕ) → k v m ≡ k′ v m)
+    → (x : NextInTemplate) → nextInTemplate s ≡ x → foundFromNextInTemplate tag k s l x ≡ foundFromNextInTemplate tag k′
+    s l x
 from-same tag k k′ s l same following.End e = refl
 from-same tag k k′ s l same following.Malformed e = refl
 from-same tag k k′ s l same (following.Inner h) e =
     let f = next-fits s h e in
     ap (firstFoundUnlessMalformed (foundIfHeaderTag tag h))
     (ap₂ firstFoundUnlessMalformed
-    (ap (λ (x : TagFound). if (h .template) (foundShifted (h .start) x) Absent) (nested-same (k (headerValue s h)) (k′ (headerValue s h)) l (same (headerValue s h) (shorter-value f))))
+    (ap (λ (x : TagFound). if (h .template) (foundShifted (h .start) x) Absent)
+    (nested-same (k (headerValue s h)) (k′ (headerValue s h)) l (same (headerValue s h) (shorter-value f))))
     (ap (foundShifted (h .start + h .len)) (same (behindObject s h) (shorter-behind f) l)))
 
 next-same : (tag : ℕ) → AsksShorter (findTagStep tag)
@@ -122,13 +133,15 @@ next-same tag k k′ s same =
     λ i l. from-same tag k k′ s l (λ v h m. ap (λ (p : ℕ → TagFound). p m) (same v h)) (nextInTemplate s) refl i
 
 module _ (tag l : ℕ) (s : List ℕ) where
-  pub unroll : findTagWithinLevels tag l s ≡ foundFromNextInTemplate tag (λ v m. findTagWithinLevels tag m v) s l (nextInTemplate s)
+  pub unroll : findTagWithinLevels tag l s ≡ foundFromNextInTemplate tag (λ v m. findTagWithinLevels tag m v) s l
+      (nextInTemplate s)
   unfolding findTagWithinLevels
   unroll = ap (λ (p : ℕ → TagFound). p l) (recurse-unroll (λ l. Malformed) (findTagStep tag) (next-same tag) s)
 
   -- ---- one law for each thing that can be next
 
-  at : (x : NextInTemplate) → nextInTemplate s ≡ x → findTagWithinLevels tag l s ≡ foundFromNextInTemplate tag (λ v m. findTagWithinLevels tag m v) s l x
+  at : (x : NextInTemplate) → nextInTemplate s ≡ x → findTagWithinLevels tag l s ≡ foundFromNextInTemplate tag
+      (λ v m. findTagWithinLevels tag m v) s l x
   at x e = unroll ∙ ap (foundFromNextInTemplate tag (λ v m. findTagWithinLevels tag m v) s l) e
 
   pub found-end : nextInTemplate s ≡ following.End → findTagWithinLevels tag l s ≡ Absent
@@ -146,16 +159,21 @@ module _ (tag l : ℕ) (s : List ℕ) where
 
     -- a primitive object: itself, then what is after it
     pub found-leaf : h .template ≡ false → findTagWithinLevels tag l s ≡ firstFoundUnlessMalformed own rest
-    found-leaf t = at (following.Inner h) e ∙ ap (λ (x : TagFound). firstFoundUnlessMalformed own (firstFoundUnlessMalformed x rest)) (if-no _ _ t) ∙ ap (firstFoundUnlessMalformed own) (absent-first rest)
+    found-leaf t = at (following.Inner h) e ∙ ap
+        (λ (x : TagFound). firstFoundUnlessMalformed own (firstFoundUnlessMalformed x rest)) (if-no _ _ t) ∙ ap
+        (firstFoundUnlessMalformed own) (absent-first rest)
 
     -- a template: itself, then what it holds with a level less, then what is after it
     pub found-node : h .template ≡ true → (l ≡ 0 → ⊥)
-        → findTagWithinLevels tag l s ≡ firstFoundUnlessMalformed own (firstFoundUnlessMalformed (foundShifted (h .start) (findTagWithinLevels tag (l - 1) (headerValue s h))) rest)
+        → findTagWithinLevels tag l s ≡ firstFoundUnlessMalformed own
+        (firstFoundUnlessMalformed (foundShifted (h .start) (findTagWithinLevels tag (l - 1) (headerValue s h))) rest)
     found-node t n =
         at (following.Inner h) e
-        ∙ ap (λ (x : TagFound). firstFoundUnlessMalformed own (firstFoundUnlessMalformed x rest)) (if-yes _ _ t ∙ ap (foundShifted (h .start)) (nested-at l n))
+        ∙ ap (λ (x : TagFound). firstFoundUnlessMalformed own (firstFoundUnlessMalformed x rest))
+        (if-yes _ _ t ∙ ap (foundShifted (h .start)) (nested-at l n))
       where
-        nested-at : (m : ℕ) → (m ≡ 0 → ⊥) → foundWithOneLevelLess (λ m. findTagWithinLevels tag m (headerValue s h)) m ≡ findTagWithinLevels tag (m - 1) (headerValue s h)
+        nested-at : (m : ℕ) → (m ≡ 0 → ⊥) → foundWithOneLevelLess (λ m. findTagWithinLevels tag m (headerValue s h)) m
+            ≡ findTagWithinLevels tag (m - 1) (headerValue s h)
         nested-at zero n = absurd (n refl)
         nested-at (suc m) n = rw (sub-one (suc m))
 
@@ -163,9 +181,11 @@ module _ (tag l : ℕ) (s : List ℕ) where
     pub found-deep : h .template ≡ true → l ≡ 0 → findTagWithinLevels tag l s ≡ Malformed
     found-deep t z =
         at (following.Inner h) e
-        ∙ ap (λ (x : TagFound). firstFoundUnlessMalformed own (firstFoundUnlessMalformed x rest)) (if-yes _ _ t ∙ ap (foundShifted (h .start)) (nested-deep l z) ∙ shift-malformed (h .start))
+        ∙ ap (λ (x : TagFound). firstFoundUnlessMalformed own (firstFoundUnlessMalformed x rest))
+        (if-yes _ _ t ∙ ap (foundShifted (h .start)) (nested-deep l z) ∙ shift-malformed (h .start))
         ∙ ap (firstFoundUnlessMalformed own) (malformed-first rest) ∙ first-malformed own
       where
-        nested-deep : (m : ℕ) → m ≡ 0 → foundWithOneLevelLess (λ m. findTagWithinLevels tag m (headerValue s h)) m ≡ Malformed
+        nested-deep : (m : ℕ) → m ≡ 0 → foundWithOneLevelLess (λ m. findTagWithinLevels tag m (headerValue s h)) m
+            ≡ Malformed
         nested-deep zero z = refl
         nested-deep (suc m) z = absurd (omega arith)

@@ -25,21 +25,26 @@ unfolding objectCopiedFromStore if dictionaryRows findRow rowFoundShifted
 unknown = refl
 
 absent : objectCopiedFromStore [] 0x50 (7 ∷ []) ≡ nothingCopied 0x30000 (7 ∷ [])
-unfolding objectCopiedFromStore if dictionaryRows findRow rowFoundShifted objectValueIn rowValue rowPlaceBytes valueInPlace rowOffset
+unfolding objectCopiedFromStore if dictionaryRows findRow rowFoundShifted objectValueIn rowValue rowPlaceBytes
+    valueInPlace rowOffset
 absent = refl
 
 -- 50, the first row, of two bytes: one byte of the caller's is too few, two are enough, the third stays; and 50 that is
 -- present and empty
 needed : objectCopiedFromStore (3 ∷ 0xA1 ∷ 0xA2 ∷ 0xA3 ∷ []) 0x50 (7 ∷ []) ≡ nothingCopied 0x50002 (7 ∷ [])
-unfolding objectCopiedFromStore if dictionaryRows findRow rowFoundShifted objectValueIn rowValue rowPlaceBytes valueInPlace rowOffset
+unfolding objectCopiedFromStore if dictionaryRows findRow rowFoundShifted objectValueIn rowValue rowPlaceBytes
+    valueInPlace rowOffset
 needed = refl
 
-value : objectCopiedFromStore (3 ∷ 0xA1 ∷ 0xA2 ∷ 0xA3 ∷ []) 0x50 (7 ∷ 8 ∷ 9 ∷ []) ≡ record { word = 2; buffer = 0xA1 ∷ 0xA2 ∷ 9 ∷ [] }
-unfolding objectCopiedFromStore if dictionaryRows findRow rowFoundShifted objectValueIn rowValue rowPlaceBytes valueInPlace rowOffset
+value : objectCopiedFromStore (3 ∷ 0xA1 ∷ 0xA2 ∷ 0xA3 ∷ []) 0x50 (7 ∷ 8 ∷ 9 ∷ [])
+    ≡ record { word = 2; buffer = 0xA1 ∷ 0xA2 ∷ 9 ∷ [] }
+unfolding objectCopiedFromStore if dictionaryRows findRow rowFoundShifted objectValueIn rowValue rowPlaceBytes
+    valueInPlace rowOffset
 value = refl
 
 empty : objectCopiedFromStore (1 ∷ 0xA1 ∷ []) 0x50 [] ≡ record { word = 0; buffer = [] }
-unfolding objectCopiedFromStore if dictionaryRows findRow rowFoundShifted objectValueIn rowValue rowPlaceBytes valueInPlace rowOffset
+unfolding objectCopiedFromStore if dictionaryRows findRow rowFoundShifted objectValueIn rowValue rowPlaceBytes
+    valueInPlace rowOffset
 empty = refl
 
 -- bytes that hold no record are not explained, and a fresh session has no choice

@@ -15,7 +15,9 @@ use Rattle.session_record.specs.Session.{storeBytes}
 use Rattle.session.specs.Steps.{Step, leastBuffer, linkFailedStep, stopStep}
 use Rattle.session.specs.Start.{startStep}
 use Rattle.session.specs.Answer.{answerStep}
-use Rattle.step_laws.proofs.Ways.{GpoWay, RecordsWay, MagStripeWay, RecordWay, CryptogramWay, ChecksumWay, AnswerWay, answer-way, analysedSession, askedBy, loadedSession, StartWay, start-way, BrokenWay, broken-way}
+use Rattle.step_laws.proofs.Ways.{GpoWay, RecordsWay, MagStripeWay, RecordWay, CryptogramWay, ChecksumWay, AnswerWay}
+use Rattle.step_laws.proofs.Ways.{answer-way, analysedSession, askedBy, loadedSession, StartWay, start-way, BrokenWay}
+use Rattle.step_laws.proofs.Ways.{broken-way}
 
 abbrev pub Small : CallResult → Type 0
 Small (CallResult.Command c) = c .size ≤ leastBuffer
@@ -42,7 +44,8 @@ module _ {buf : List ℕ} where
   small-records : {l : ℕ} {t : Session} {st : Step} → RecordsWay l t buf st → SmallStep st
   small-records (RecordsWay.failed n r x) = r .most
   small-records RecordsWay.unlisted = omega arith
-  small-records {l} {t} (RecordsWay.asked c f g) = cryptogram-proper (storeBytes (analysedSession t)) c (generateAcP1 (askedBy l t .choice)) g .most
+  small-records {l} {t} (RecordsWay.asked c f g) = cryptogram-proper (storeBytes (analysedSession t)) c
+      (generateAcP1 (askedBy l t .choice)) g .most
 
   small-mag-stripe : {l : ℕ} {t : Session} {st : Step} → MagStripeWay l t buf st → SmallStep st
   small-mag-stripe (MagStripeWay.failed n r) = r .most
@@ -66,7 +69,8 @@ module _ {buf : List ℕ} where
   small-start (StartWay.unlisted b i q e) = omega arith
   small-start {s} (StartWay.asked b c i q e f) = gpo-proper (storeBytes (loadedSession s b)) c f .most
 
-small-broken : {s : Session} {n : ℕ} {buf : List ℕ} {st : Step} → n ≤ reasonNoSupportedMode → BrokenWay s n buf st → SmallStep st
+small-broken : {s : Session} {n : ℕ} {buf : List ℕ} {st : Step} → n ≤ reasonNoSupportedMode → BrokenWay s n buf st
+    → SmallStep st
 small-broken h (BrokenWay.refused m l) = l
 small-broken h (BrokenWay.broken m i x) = h
 

@@ -18,14 +18,16 @@ use Rattle.session.specs.Answer.{gpoReason, nextOnResponse, answerStep}
 use Rattle.session.proofs.Results.{isCommand}
 use Rattle.layout.specs.Word.{resultWord}
 use Rattle.session_claim.specs.Calls.{isAnswer, callsAccepted}
-use Rattle.session.specs.Calls.{Call, start, answer, link-failed, stop, callStep, CallMade, callMade, playCalls, isRefusal, callRefused}
+use Rattle.session.specs.Calls.{Call, start, answer, link-failed, stop, callStep, CallMade, callMade, playCalls}
+use Rattle.session.specs.Calls.{isRefusal, callRefused}
 use Rattle.session_claim.specs.Order.{aflInGpoResponse, firstAnswer, aflAcceptedFromGpoAnswer}
 use Rattle.session_claim.proofs.Rules.{hands-by-rules, first-on-gpo}
 use Rattle.basics.proofs.Laws.{no}
 use Rattle.host.proofs.Sizes.{Small}
 use Rattle.host_claim.specs.Words.{hostCallsNotRefused, firstAnswerCall, hostAflAcceptedFromGpoAnswer}
 use Rattle.host_claim.specs.Claim.{hostViewOfCall}
-use Rattle.host_claim.proofs.Read.{word-command, Known, play-known, taken-all, first-all, asRead, first-answers, read-first-taken}
+use Rattle.host_claim.proofs.Read.{word-command, Known, play-known, taken-all, first-all, asRead, first-answers}
+use Rattle.host_claim.proofs.Read.{read-first-taken}
 
 -- an answer that is taken while the answer to GPO is awaited
 module _ (s : Session) (card buf : List ℕ) (q : s .phase ≡ Phase.Waiting AwaitedResponse.Gpo) where
@@ -35,7 +37,8 @@ module _ (s : Session) (card buf : List ℕ) (q : s .phase ≡ Phase.Waiting Awa
   command-by-rules =
       if-ind P _ _ _ (λ e h. no (sym h))
       (λ e. if-ind P _ _ _ (λ r h. no (sym h))
-      (λ r. subst (λ (p : Phase). P (stepOfEffect s buf (effectIfRunning p (nextOnResponse (storeBytes s) card)))) (sym q)
+      (λ r. subst (λ (p : Phase). P (stepOfEffect s buf (effectIfRunning p (nextOnResponse (storeBytes s) card))))
+      (sym q)
       (λ h. hands-by-rules (s .count) (storeBytes s) card buf)))
     where
       P : Step → Type 0
@@ -46,7 +49,8 @@ module _ (s : Session) (card buf : List ℕ) (q : s .phase ≡ Phase.Waiting Awa
 -- an answer, and no other call
 afl-of : (s : Session) (c : Call) (st : Step) → isAnswer c ≡ true → st ≡ callStep s c → Small (st .reply .answer)
     → isRefusal (st .reply .answer) ≡ false → s .phase ≡ Phase.Waiting AwaitedResponse.Gpo
-    → hostAflAcceptedFromGpoAnswer (some (hostViewOfCall (callMade s c st))) ≡ aflAcceptedFromGpoAnswer (some (callMade s c st))
+    → hostAflAcceptedFromGpoAnswer (some (hostViewOfCall (callMade s c st))) ≡ aflAcceptedFromGpoAnswer
+    (some (callMade s c st))
 afl-of s (start bytes buf) st a e h t q = no a
 afl-of s (answer card buf) st a e h t q =
     let r = sym (ap (λ (x : Step). isRefusal (x .reply .answer)) e) ∙ t in
@@ -57,16 +61,21 @@ afl-of s (link-failed buf) st a e h t q = no a
 afl-of s (stop buf) st a e h t q = no a
 
 pub read-afl : (cs : List Call)
-    → hostAflAcceptedFromGpoAnswer (firstAnswerCall (hostCallsNotRefused (map hostViewOfCall (playCalls freshSession cs)))) ≡ aflAcceptedFromGpoAnswer (firstAnswer (callsAccepted (playCalls freshSession cs)))
-read-afl cs = ap hostAflAcceptedFromGpoAnswer (read-first-taken ms (play-known freshSession cs)) ∙ go (firstAnswer (callsAccepted ms)) refl
+    → hostAflAcceptedFromGpoAnswer
+    (firstAnswerCall (hostCallsNotRefused (map hostViewOfCall (playCalls freshSession cs)))) ≡ aflAcceptedFromGpoAnswer
+    (firstAnswer (callsAccepted (playCalls freshSession cs)))
+read-afl cs = ap hostAflAcceptedFromGpoAnswer (read-first-taken ms (play-known freshSession cs)) ∙ go
+    (firstAnswer (callsAccepted ms)) refl
   where
     ms : List CallMade
     ms = playCalls freshSession cs
 
-    go : (x : Option CallMade) → firstAnswer (callsAccepted ms) ≡ x → hostAflAcceptedFromGpoAnswer (asRead x) ≡ aflAcceptedFromGpoAnswer x
+    go : (x : Option CallMade) → firstAnswer (callsAccepted ms) ≡ x → hostAflAcceptedFromGpoAnswer (asRead x)
+        ≡ aflAcceptedFromGpoAnswer x
     go none e = refl
     go (some m) e =
         let known = taken-all Known ms (play-known freshSession cs) in
         let k = first-all (λ x. Known x × (callRefused x ≡ false)) (callsAccepted ms) m known e in
-        afl-of (m .before) (m .call) (m .step) (first-answers (callsAccepted ms) m e) (k .0 .is-step) (k .0 .small) (k .1)
+        afl-of (m .before) (m .call) (m .step) (first-answers (callsAccepted ms) m e) (k .0 .is-step) (k .0 .small)
+        (k .1)
         (first-on-gpo freshSession cs m refl e)

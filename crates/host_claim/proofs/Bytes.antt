@@ -21,7 +21,8 @@ use Rattle.session.specs.Steps as steps
 use Rattle.session.specs.Steps.{Step, CallEffect, leastBuffer, stepIfAdmitted, linkFailedStep, stopStep}
 use Rattle.session.specs.Start.{startStep}
 use Rattle.session.specs.Answer.{answerStep}
-use Rattle.layout.specs.Layout.{sessionRecordSize, bigEndianBytes, encodedSession, sessionWrittenOverFrontIfRoom, decodedSession}
+use Rattle.layout.specs.Layout.{sessionRecordSize, bigEndianBytes, encodedSession, sessionWrittenOverFrontIfRoom}
+use Rattle.layout.specs.Layout.{decodedSession}
 use Rattle.layout.specs.Word.{refusalWord}
 use Rattle.layout.proofs.Laws.{decode-encode, written-back, written-length}
 use Rattle.session.specs.Calls.{Call, start, answer, link-failed, stop, callStep}
@@ -30,7 +31,8 @@ use Rattle.host_claim.specs.Calls.{hostResultOfCall}
 
 -- ---- a record at the front of bytes that are enough
 
-written : (s : Session) (l : List ℕ) → sessionRecordSize ≤ length l → sessionWrittenOverFrontIfRoom s l ≡ encodedSession s ++ drop sessionRecordSize l
+written : (s : Session) (l : List ℕ) → sessionRecordSize ≤ length l → sessionWrittenOverFrontIfRoom s l
+    ≡ encodedSession s ++ drop sessionRecordSize l
 unfolding sessionWrittenOverFrontIfRoom
 written s l h = if-yes _ _ (le-leb sessionRecordSize (length l) h)
 
@@ -45,15 +47,18 @@ module _ (s : Session) (i : sessionRecordInRanges s ≡ true) (l : List ℕ) (h 
 
   -- the bytes after it stay, and all are enough as before
   pub record-behind : drop sessionRecordSize (sessionWrittenOverFrontIfRoom s l) ≡ drop sessionRecordSize l
-  record-behind = ap (drop sessionRecordSize) (written s l h) ∙ drop-at (encodedSession s) (drop sessionRecordSize l) sessionRecordSize size
+  record-behind = ap (drop sessionRecordSize) (written s l h) ∙ drop-at (encodedSession s) (drop sessionRecordSize l)
+      sessionRecordSize size
 
   pub record-enough : sessionRecordSize ≤ length (sessionWrittenOverFrontIfRoom s l)
   record-enough = omega (arith, written-length l s (store-size s i))
 
   -- another record over it
-  pub record-over : (t : Session) → sessionWrittenOverFrontIfRoom t (sessionWrittenOverFrontIfRoom s l) ≡ sessionWrittenOverFrontIfRoom t l
+  pub record-over : (t : Session) → sessionWrittenOverFrontIfRoom t (sessionWrittenOverFrontIfRoom s l)
+      ≡ sessionWrittenOverFrontIfRoom t l
   record-over t =
-      written t (sessionWrittenOverFrontIfRoom s l) record-enough ∙ ap (λ (x : List ℕ). encodedSession t ++ x) record-behind
+      written t (sessionWrittenOverFrontIfRoom s l) record-enough ∙ ap (λ (x : List ℕ). encodedSession t ++ x)
+      record-behind
       ∙ sym (written t l h)
 
 -- ---- a call
@@ -83,5 +88,6 @@ module _ (l : List ℕ) (s : Session) (e : decodedSession l ≡ some s) where
   over-session (link-failed buf) = call-is linkFailedStep buf (short s buf _)
   over-session (stop buf) = call-is stopStep buf (short s buf _)
 
-pub as-session : (l : List ℕ) (s : Session) (c : Call) → decodedSession l ≡ some s → hostResultOfCall l c ≡ hostResultOfStep l (callStep s c)
+pub as-session : (l : List ℕ) (s : Session) (c : Call) → decodedSession l ≡ some s
+    → hostResultOfCall l c ≡ hostResultOfStep l (callStep s c)
 as-session l s c e = over-session l s e c

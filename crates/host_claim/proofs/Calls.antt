@@ -29,11 +29,16 @@ use Rattle.step_laws.proofs.Refusals.{Other, never-ranges}
 use Rattle.host.specs.Hosted.{HostResult, HostOpened, hostOpenWord}
 use Rattle.host.proofs.Sizes.{Small}
 use Rattle.host_claim.specs.Calls.{HostCall, opening, on-session, HostCallMade, playHostCalls, finalSessionBytes}
-use Rattle.host_claim.specs.Words.{hostCallNotRefusedWith25, isAcceptedOpening, hasAcceptedOpening, callsSinceLastAcceptedOpening, hostCommandsHandedOut, hostCallsNotRefused, hostUnansweredCommands, firstAnswerCall, hostAflAcceptedFromGpoAnswer, hostFinalCommandKindByGpoAnswer}
-use Rattle.host_claim.specs.Claim.{HostCallsAndBytesAfterInPublishedOrder, sessionCallsAmong, hostViewOfCall, HostCallsSameAsSessionCalls, HostCallsInOrderAndAsSessionCalls}
+use Rattle.host_claim.specs.Words.{hostCallNotRefusedWith25, isAcceptedOpening, hasAcceptedOpening}
+use Rattle.host_claim.specs.Words.{callsSinceLastAcceptedOpening, hostCommandsHandedOut, hostCallsNotRefused}
+use Rattle.host_claim.specs.Words.{hostUnansweredCommands, firstAnswerCall, hostAflAcceptedFromGpoAnswer}
+use Rattle.host_claim.specs.Words.{hostFinalCommandKindByGpoAnswer}
+use Rattle.host_claim.specs.Claim.{HostCallsAndBytesAfterInPublishedOrder, sessionCallsAmong, hostViewOfCall}
+use Rattle.host_claim.specs.Claim.{HostCallsSameAsSessionCalls, HostCallsInOrderAndAsSessionCalls}
 use Rattle.host_claim.proofs.Bytes.{record-held, record-behind, record-enough, record-over, as-session}
 use Rattle.host_claim.proofs.Read.{completedCall, step-small}
-use Rattle.host_claim.proofs.Proper.{session-proper, words-proper, commands-same, taken-same, unanswered-same, afl-same, last-kind-same}
+use Rattle.host_claim.proofs.Proper.{session-proper, words-proper, commands-same, taken-same, unanswered-same}
+use Rattle.host_claim.proofs.Proper.{afl-same, last-kind-same}
 
 -- ---- the calls since the last accepted opening
 
@@ -132,23 +137,27 @@ call-since s c {ms} t = elim (bool-cases (hasAcceptedOpening ms)) [
 ]
 
 after-call : {b : List ℕ} (s : Session) (c : Call) {ms : List HostCallMade} {l : List ℕ}
-    → hostCallNotRefusedWith25 (called s c) ≡ true → Through b (callStep s c .reply .session) ms l → Through b s (called s c ∷ ms) l
+    → hostCallNotRefusedWith25 (called s c) ≡ true → Through b (callStep s c .reply .session) ms l
+    → Through b s (called s c ∷ ms) l
 unfolding every
 after-call s c n t = record { since = call-since s c t; not-25 = both-yes _ _ n (t .not-25) }
 
 -- ---- no word of a session in its ranges is that of refusal 25
 
-other-word : (a : CallResult) → Small a → Other a → not (eqb (resultWord a) (refusalWord refusalRecordOutOfRanges)) ≡ true
+other-word : (a : CallResult) → Small a → Other a → not (eqb (resultWord a) (refusalWord refusalRecordOutOfRanges))
+    ≡ true
 other-word a h o = ap not (ne-eqb (resultWord a) (refusalWord refusalRecordOutOfRanges) (apart a h o))
   where
     apart : (a : CallResult) → Small a → Other a → resultWord a ≡ refusalWord refusalRecordOutOfRanges → ⊥
     apart (CallResult.Command c) h o e = omega (arith, command-below (c .size))
-    apart (CallResult.Outcome x) h o e = let k = outcome-kind x (omega arith) in let m = ap resultWordKind e in omega arith
+    apart (CallResult.Outcome x) h o e = let k = outcome-kind x (omega arith) in let m = ap resultWordKind e in
+        omega arith
     apart (CallResult.Refused r) h o e = o (omega arith)
 
 -- ---- every list of calls
 
-final-keeps : (s : Session) (cs : List Call) → sessionRecordInRanges s ≡ true → sessionRecordInRanges (finalSession s cs) ≡ true
+final-keeps : (s : Session) (cs : List Call) → sessionRecordInRanges s ≡ true
+    → sessionRecordInRanges (finalSession s cs) ≡ true
 unfolding finalSession
 final-keeps s [] i = i
 final-keeps s (c ∷ cs) i = final-keeps (callStep s c .reply .session) cs (call-keeps s c i)
@@ -161,11 +170,14 @@ module _ (before : List ℕ) (enough : sessionRecordSize ≤ length before) wher
       (finalSessionBytes (h .session) cs)
 
   through : (cs : List HostCall) (s : Session) → sessionRecordInRanges s ≡ true
-      → Through before s (playHostCalls (sessionWrittenOverFrontIfRoom s before) cs) (finalSessionBytes (sessionWrittenOverFrontIfRoom s before) cs)
-  unfolding playHostCalls finalSessionBytes hasAcceptedOpening callsSinceLastAcceptedOpening playCalls finalSession sessionCallsAmong every
+      → Through before s (playHostCalls (sessionWrittenOverFrontIfRoom s before) cs)
+      (finalSessionBytes (sessionWrittenOverFrontIfRoom s before) cs)
+  unfolding playHostCalls finalSessionBytes hasAcceptedOpening callsSinceLastAcceptedOpening playCalls finalSession
+      sessionCallsAmong every
   through [] s i = record { since = record { words = refl; after = refl }; not-25 = refl }
   through (opening ∷ cs) s i =
-      let w : hostOpenWord (sessionWrittenOverFrontIfRoom s before) ≡ 0 = if-yes _ _ (le-leb sessionRecordSize _ (record-enough s i before enough)) in
+      let w : hostOpenWord (sessionWrittenOverFrontIfRoom s before) ≡ 0 =
+      if-yes _ _ (le-leb sessionRecordSize _ (record-enough s i before enough)) in
       let o = record-over s i before enough freshSession in
       subst (AllOf s opening cs) (λ j. record { word = sym w j; session = sym o j; buffer = [] })
       (after-opening s (through cs freshSession fresh-keeps))
@@ -191,19 +203,26 @@ module _ (before : List ℕ) (enough : sessionRecordSize ≤ length before) wher
         record {
           words = h .words;
           record-after = h .after;
-          behind = ap (drop sessionRecordSize) (h .after) ∙ record-behind (finalSession freshSession cs) ranges before enough;
+          behind = ap (drop sessionRecordSize) (h .after) ∙ record-behind (finalSession freshSession cs) ranges before
+              enough;
           proper = session-proper cs;
           same-commands = ap hostCommandsHandedOut (h .words) ∙ commands-same cs;
           same-taken = ap hostCallsNotRefused (h .words) ∙ taken-same cs;
           same-unanswered = ap hostUnansweredCommands (h .words) ∙ unanswered-same cs;
-          same-afl = ap (λ (xs : List HostCallMade). hostAflAcceptedFromGpoAnswer (firstAnswerCall (hostCallsNotRefused xs))) (h .words) ∙ afl-same cs;
-          same-last-kind = ap (λ (xs : List HostCallMade). hostFinalCommandKindByGpoAnswer (firstAnswerCall (hostCallsNotRefused xs))) (h .words) ∙ last-kind-same cs;
+          same-afl =
+              ap (λ (xs : List HostCallMade). hostAflAcceptedFromGpoAnswer (firstAnswerCall (hostCallsNotRefused xs)))
+              (h .words) ∙ afl-same cs;
+          same-last-kind =
+              ap (λ (xs : List HostCallMade). hostFinalCommandKindByGpoAnswer
+              (firstAnswerCall (hostCallsNotRefused xs)))
+              (h .words) ∙ last-kind-same cs;
         }
 
     since-proper : HostCallsAndBytesAfterInPublishedOrder x l
     since-proper =
         subst (λ (y : List HostCallMade). HostCallsAndBytesAfterInPublishedOrder y l) (sym (h .words))
-        (words-proper cs l (ap decodedSession (h .after) ∙ record-held (finalSession freshSession cs) ranges before enough))
+        (words-proper cs l (ap decodedSession (h .after) ∙ record-held (finalSession freshSession cs) ranges before
+        enough))
 
 -- an opening that gives 0 was accepted: the bytes are enough
 accepted-enough : (l : List ℕ) → hostOpenWord l ≡ 0 → sessionRecordSize ≤ length l

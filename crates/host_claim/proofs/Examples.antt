@@ -9,7 +9,9 @@ use Rattle.basics.specs.Choice.{if, both, either}
 use Rattle.session.specs.Calls.{start, answer, link-failed}
 use Rattle.host_claim.specs.Calls.{opening, on-session, HostCallMade}
 use Rattle.host_claim.proofs.Read.{completedCall}
-use Rattle.host_claim.specs.Words.{isCommandWord, isOutcomeWord, isRefusalWord, hasAcceptedOpening, callsSinceLastAcceptedOpening, hostCommandsHandedOut, hostCallsNotRefused, hasAnswerCall, hostCommandsWithNoLaterAnswer, hostUnansweredCommands}
+use Rattle.host_claim.specs.Words.{isCommandWord, isOutcomeWord, isRefusalWord, hasAcceptedOpening}
+use Rattle.host_claim.specs.Words.{callsSinceLastAcceptedOpening, hostCommandsHandedOut, hostCallsNotRefused}
+use Rattle.host_claim.specs.Words.{hasAnswerCall, hostCommandsWithNoLaterAnswer, hostUnansweredCommands}
 
 -- a command of 8 and of 261 bytes; approved with no CVM, with a signature; ended by a failed link; refusals 21 and 25
 abbrev some-words : List ℕ
@@ -56,7 +58,8 @@ unfolding hostUnansweredCommands hostCallsNotRefused hostCommandsWithNoLaterAnsw
 unanswered-first = refl
 
 -- an opening begins anew, one that is refused (25) does not
-anew : callsSinceLastAcceptedOpening (first ∷ completedCall opening 0 [] ∷ again ∷ completedCall opening 0 [] ∷ first ∷ next ∷ [])
+anew : callsSinceLastAcceptedOpening (first ∷ completedCall opening 0 [] ∷ again ∷ completedCall opening 0 [] ∷ first
+    ∷ next ∷ [])
     ≡ first ∷ next ∷ []
 unfolding callsSinceLastAcceptedOpening hasAcceptedOpening if both either
 anew = refl

@@ -1,4 +1,5 @@
--- Demand 3 of session's calls, read off their words and buffers: the claim of session_claim, each part by the reading that is the
+-- Demand 3 of session's calls, read off their words and buffers: the claim of session_claim, each part by the reading
+-- that is the
 -- same.
 -- Assumes nothing.
 use mathlib.Core.Path.{_≡_, refl, sym, ap, _∙_}
@@ -13,14 +14,17 @@ use Rattle.session_record.proofs.Phases.{fresh-keeps}
 use Rattle.layout.specs.Layout.{decodedSession}
 use Rattle.session_claim.specs.Calls.{commandsSent, callsAccepted, unansweredCommands, lastElement}
 use Rattle.session.specs.Calls.{Call, CallMade, playCalls, finalSession}
-use Rattle.session_claim.specs.Order.{commandKind, firstAnswer, publishedOrder, finalCommandKindByGpoAnswer, aflAcceptedFromGpoAnswer}
+use Rattle.session_claim.specs.Order.{commandKind, firstAnswer, publishedOrder, finalCommandKindByGpoAnswer}
+use Rattle.session_claim.specs.Order.{aflAcceptedFromGpoAnswer}
 use Rattle.session_claim.specs.Claim.{mostCommandsForAcceptedAfl, CallsAndSessionAfterInPublishedOrder}
 use Rattle.session_claim.proofs.Trace.{always}
 use Rattle.host.specs.Hosted.{commandCountOrAllOnes}
 use Rattle.host_claim.specs.Calls.{HostCallMade}
-use Rattle.host_claim.specs.Words.{hostCommandsHandedOut, hostCallsNotRefused, hostUnansweredCommands, firstAnswerCall, hostAflAcceptedFromGpoAnswer, hostFinalCommandKindByGpoAnswer}
+use Rattle.host_claim.specs.Words.{hostCommandsHandedOut, hostCallsNotRefused, hostUnansweredCommands}
+use Rattle.host_claim.specs.Words.{firstAnswerCall, hostAflAcceptedFromGpoAnswer, hostFinalCommandKindByGpoAnswer}
 use Rattle.host_claim.specs.Claim.{HostCallsAndBytesAfterInPublishedOrder, hostViewOfCall}
-use Rattle.host_claim.proofs.Read.{All, Known, play-known, read-commands, read-taken, read-unanswered, read-last-kind, read-stage}
+use Rattle.host_claim.proofs.Read.{All, Known, play-known, read-commands, read-taken, read-unanswered}
+use Rattle.host_claim.proofs.Read.{read-last-kind, read-stage}
 use Rattle.host_claim.proofs.Afl.{read-afl}
 
 module _ (cs : List Call) where
@@ -48,10 +52,12 @@ module _ (cs : List Call) where
   pub unanswered-same : hostUnansweredCommands hs ≡ unansweredCommands ms
   unanswered-same = read-unanswered ms known
 
-  pub afl-same : hostAflAcceptedFromGpoAnswer (firstAnswerCall (hostCallsNotRefused hs)) ≡ aflAcceptedFromGpoAnswer (firstAnswer (callsAccepted ms))
+  pub afl-same : hostAflAcceptedFromGpoAnswer (firstAnswerCall (hostCallsNotRefused hs)) ≡ aflAcceptedFromGpoAnswer
+      (firstAnswer (callsAccepted ms))
   afl-same = read-afl cs
 
-  pub last-kind-same : hostFinalCommandKindByGpoAnswer (firstAnswerCall (hostCallsNotRefused hs)) ≡ finalCommandKindByGpoAnswer (firstAnswer (callsAccepted ms))
+  pub last-kind-same : hostFinalCommandKindByGpoAnswer (firstAnswerCall (hostCallsNotRefused hs))
+      ≡ finalCommandKindByGpoAnswer (firstAnswer (callsAccepted ms))
   last-kind-same = read-last-kind ms known
 
   taken-number : length (hostCallsNotRefused hs) ≡ length (callsAccepted ms)
@@ -73,7 +79,8 @@ module _ (cs : List Call) where
         never-over = omega (arith, p .never-over, number);
         stage = p .stage ∙ sym (read-stage ms known);
         one-unanswered = λ w. ap length unanswered-same ∙ p .one-unanswered w;
-        last-unanswered = λ w. ap lastElement unanswered-same ∙ p .last-unanswered w ∙ sym (ap lastElement commands-same);
+        last-unanswered = λ w. ap lastElement unanswered-same ∙ p .last-unanswered w ∙ sym
+            (ap lastElement commands-same);
         calls = omega (arith, p .calls, number, taken-number);
         never-over-131 = omega (arith, p .never-over-131, taken-number);
       }

@@ -1,4 +1,5 @@
--- What is read off the words and the buffers of session's calls is what session_claim reads off their replies: a word tells
+-- What is read off the words and the buffers of session's calls is what session_claim reads off their replies: a word
+-- tells
 -- command, outcome and refusal apart, and a command's length, since no call hands out more than 261 bytes. Each reading
 -- by induction over the calls.
 -- Assumes nothing.
@@ -15,15 +16,20 @@ use Rattle.basics.proofs.Laws.{if-yes, if-no, if-ap, if-ind}
 use Rattle.session_record.specs.declared.CallResult.{CallResult}
 use Rattle.session_record.specs.declared.Session.{Session}
 use Rattle.layout.specs.Word.{resultWordKind, wordKindCommand, wordKindOutcome, wordKindRefusal, resultWord}
-use Rattle.session_claim.specs.Calls.{commandsSent, callsAccepted, lastElement, isAnswer, hasAnswer, commandsWithNoLaterAnswer, unansweredCommands}
-use Rattle.session.specs.Calls.{Call, start, answer, link-failed, stop, callStep, CallMade, playCalls, isRefusal, callResult, callRefused, commandSent}
+use Rattle.session_claim.specs.Calls.{commandsSent, callsAccepted, lastElement, isAnswer, hasAnswer}
+use Rattle.session_claim.specs.Calls.{commandsWithNoLaterAnswer, unansweredCommands}
+use Rattle.session.specs.Calls.{Call, start, answer, link-failed, stop, callStep, CallMade, playCalls, isRefusal}
+use Rattle.session.specs.Calls.{callResult, callRefused, commandSent}
 use Rattle.session.proofs.Results.{isCommand, isOutcome}
 use Rattle.session_claim.specs.Order.{firstAnswer, finalCommandKindByGpoAnswer}
 use Rattle.session_claim.specs.Claim.{stageAfterAcceptedResult, stageAfterLastAcceptedCall}
 use Rattle.host.proofs.Sizes.{Small, SmallStep, start-small, answer-small, link-small, stop-small}
 use Rattle.host.proofs.Laws.{tells}
 use Rattle.host_claim.specs.Calls.{HostCall, HostCallMade}
-use Rattle.host_claim.specs.Words.{isCommandWord, isOutcomeWord, isRefusalWord, hostCommandsHandedOut, hostCallsNotRefused, hasAnswerCall, hostCommandsWithNoLaterAnswer, hostUnansweredCommands, firstAnswerCall, hostFinalCommandKindByGpoAnswer, stageAfterAcceptedWord, hostStageAfterLastAcceptedCall}
+use Rattle.host_claim.specs.Words.{isCommandWord, isOutcomeWord, isRefusalWord, hostCommandsHandedOut}
+use Rattle.host_claim.specs.Words.{hostCallsNotRefused, hasAnswerCall, hostCommandsWithNoLaterAnswer}
+use Rattle.host_claim.specs.Words.{hostUnansweredCommands, firstAnswerCall, hostFinalCommandKindByGpoAnswer}
+use Rattle.host_claim.specs.Words.{stageAfterAcceptedWord, hostStageAfterLastAcceptedCall}
 use Rattle.host_claim.specs.Claim.{hostViewOfCall}
 
 -- a call that was made, of its parts
@@ -66,14 +72,17 @@ word-refusal (CallResult.Refused r) h = kind-read (CallResult.Refused r) h wordK
 -- the stage that a word reports is the one of the answer
 word-stage : (a : CallResult) → Small a → stageAfterAcceptedWord (resultWord a) ≡ stageAfterAcceptedResult a
 word-stage (CallResult.Command c) h = if-yes _ _ (word-command (CallResult.Command c) h)
-word-stage (CallResult.Outcome e) h = if-no _ _ (word-command (CallResult.Outcome e) h) ∙ if-yes _ _ (word-outcome (CallResult.Outcome e) h)
-word-stage (CallResult.Refused r) h = if-no _ _ (word-command (CallResult.Refused r) h) ∙ if-no _ _ (word-outcome (CallResult.Refused r) h)
+word-stage (CallResult.Outcome e) h = if-no _ _ (word-command (CallResult.Outcome e) h) ∙ if-yes _ _
+    (word-outcome (CallResult.Outcome e) h)
+word-stage (CallResult.Refused r) h = if-no _ _ (word-command (CallResult.Refused r) h) ∙ if-no _ _
+    (word-outcome (CallResult.Refused r) h)
 
 -- the command of a call, by its word
 command-read : (a : CallResult) (buf : List ℕ) → Small a
     → if (isCommandWord (resultWord a)) (take (resultWord a) buf ∷ []) [] ≡ commandSent a buf
 command-read (CallResult.Command c) buf h =
-    if-yes _ _ (word-command (CallResult.Command c) h) ∙ ap (λ (n : ℕ). take n buf ∷ []) (tells (CallResult.Command c) h .0)
+    if-yes _ _ (word-command (CallResult.Command c) h) ∙ ap (λ (n : ℕ). take n buf ∷ [])
+    (tells (CallResult.Command c) h .0)
 command-read (CallResult.Outcome e) buf h = if-no _ _ (word-command (CallResult.Outcome e) h)
 command-read (CallResult.Refused r) buf h = if-no _ _ (word-command (CallResult.Refused r) h)
 
@@ -97,10 +106,15 @@ step-small s (stop buf) = stop-small s buf
 pub play-known : (s : Session) (cs : List Call) → All Known (playCalls s cs)
 unfolding playCalls
 play-known s [] = tt
-play-known s (c ∷ cs) = (record { is-step = refl; small = step-small s c }, play-known (callStep s c .reply .session) cs)
+play-known s (c ∷ cs) = (
+  record { is-step = refl; small = step-small s c },
+  play-known (callStep s c .reply .session)
+      cs,
+)
 
 -- of the calls that were taken the same is known, and that they were not refused
-pub taken-all : (P : CallMade → Type 0) (ms : List CallMade) → All P ms → All (λ m. P m × (callRefused m ≡ false)) (callsAccepted ms)
+pub taken-all : (P : CallMade → Type 0) (ms : List CallMade) → All P ms
+    → All (λ m. P m × (callRefused m ≡ false)) (callsAccepted ms)
 unfolding callsAccepted
 taken-all P [] k = tt
 taken-all P (m ∷ ms) k =
@@ -135,18 +149,21 @@ last-all P (x ∷ y ∷ ms) m k e = last-all P (y ∷ ms) m (k .1) e
 
 -- ---- the readings
 
-pub read-commands : (ms : List CallMade) → All Known ms → hostCommandsHandedOut (map hostViewOfCall ms) ≡ commandsSent ms
+pub read-commands : (ms : List CallMade) → All Known ms → hostCommandsHandedOut (map hostViewOfCall ms)
+    ≡ commandsSent ms
 unfolding hostCommandsHandedOut commandsSent
 read-commands [] k = refl
 read-commands (m ∷ ms) k =
     ap₂ (λ (x y : List (List ℕ)). x ++ y) (command-read (callResult m) (m .step .buffer) (k .0 .small))
     (read-commands ms (k .1))
 
-pub read-taken : (ms : List CallMade) → All Known ms → hostCallsNotRefused (map hostViewOfCall ms) ≡ map hostViewOfCall (callsAccepted ms)
+pub read-taken : (ms : List CallMade) → All Known ms → hostCallsNotRefused (map hostViewOfCall ms) ≡ map hostViewOfCall
+    (callsAccepted ms)
 unfolding hostCallsNotRefused callsAccepted
 read-taken [] k = refl
 read-taken (m ∷ ms) k =
-    ap₂ (λ (b : Bool) (x : List HostCallMade). if b x (hostViewOfCall m ∷ x)) (word-refusal (callResult m) (k .0 .small))
+    ap₂ (λ (b : Bool) (x : List HostCallMade). if b x (hostViewOfCall m ∷ x))
+    (word-refusal (callResult m) (k .0 .small))
     (read-taken ms (k .1))
     ∙ sym (if-ap (map hostViewOfCall) (callRefused m) (callsAccepted ms) (m ∷ callsAccepted ms))
 
@@ -155,7 +172,8 @@ unfolding hasAnswerCall hasAnswer
 read-answers [] = refl
 read-answers (m ∷ ms) = ap (either (isAnswer (m .call))) (read-answers ms)
 
-read-out : (ms : List CallMade) → All Known ms → hostCommandsWithNoLaterAnswer (map hostViewOfCall ms) ≡ commandsWithNoLaterAnswer ms
+read-out : (ms : List CallMade) → All Known ms → hostCommandsWithNoLaterAnswer (map hostViewOfCall ms)
+    ≡ commandsWithNoLaterAnswer ms
 unfolding hostCommandsWithNoLaterAnswer commandsWithNoLaterAnswer
 read-out [] k = refl
 read-out (m ∷ ms) k =
@@ -167,10 +185,12 @@ known-of : (ms : List CallMade) → All (λ m. Known m × (callRefused m ≡ fal
 known-of [] k = tt
 known-of (m ∷ ms) k = (k .0 .0, known-of ms (k .1))
 
-pub read-unanswered : (ms : List CallMade) → All Known ms → hostUnansweredCommands (map hostViewOfCall ms) ≡ unansweredCommands ms
+pub read-unanswered : (ms : List CallMade) → All Known ms → hostUnansweredCommands (map hostViewOfCall ms)
+    ≡ unansweredCommands ms
 unfolding hostUnansweredCommands unansweredCommands
 read-unanswered ms k =
-    ap hostCommandsWithNoLaterAnswer (read-taken ms k) ∙ read-out (callsAccepted ms) (known-of (callsAccepted ms) (taken-all Known ms k))
+    ap hostCommandsWithNoLaterAnswer (read-taken ms k) ∙ read-out (callsAccepted ms)
+    (known-of (callsAccepted ms) (taken-all Known ms k))
 
 -- the first answer and the last call, if there is one
 abbrev pub asRead : Option CallMade → Option HostCallMade
@@ -199,14 +219,21 @@ by-kind none = refl
 by-kind (some m) = refl
 
 pub read-last-kind : (ms : List CallMade) → All Known ms
-    → hostFinalCommandKindByGpoAnswer (firstAnswerCall (hostCallsNotRefused (map hostViewOfCall ms))) ≡ finalCommandKindByGpoAnswer (firstAnswer (callsAccepted ms))
-read-last-kind ms k = ap hostFinalCommandKindByGpoAnswer (read-first-taken ms k) ∙ by-kind (firstAnswer (callsAccepted ms))
+    → hostFinalCommandKindByGpoAnswer (firstAnswerCall (hostCallsNotRefused (map hostViewOfCall ms)))
+    ≡ finalCommandKindByGpoAnswer (firstAnswer (callsAccepted ms))
+read-last-kind ms k = ap hostFinalCommandKindByGpoAnswer (read-first-taken ms k) ∙ by-kind
+    (firstAnswer (callsAccepted ms))
 
 -- ---- what the last call taken says
 
-pub read-stage : (ms : List CallMade) → All Known ms → hostStageAfterLastAcceptedCall (lastElement (hostCallsNotRefused (map hostViewOfCall ms))) ≡ stageAfterLastAcceptedCall (lastElement (callsAccepted ms))
-read-stage ms k = ap hostStageAfterLastAcceptedCall (ap lastElement (read-taken ms k) ∙ read-last (callsAccepted ms)) ∙ go (lastElement (callsAccepted ms)) refl
+pub read-stage : (ms : List CallMade) → All Known ms
+    → hostStageAfterLastAcceptedCall (lastElement (hostCallsNotRefused (map hostViewOfCall ms)))
+    ≡ stageAfterLastAcceptedCall (lastElement (callsAccepted ms))
+read-stage ms k = ap hostStageAfterLastAcceptedCall (ap lastElement (read-taken ms k) ∙ read-last (callsAccepted ms)) ∙
+    go (lastElement (callsAccepted ms)) refl
   where
-    go : (x : Option CallMade) → lastElement (callsAccepted ms) ≡ x → hostStageAfterLastAcceptedCall (asRead x) ≡ stageAfterLastAcceptedCall x
+    go : (x : Option CallMade) → lastElement (callsAccepted ms) ≡ x → hostStageAfterLastAcceptedCall (asRead x)
+        ≡ stageAfterLastAcceptedCall x
     go none e = refl
-    go (some m) e = word-stage (callResult m) (last-all Known (callsAccepted ms) m (known-of (callsAccepted ms) (taken-all Known ms k)) e .small)
+    go (some m) e = word-stage (callResult m)
+        (last-all Known (callsAccepted ms) m (known-of (callsAccepted ms) (taken-all Known ms k)) e .small)

@@ -19,7 +19,9 @@ use Rattle.journal.specs.declared.JournalCheckState.{JournalCheckState}
 use Rattle.journal.specs.declared.JournalChecker.{JournalChecker}
 use Rattle.journal.specs.Record.{journalRecordSize}
 use Rattle.journal.specs.Verdict.{ExpectedNext, expectedNext, judgeRecord, firstRecordSize}
-use Rattle.journal.specs.Inner.{expectedNextInState, checkStateOf, checkStateAfterRecord, checkerHoldingOneMoreByte, checkerAfterJudgingRecord, checkerJudgingOnceRecordWhole, checkerAfterByte}
+use Rattle.journal.specs.Inner.{expectedNextInState, checkStateOf, checkStateAfterRecord}
+use Rattle.journal.specs.Inner.{checkerHoldingOneMoreByte, checkerAfterJudgingRecord}
+use Rattle.journal.specs.Inner.{checkerJudgingOnceRecordWhole, checkerAfterByte}
 use Rattle.journal.proofs.Pushed.{State, state, judgedState, wholeState, stepBy}
 
 -- ---- every way out of a push
@@ -35,13 +37,16 @@ module _ (c : JournalChecker) (b : ℕ) where
 
   pub stays-size : 264 < c .standing .size → c ≡ checkerAfterByte c b
   unfolding checkerAfterByte
-  stays-size h = sym (if-no _ _ (both-no-right _ _ (both-no-right _ _ (both-no-left _ _ (lt-leb (c .standing .size) 264 h)))))
+  stays-size h =
+      sym (if-no _ _ (both-no-right _ _ (both-no-right _ _ (both-no-left _ _ (lt-leb (c .standing .size) 264 h)))))
 
   pub stays-records : 1000 ≤ c .records → c ≡ checkerAfterByte c b
   unfolding checkerAfterByte
-  stays-records h = sym (if-no _ _ (both-no-right _ _ (both-no-right _ _ (both-no-right _ _ (le-ltb (c .records) 1000 h)))))
+  stays-records h =
+      sym (if-no _ _ (both-no-right _ _ (both-no-right _ _ (both-no-right _ _ (le-ltb (c .records) 1000 h)))))
 
-  module _ (r : c .standing .conforming ≡ true) (l : c .length < 1027) (s : c .standing .size ≤ 264) (n : c .records < 1000) where
+  module _ (r : c .standing .conforming ≡ true) (l : c .length < 1027) (s : c .standing .size ≤ 264)
+      (n : c .records < 1000) where
     pub goes : checkerJudgingOnceRecordWhole c (set (c .held) (c .length) b) ≡ checkerAfterByte c b
     unfolding checkerAfterByte
     goes =
@@ -53,25 +58,41 @@ module _ (c : JournalChecker) (b : ℕ) where
     unfolding checkerJudgingOnceRecordWhole
     holds-more size e h = sym (if-yes _ _ (lt-ltb (c .length + 1) _ (let g = e in omega arith))) ∙ goes
 
-    pub judges : (size : ℕ) (x : JournalCheckState) → size ≡ firstRecordSize (set (c .held) (c .length) b) → size ≤ c .length + 1
-        → x ≡ checkStateAfterRecord (c .standing) (judgeRecord (expectedNextInState (c .standing)) (take size (set (c .held) (c .length) b)))
-        → record { standing = x; held = set (c .held) (c .length) b; length = 0; records = c .records + 1 } ≡ checkerAfterByte c b
+    pub judges : (size : ℕ) (x : JournalCheckState) → size ≡ firstRecordSize (set (c .held) (c .length) b)
+        → size ≤ c .length + 1
+        → x ≡ checkStateAfterRecord (c .standing)
+        (judgeRecord (expectedNextInState (c .standing)) (take size (set (c .held) (c .length) b)))
+        → record { standing = x; held = set (c .held) (c .length) b; length = 0; records = c .records + 1 }
+        ≡ checkerAfterByte c b
     unfolding checkerJudgingOnceRecordWhole
     judges size x e h j =
-        ap (λ (y : JournalCheckState). record { standing = y; held = set (c .held) (c .length) b; length = 0; records = c .records + 1 })
-        (j ∙ ap (λ (m : ℕ). checkStateAfterRecord (c .standing) (judgeRecord (expectedNextInState (c .standing)) (take m (set (c .held) (c .length) b)))) e)
-        ∙ sym (if-no _ _ (le-ltb (c .length + 1) (firstRecordSize (set (c .held) (c .length) b)) (let g = e in omega arith))) ∙ goes
+        ap (λ (y : JournalCheckState). record {
+          standing = y;
+          held = set (c .held) (c .length) b;
+          length = 0;
+          records =
+              c .records + 1;
+        })
+        (j ∙ ap
+        (λ (m : ℕ). checkStateAfterRecord (c .standing)
+        (judgeRecord (expectedNextInState (c .standing)) (take m (set (c .held) (c .length) b)))) e)
+        ∙ sym
+        (if-no _ _ (le-ltb (c .length + 1) (firstRecordSize (set (c .held) (c .length) b)) (let g = e in omega arith)))
+        ∙ goes
 
 -- ---- the state
 
 abbrev pub stateOf : JournalChecker → State
-stateOf c = state (c .standing .conforming) (expectedNextInState (c .standing)) (c .records) (take (c .length) (c .held))
+stateOf c = state (c .standing .conforming) (expectedNextInState (c .standing)) (c .records)
+    (take (c .length) (c .held))
 
 -- what is expected is read back
 pub due-back : (e : ExpectedNext) → take (length (e .due)) (checkStateOf e .due) ≡ e .due
 due-back e = take-append-seam (e .due) _
 
-judged-state : (s : JournalCheckState) (n : ℕ) (o : Option ExpectedNext) → state (checkStateAfterRecord s o .conforming) (expectedNextInState (checkStateAfterRecord s o)) n [] ≡ judgedState (expectedNextInState s) n o
+judged-state : (s : JournalCheckState) (n : ℕ) (o : Option ExpectedNext)
+    → state (checkStateAfterRecord s o .conforming) (expectedNextInState (checkStateAfterRecord s o)) n []
+    ≡ judgedState (expectedNextInState s) n o
 judged-state s n none = refl
 judged-state s n (some e) = ap (λ (d : List ℕ). state true (expectedNext (e .session) d) n []) (due-back e)
 
@@ -93,9 +114,11 @@ module _ (h : List ℕ) (k b : ℕ) (room : k < length h) where
   same-size = ap firstRecordSize (sym longer) ∙ ap journalRecordSize (getD-take (k + 1) (set h k b) 0 0 (omega arith))
 
   same-record : firstRecordSize (set h k b) ≤ k + 1
-      → take (firstRecordSize (set h k b)) (set h k b) ≡ take (firstRecordSize (take k h ++ (b ∷ []))) (take k h ++ (b ∷ []))
+      → take (firstRecordSize (set h k b)) (set h k b) ≡ take (firstRecordSize (take k h ++ (b ∷ [])))
+      (take k h ++ (b ∷ []))
   same-record t =
-      sym (take-take (firstRecordSize (set h k b)) (k + 1) (set h k b) t) ∙ ap (take (firstRecordSize (set h k b))) longer
+      sym (take-take (firstRecordSize (set h k b)) (k + 1) (set h k b) t) ∙ ap (take (firstRecordSize (set h k b)))
+      longer
       ∙ ap (λ (m : ℕ). take m (take k h ++ (b ∷ []))) (sym same-size)
 
 module _ (c : JournalChecker) (b : ℕ) (f : Fine c) where
@@ -106,16 +129,25 @@ module _ (c : JournalChecker) (b : ℕ) (f : Fine c) where
       ≡ wholeState (expectedNextInState (c .standing)) (c .records) (take (c .length) (c .held) ++ (b ∷ []))
   unfolding checkerJudgingOnceRecordWhole wholeState
   whole-state r =
-      if-ind (λ (x : JournalChecker). stateOf x ≡ wholeState (expectedNextInState (c .standing)) (c .records) l) (ltb (c .length + 1) (firstRecordSize h)) (checkerHoldingOneMoreByte c h) (checkerAfterJudgingRecord c h)
+      if-ind (λ (x : JournalChecker). stateOf x ≡ wholeState (expectedNextInState (c .standing)) (c .records) l)
+      (ltb (c .length + 1) (firstRecordSize h)) (checkerHoldingOneMoreByte c h) (checkerAfterJudgingRecord c h)
       (λ w.
-        ap (λ (x : Bool). state x (expectedNextInState (c .standing)) (c .records) (take (c .length + 1) h)) r
-        ∙ ap (state true (expectedNextInState (c .standing)) (c .records)) (longer (c .held) (c .length) b room)
-        ∙ sym (if-yes _ _ (lt-ltb (length l) (firstRecordSize l) (omega (arith, ltb-true (c .length + 1) (firstRecordSize h) w, long, size)))))
+      ap (λ (x : Bool). state x (expectedNextInState (c .standing)) (c .records) (take (c .length + 1) h)) r
+      ∙ ap (state true (expectedNextInState (c .standing)) (c .records)) (longer (c .held) (c .length) b room)
+      ∙ sym
+      (if-yes _ _
+      (lt-ltb (length l) (firstRecordSize l)
+      (omega (arith, ltb-true (c .length + 1) (firstRecordSize h) w, long, size)))))
       (λ w.
-        judged-state (c .standing) (c .records + 1) (judgeRecord (expectedNextInState (c .standing)) (take (firstRecordSize h) h))
-        ∙ ap (λ (v : List ℕ). judgedState (expectedNextInState (c .standing)) (c .records + 1) (judgeRecord (expectedNextInState (c .standing)) v))
-        (same-record (c .held) (c .length) b room (ltb-false (c .length + 1) (firstRecordSize h) w))
-        ∙ sym (if-no _ _ (le-ltb (length l) (firstRecordSize l) (omega (arith, ltb-false (c .length + 1) (firstRecordSize h) w, long, size)))))
+      judged-state (c .standing) (c .records + 1)
+      (judgeRecord (expectedNextInState (c .standing)) (take (firstRecordSize h) h))
+      ∙ ap (λ (v : List ℕ). judgedState (expectedNextInState (c .standing)) (c .records + 1)
+      (judgeRecord (expectedNextInState (c .standing)) v))
+      (same-record (c .held) (c .length) b room (ltb-false (c .length + 1) (firstRecordSize h) w))
+      ∙ sym
+      (if-no _ _
+      (le-ltb (length l) (firstRecordSize l)
+      (omega (arith, ltb-false (c .length + 1) (firstRecordSize h) w, long, size)))))
     where
       h : List ℕ
       h = set (c .held) (c .length) b
@@ -129,13 +161,17 @@ module _ (c : JournalChecker) (b : ℕ) (f : Fine c) where
       size : firstRecordSize (take (c .length) (c .held) ++ (b ∷ [])) ≡ firstRecordSize (set (c .held) (c .length) b)
       size = same-size (c .held) (c .length) b room
 
-  pub state-step : stateOf (checkerAfterByte c b) ≡ stepBy (c .standing .conforming) (expectedNextInState (c .standing)) (c .records) (take (c .length) (c .held)) b
+  pub state-step : stateOf (checkerAfterByte c b) ≡ stepBy (c .standing .conforming) (expectedNextInState (c .standing))
+      (c .records) (take (c .length) (c .held)) b
   state-step = elim (bool-cases (c .standing .conforming)) [
     | inl r ↦
-        ap stateOf (sym (goes c b r (f .part) (f .size) (f .records))) ∙ whole-state r ∙ sym (ap (λ (x : Bool). stepBy x (expectedNextInState (c .standing)) (c .records) (take (c .length) (c .held)) b) r)
+        ap stateOf (sym (goes c b r (f .part) (f .size) (f .records))) ∙ whole-state r ∙ sym
+        (ap (λ (x : Bool). stepBy x (expectedNextInState (c .standing)) (c .records) (take (c .length) (c .held)) b) r)
     | inr r ↦
-        ap stateOf (sym (stays-wrong c b r)) ∙ ap (λ (x : Bool). state x (expectedNextInState (c .standing)) (c .records) (take (c .length) (c .held))) r
-        ∙ sym (ap (λ (x : Bool). stepBy x (expectedNextInState (c .standing)) (c .records) (take (c .length) (c .held)) b) r)
+        ap stateOf (sym (stays-wrong c b r)) ∙ ap (λ (x : Bool). state x (expectedNextInState (c .standing))
+        (c .records) (take (c .length) (c .held))) r
+        ∙ sym
+        (ap (λ (x : Bool). stepBy x (expectedNextInState (c .standing)) (c .records) (take (c .length) (c .held)) b) r)
   ]
 
 -- ---- the size of a record
@@ -148,13 +184,18 @@ size-none = refl
 pub size-most : (kind : ℕ) → journalRecordSize kind ≤ 1027
 unfolding journalRecordSize
 size-most kind =
-    if-ind P (eqb kind 1) _ _ (λ w. omega arith) (λ w. if-ind P (eqb kind 2) _ _ (λ w. omega arith) (λ w. if-ind P (eqb kind 3) _ _ (λ w. omega arith)
-    (λ w. if-ind P (eqb kind 4) _ _ (λ w. omega arith) (λ w. if-ind P (eqb kind 5) _ _ (λ w. omega arith) (λ w. if-ind P (eqb kind 6) _ _ (λ w. omega arith) (λ w. omega arith))))))
+    if-ind P (eqb kind 1) _ _ (λ w. omega arith)
+    (λ w. if-ind P (eqb kind 2) _ _ (λ w. omega arith) (λ w. if-ind P (eqb kind 3) _ _ (λ w. omega arith)
+    (λ w. if-ind P (eqb kind 4) _ _ (λ w. omega arith)
+    (λ w. if-ind P (eqb kind 5) _ _ (λ w. omega arith)
+    (λ w. if-ind P (eqb kind 6) _ _ (λ w. omega arith) (λ w. omega arith))))))
   where
     P : ℕ → Type 0
     P n = n ≤ 1027
 
 -- as many bytes as a record has are the record, and none where there is no such kind
-pub record-sized : (l : List ℕ) (size : ℕ) → size ≡ journalRecordSize (getD l 0 0) → size ≤ length l → length (take size l) ≡ journalRecordSize (getD (take size l) 0 0)
+pub record-sized : (l : List ℕ) (size : ℕ) → size ≡ journalRecordSize (getD l 0 0) → size ≤ length l
+    → length (take size l) ≡ journalRecordSize (getD (take size l) 0 0)
 record-sized l zero e t = sym size-none
-record-sized l (suc k) e t = length-take-le (suc k) l t ∙ e ∙ sym (ap journalRecordSize (getD-take (suc k) l 0 0 (omega arith)))
+record-sized l (suc k) e t = length-take-le (suc k) l t ∙ e ∙ sym
+    (ap journalRecordSize (getD-take (suc k) l 0 0 (omega arith)))

@@ -16,8 +16,11 @@ use Rattle.basics.proofs.Order.{equal-or-not}
 use Rattle.session_record.specs.Session.{freshSession}
 use Rattle.journal.specs.declared.JournalVerdict.{JournalVerdict}
 use Rattle.journal.specs.Record.{journalRecordSize, journalOfRecords}
-use Rattle.journal.specs.Verdict.{ExpectedNext, expectedAtStart, judgeRecord, verdictFrom, journalVerdictOf, firstRecordSize}
-use Rattle.journal.specs.ConformingRecords.{AllEntriesBelow256, AreConformingRecords, ByteCallsWriteJournalBeginningWith, NextRecordNotConforming, VerdictMatchesRest, VerdictHoldsOn}
+use Rattle.journal.specs.Verdict.{ExpectedNext, expectedAtStart, judgeRecord, verdictFrom, journalVerdictOf}
+use Rattle.journal.specs.Verdict.{firstRecordSize}
+use Rattle.journal.specs.ConformingRecords.{AllEntriesBelow256, AreConformingRecords}
+use Rattle.journal.specs.ConformingRecords.{ByteCallsWriteJournalBeginningWith, NextRecordNotConforming}
+use Rattle.journal.specs.ConformingRecords.{VerdictMatchesRest, VerdictHoldsOn}
 use Rattle.journal.proofs.Walk.{verdictContinues, unroll, ends, unknown, cut, whole}
 use Rattle.journal.proofs.Byte.{size-none}
 use Rattle.journal.proofs.Written.{Walks, Walked, verdict-behind, all-walked}
@@ -31,7 +34,8 @@ unfolding journalOfRecords
 joined-snoc [] r = append-nil r
 joined-snoc (x ∷ rs) r = ap (λ (l : List ℕ). x ++ l) (joined-snoc rs r) ∙ sym (append-assoc x (journalOfRecords rs) r)
 
-walks-snoc : {e u t : ExpectedNext} {rs : List (List ℕ)} (r : List ℕ) → Walks e rs u → 0 < length r → length r ≡ journalRecordSize (getD r 0 0) → judgeRecord u r ≡ some t
+walks-snoc : {e u t : ExpectedNext} {rs : List (List ℕ)} (r : List ℕ) → Walks e rs u → 0 < length r
+    → length r ≡ journalRecordSize (getD r 0 0) → judgeRecord u r ≡ some t
     → Walks e (rs ++ (r ∷ [])) t
 walks-snoc r Walks.done h z j = Walks.next h z j Walks.done
 walks-snoc r (Walks.next h′ z′ j′ w) h z j = Walks.next h′ z′ j′ (walks-snoc r w h z j)
@@ -42,7 +46,8 @@ last-some [] r (Walks.next h z j w) = h
 last-some (x ∷ rs) r (Walks.next h z j w) = last-some rs r w
 
 -- what is expected after records is one thing
-last-judged : {e u : ExpectedNext} {rs : List (List ℕ)} (r : List ℕ) (t : ExpectedNext) → Walks e rs u → Walks e (rs ++ (r ∷ [])) t → judgeRecord u r ≡ some t
+last-judged : {e u : ExpectedNext} {rs : List (List ℕ)} (r : List ℕ) (t : ExpectedNext) → Walks e rs u
+    → Walks e (rs ++ (r ∷ [])) t → judgeRecord u r ≡ some t
 last-judged r t Walks.done (Walks.next h z j Walks.done) = j
 last-judged r t (Walks.next {t = m} {rs = rs} h z j w) (Walks.next {t = m′} h′ z′ j′ v) =
     last-judged r t w (subst (λ (x : ExpectedNext). Walks x (rs ++ (r ∷ [])) t) (same-some (sym j′ ∙ j)) v)
@@ -52,9 +57,11 @@ last-judged r t (Walks.next {t = m} {rs = rs} h z j w) (Walks.next {t = m′} h�
 -- where the records stop, and with which verdict
 data Stops (u : ExpectedNext) (n : ℕ) : List ℕ → JournalVerdict → Type 0 where
   ended : Stops u n [] (JournalVerdict.Accepted n)
-  strange : {rest : List ℕ} → 0 < length rest → firstRecordSize rest ≡ 0 → Stops u n rest (JournalVerdict.Mismatch (n + 1))
+  strange : {rest : List ℕ} → 0 < length rest → firstRecordSize rest ≡ 0
+      → Stops u n rest (JournalVerdict.Mismatch (n + 1))
   short : {rest : List ℕ} → length rest < firstRecordSize rest → Stops u n rest (JournalVerdict.Truncated (n + 1))
-  mismatch : {rest : List ℕ} → 0 < firstRecordSize rest → firstRecordSize rest ≤ length rest → judgeRecord u (take (firstRecordSize rest) rest) ≡ none
+  mismatch : {rest : List ℕ} → 0 < firstRecordSize rest → firstRecordSize rest ≤ length rest
+      → judgeRecord u (take (firstRecordSize rest) rest) ≡ none
       → Stops u n rest (JournalVerdict.Mismatch (n + 1))
 
 record Split (e : ExpectedNext) (n : ℕ) (s : List ℕ) (v : JournalVerdict) : Type 0 where
@@ -69,9 +76,18 @@ stops-at : (e : ExpectedNext) (n : ℕ) (s : List ℕ) (v : JournalVerdict) → 
 unfolding journalOfRecords
 stops-at e n s v x =
     let g : n ≡ n + 0 = omega arith in
-    record { records = []; last = e; rest = s; walks = Walks.done; bytes = refl; stops = subst (λ (m : ℕ). Stops e m s v) g x }
+    record {
+      records = [];
+      last = e;
+      rest = s;
+      walks = Walks.done;
+      bytes = refl;
+      stops =
+          subst (λ (m : ℕ). Stops e m s v) g x;
+    }
 
-goes-on : (e t : ExpectedNext) (n : ℕ) (r more : List ℕ) (v : JournalVerdict) → 0 < length r → length r ≡ journalRecordSize (getD r 0 0) → judgeRecord e r ≡ some t
+goes-on : (e t : ExpectedNext) (n : ℕ) (r more : List ℕ) (v : JournalVerdict) → 0 < length r
+    → length r ≡ journalRecordSize (getD r 0 0) → judgeRecord e r ≡ some t
     → Split t (n + 1) more v → Split e n (r ++ more) v
 unfolding journalOfRecords
 goes-on e t n r more v h z j x =
@@ -82,20 +98,24 @@ goes-on e t n r more v h z j x =
       rest = x .rest;
       walks = Walks.next h z j (x .walks);
       bytes = append-assoc r (journalOfRecords (x .records)) (x .rest) ∙ ap (λ (l : List ℕ). r ++ l) (x .bytes);
-      stops = subst (λ (m : ℕ). Stops (x .last) m (x .rest) v) g (x .stops)
+      stops = subst (λ (m : ℕ). Stops (x .last) m (x .rest) v) g (x .stops);
     }
 
 -- a whole record, by what is expected after it
 by-judged : (e : ExpectedNext) (n b : ℕ) (s : List ℕ) → 0 < journalRecordSize b → journalRecordSize b ≤ length (b ∷ s)
-    → ((t : ExpectedNext) → Split t (n + 1) (drop (journalRecordSize b) (b ∷ s)) (verdictFrom t (n + 1) (drop (journalRecordSize b) (b ∷ s))))
+    → ((t : ExpectedNext) → Split t (n + 1) (drop (journalRecordSize b) (b ∷ s))
+    (verdictFrom t (n + 1) (drop (journalRecordSize b) (b ∷ s))))
     → (o : Option ExpectedNext) → judgeRecord e (take (journalRecordSize b) (b ∷ s)) ≡ o
     → Split e n (b ∷ s) (verdictContinues (λ t. verdictFrom t (n + 1) (drop (journalRecordSize b) (b ∷ s))) (n + 1) o)
 by-judged e n b s h k ih none j = stops-at e n (b ∷ s) _ (Stops.mismatch h k j)
 by-judged e n b s h k ih (some t) j =
-    let l : length (take (journalRecordSize b) (b ∷ s)) ≡ journalRecordSize b = length-take-le (journalRecordSize b) (b ∷ s) k in
+    let l : length (take (journalRecordSize b) (b ∷ s)) ≡ journalRecordSize b = length-take-le (journalRecordSize b)
+    (b ∷ s) k in
     let f : getD (take (journalRecordSize b) (b ∷ s)) 0 0 ≡ b = getD-take (journalRecordSize b) (b ∷ s) 0 0 h in
-    subst (λ (x : List ℕ). Split e n x (verdictFrom t (n + 1) (drop (journalRecordSize b) (b ∷ s)))) (take-append-drop (journalRecordSize b) (b ∷ s))
-    (goes-on e t n (take (journalRecordSize b) (b ∷ s)) (drop (journalRecordSize b) (b ∷ s)) _ (omega arith) (l ∙ ap journalRecordSize (sym f)) j (ih t))
+    subst (λ (x : List ℕ). Split e n x (verdictFrom t (n + 1) (drop (journalRecordSize b) (b ∷ s))))
+    (take-append-drop (journalRecordSize b) (b ∷ s))
+    (goes-on e t n (take (journalRecordSize b) (b ∷ s)) (drop (journalRecordSize b) (b ∷ s)) _ (omega arith)
+    (l ∙ ap journalRecordSize (sym f)) j (ih t))
 
 split : (k : ℕ) (e : ExpectedNext) (n : ℕ) (s : List ℕ) → length s < k → Split e n s (verdictFrom e n s)
 split zero e n s h = absurd (omega arith)
@@ -107,43 +127,56 @@ split (suc k) e n (b ∷ s) h =
     (λ z. if-ind (Split e n (b ∷ s)) (ltb (length (b ∷ s)) (journalRecordSize b)) _ _
     (λ c. stops-at e n (b ∷ s) _ (Stops.short (ltb-true (length (b ∷ s)) (journalRecordSize b) c)))
     (λ c. let p : 0 < journalRecordSize b = omega (arith, eqb-false (journalRecordSize b) 0 z) in
-      by-judged e n b s p (ltb-false (length (b ∷ s)) (journalRecordSize b) c)
-      (λ t. split k t (n + 1) (drop (journalRecordSize b) (b ∷ s)) (omega (arith, length-drop (journalRecordSize b) (b ∷ s))))
-      (judgeRecord e (take (journalRecordSize b) (b ∷ s))) refl)))
+    by-judged e n b s p (ltb-false (length (b ∷ s)) (journalRecordSize b) c)
+    (λ t. split k t (n + 1) (drop (journalRecordSize b) (b ∷ s))
+    (omega (arith, length-drop (journalRecordSize b) (b ∷ s))))
+    (judgeRecord e (take (journalRecordSize b) (b ∷ s))) refl)))
 
 -- ---- conforming records
 
 right-walked : (rs : List (List ℕ)) → AreConformingRecords rs → Walked expectedAtStart rs
 right-walked rs x = subst (Walked expectedAtStart) (x .first) (all-walked freshSession (x .calls) (length rs))
 
-walks-right : {u : ExpectedNext} {rs : List (List ℕ)} → Walks expectedAtStart rs u → AllEntriesBelow256 (journalOfRecords rs) → AreConformingRecords rs
+walks-right : {u : ExpectedNext} {rs : List (List ℕ)} → Walks expectedAtStart rs u
+    → AllEntriesBelow256 (journalOfRecords rs) → AreConformingRecords rs
 walks-right w g = writes w freshSession refl g .writes
 
 -- conforming records of bytes are written by calls of bytes
-pub right-bytes : (rs : List (List ℕ)) → AreConformingRecords rs → AllEntriesBelow256 (journalOfRecords rs) → ByteCallsWriteJournalBeginningWith freshSession rs
+pub right-bytes : (rs : List (List ℕ)) → AreConformingRecords rs → AllEntriesBelow256 (journalOfRecords rs)
+    → ByteCallsWriteJournalBeginningWith freshSession rs
 right-bytes rs x g = writes (right-walked rs x .walks) freshSession refl g
 
 -- ---- the verdict says so
 
 -- bytes of an unknown kind continue no records: no record is empty
-empty-wrong : (rs : List (List ℕ)) (rest : List ℕ) → firstRecordSize rest ≡ 0 → AreConformingRecords (rs ++ (take (firstRecordSize rest) rest ∷ [])) → ⊥
+empty-wrong : (rs : List (List ℕ)) (rest : List ℕ) → firstRecordSize rest ≡ 0
+    → AreConformingRecords (rs ++ (take (firstRecordSize rest) rest ∷ [])) → ⊥
 empty-wrong rs rest k x =
     let z : length (take (firstRecordSize rest) rest) ≡ 0 = ap (λ (m : ℕ). length (take m rest)) k in
-    let h = last-some rs (take (firstRecordSize rest) rest) (right-walked (rs ++ (take (firstRecordSize rest) rest ∷ [])) x .walks) in
+    let h = last-some rs (take (firstRecordSize rest) rest)
+    (right-walked (rs ++ (take (firstRecordSize rest) rest ∷ [])) x .walks) in
     absurd (omega arith)
 
-behind : {u : ExpectedNext} {v : JournalVerdict} {rest : List ℕ} (n : ℕ) (rs : List (List ℕ)) → n ≡ 0 + length rs → Walks expectedAtStart rs u → Stops u n rest v
+behind : {u : ExpectedNext} {v : JournalVerdict} {rest : List ℕ} (n : ℕ) (rs : List (List ℕ)) → n ≡ 0 + length rs
+    → Walks expectedAtStart rs u → Stops u n rest v
     → VerdictMatchesRest rs rest v
 behind n rs c w Stops.ended = (omega arith, refl)
-behind {rest = rest} n rs c w (Stops.strange h k) = (omega arith, record { some = h; whole = omega arith; wrong = empty-wrong rs rest k })
+behind {rest = rest} n rs c w (Stops.strange h k) =
+    (omega arith, record { some = h; whole = omega arith; wrong = empty-wrong rs rest k })
 behind n rs c w (Stops.short h) = (omega arith, h)
-behind {rest = rest} n rs c w (Stops.mismatch h k j) =
-    (omega arith,
-    record { some = omega arith; whole = k;
-      wrong = λ x. let y = right-walked (rs ++ (take (firstRecordSize rest) rest ∷ [])) x in nothing (sym j ∙ last-judged (take (firstRecordSize rest) rest) (y .last) w (y .walks)) })
+behind {rest = rest} n rs c w (Stops.mismatch h k j) = (
+  omega arith,
+  record {
+    some = omega arith;
+    whole = k;
+    wrong = λ x. let y = right-walked (rs ++ (take (firstRecordSize rest) rest ∷ [])) x in
+        nothing (sym j ∙ last-judged (take (firstRecordSize rest) rest) (y .last) w (y .walks));
+  },
+)
 
 module _ (s : List ℕ) (g : AllEntriesBelow256 s) where
-  stopped : {u : ExpectedNext} {v : JournalVerdict} {rest : List ℕ} (n : ℕ) (rs : List (List ℕ)) → n ≡ 0 + length rs → Walks expectedAtStart rs u → journalOfRecords rs ++ rest ≡ s
+  stopped : {u : ExpectedNext} {v : JournalVerdict} {rest : List ℕ} (n : ℕ) (rs : List (List ℕ)) → n ≡ 0 + length rs
+      → Walks expectedAtStart rs u → journalOfRecords rs ++ rest ≡ s
       → Stops u n rest v → VerdictHoldsOn s v
   stopped {rest = rest} n rs c w e x =
       record {
@@ -163,7 +196,8 @@ module _ (s : List ℕ) (g : AllEntriesBelow256 s) where
 -- ---- and of nothing else
 
 -- the verdict after conforming records
-after : (s : List ℕ) (rs : List (List ℕ)) (rest : List ℕ) (w : Walked expectedAtStart rs) → journalOfRecords rs ++ rest ≡ s
+after : (s : List ℕ) (rs : List (List ℕ)) (rest : List ℕ) (w : Walked expectedAtStart rs)
+    → journalOfRecords rs ++ rest ≡ s
     → journalVerdictOf s ≡ verdictFrom (w .last) (0 + length rs) rest
 unfolding journalVerdictOf
 after s rs rest w e = ap (verdictFrom expectedAtStart 0) (sym e) ∙ verdict-behind 0 rest (w .walks)
@@ -172,15 +206,18 @@ by-number : (f : ℕ → JournalVerdict) (n m : ℕ) → n + 1 ≡ m → f (0 + 
 by-number f n m c = let e : 0 + n + 1 ≡ m = omega arith in ap f e
 
 -- a whole record that no conforming kernel writes there is judged to be none
-wrong-judged : (rs : List (List ℕ)) (u : ExpectedNext) (r : List ℕ) → Walks expectedAtStart rs u → 0 < length r → length r ≡ journalRecordSize (getD r 0 0) → AllEntriesBelow256 (journalOfRecords rs ++ r)
+wrong-judged : (rs : List (List ℕ)) (u : ExpectedNext) (r : List ℕ) → Walks expectedAtStart rs u → 0 < length r
+    → length r ≡ journalRecordSize (getD r 0 0) → AllEntriesBelow256 (journalOfRecords rs ++ r)
     → (AreConformingRecords (rs ++ (r ∷ [])) → ⊥) → judgeRecord u r ≡ none
 wrong-judged rs u r w h z g f = go (judgeRecord u r) refl
   where
     go : (o : Option ExpectedNext) → judgeRecord u r ≡ o → o ≡ none
     go none j = refl
-    go (some t) j = absurd (f (walks-right (walks-snoc r w h z j) (subst AllEntriesBelow256 (sym (joined-snoc rs r)) g)))
+    go (some t) j =
+        absurd (f (walks-right (walks-snoc r w h z j) (subst AllEntriesBelow256 (sym (joined-snoc rs r)) g)))
 
-wrong-mismatch : (rs : List (List ℕ)) (rest : List ℕ) (u : ExpectedNext) (n : ℕ) → Walks expectedAtStart rs u → 0 < firstRecordSize rest → NextRecordNotConforming rs rest → AllEntriesBelow256 (journalOfRecords rs ++ rest)
+wrong-mismatch : (rs : List (List ℕ)) (rest : List ℕ) (u : ExpectedNext) (n : ℕ) → Walks expectedAtStart rs u
+    → 0 < firstRecordSize rest → NextRecordNotConforming rs rest → AllEntriesBelow256 (journalOfRecords rs ++ rest)
     → verdictFrom u n rest ≡ JournalVerdict.Mismatch (n + 1)
 wrong-mismatch rs rest u n w p x g =
     let r = take (firstRecordSize rest) rest in
@@ -191,9 +228,11 @@ wrong-mismatch rs rest u n w p x g =
     let z : length r ≡ journalRecordSize (getD r 0 0) = l ∙ ap journalRecordSize (sym k) in
     let h : 0 < length r = omega (arith, p) in
     let b : AllEntriesBelow256 ((journalOfRecords rs ++ r) ++ more) =
-          subst AllEntriesBelow256 (ap (λ (v : List ℕ). journalOfRecords rs ++ v) (sym a) ∙ sym (append-assoc (journalOfRecords rs) r more)) g in
+    subst AllEntriesBelow256 (ap (λ (v : List ℕ). journalOfRecords rs ++ v) (sym a) ∙ sym
+    (append-assoc (journalOfRecords rs) r more)) g in
     ap (verdictFrom u n) (sym a) ∙ whole u n r more h z
-    ∙ ap (verdictContinues (λ t. verdictFrom t (n + 1) more) (n + 1)) (wrong-judged rs u r w h z (bytes-front (journalOfRecords rs ++ r) more b) (x .wrong))
+    ∙ ap (verdictContinues (λ t. verdictFrom t (n + 1) more) (n + 1))
+    (wrong-judged rs u r w h z (bytes-front (journalOfRecords rs ++ r) more b) (x .wrong))
 
 -- a piece of a record has a byte, which says its kind
 some-piece : (rest : List ℕ) → length rest < firstRecordSize rest → 0 < length rest
@@ -201,12 +240,15 @@ some-piece [] h = absurd (omega (arith, size-none))
 some-piece (b ∷ rest) h = omega arith
 
 module _ (s : List ℕ) (g : AllEntriesBelow256 s) where
-  mismatch-said : (rs : List (List ℕ)) (rest : List ℕ) (w : Walked expectedAtStart rs) → journalOfRecords rs ++ rest ≡ s → NextRecordNotConforming rs rest
+  mismatch-said : (rs : List (List ℕ)) (rest : List ℕ) (w : Walked expectedAtStart rs) → journalOfRecords rs ++ rest ≡ s
+      → NextRecordNotConforming rs rest
       → verdictFrom (w .last) (0 + length rs) rest ≡ JournalVerdict.Mismatch (0 + length rs + 1)
   mismatch-said rs rest w e x = elim (equal-or-not (firstRecordSize rest) 0) [
     | inl z ↦
-        ap (verdictFrom (w .last) (0 + length rs)) (sym (append-nil rest)) ∙ unknown (w .last) (0 + length rs) rest [] (x .some) z
-    | inr z ↦ wrong-mismatch rs rest (w .last) (0 + length rs) (w .walks) (omega arith) x (subst AllEntriesBelow256 (sym e) g)
+        ap (verdictFrom (w .last) (0 + length rs)) (sym (append-nil rest)) ∙ unknown (w .last) (0 + length rs) rest []
+        (x .some) z
+    | inr z ↦ wrong-mismatch rs rest (w .last) (0 + length rs) (w .walks) (omega arith) x
+        (subst AllEntriesBelow256 (sym e) g)
   ]
 
   said : (v : JournalVerdict) → VerdictHoldsOn s v → journalVerdictOf s ≡ v

@@ -18,5 +18,6 @@ pub record Worked : Type 0 where
   pub call-due : expectedReplyAtFirstMismatch (0x07 ∷ []) ≡ []
 
 pub worked : Worked
-unfolding expectedReplyAtFirstMismatch journalVerdictOf verdictFrom recurseWithFuelFromLength recurseWithFuel replyDueAfter journalRecordSize if
+unfolding expectedReplyAtFirstMismatch journalVerdictOf verdictFrom recurseWithFuelFromLength recurseWithFuel
+    replyDueAfter journalRecordSize if
 worked = record { empty = refl; command-cut = refl; unknown = refl; start-cut = refl; call-due = refl }

@@ -26,7 +26,8 @@ not-cut : (n m : ℕ) → JournalVerdict.Truncated n ≡ JournalVerdict.Accepted
 not-cut n m q = let z : _≡_ {A = ℕ} 0 1 = cc in absurd (omega arith)
 
 -- after a record that was judged
-few-behind : (f : ExpectedNext → JournalVerdict) (n m : ℕ) (o : Option ExpectedNext) → ((t : ExpectedNext) → o ≡ some t → f t ≡ JournalVerdict.Accepted m → m ≤ 262)
+few-behind : (f : ExpectedNext → JournalVerdict) (n m : ℕ) (o : Option ExpectedNext)
+    → ((t : ExpectedNext) → o ≡ some t → f t ≡ JournalVerdict.Accepted m → m ≤ 262)
     → verdictContinues f n o ≡ JournalVerdict.Accepted m → m ≤ 262
 few-behind f n m none g q = not-mismatch n m q
 few-behind f n m (some t) g q = g t refl q
@@ -37,10 +38,13 @@ Few s = (e : ExpectedNext) (n m : ℕ) → Kept e n → verdictFrom e n s ≡ Jo
 few-next : (s : List ℕ) → ((v : List ℕ) → length v < length s → Few v) → Few s
 few-next [] k e n m h q = omega (arith, same-number n m (sym (unroll e n []) ∙ q), few-records e n h)
 few-next (b ∷ s) k e n m h q =
-    if-ind (λ (v : JournalVerdict). v ≡ JournalVerdict.Accepted m → m ≤ 262) (eqb (journalRecordSize b) 0) _ _ (λ w r. not-mismatch (n + 1) m r)
-    (λ w. if-ind (λ (v : JournalVerdict). v ≡ JournalVerdict.Accepted m → m ≤ 262) (ltb (length (b ∷ s)) (journalRecordSize b)) _ _ (λ v r. not-cut (n + 1) m r)
+    if-ind (λ (v : JournalVerdict). v ≡ JournalVerdict.Accepted m → m ≤ 262) (eqb (journalRecordSize b) 0) _ _
+    (λ w r. not-mismatch (n + 1) m r)
+    (λ w. if-ind (λ (v : JournalVerdict). v ≡ JournalVerdict.Accepted m → m ≤ 262)
+    (ltb (length (b ∷ s)) (journalRecordSize b)) _ _ (λ v r. not-cut (n + 1) m r)
     (λ v r. few-behind _ (n + 1) m (judgeRecord e (take (journalRecordSize b) (b ∷ s)))
-    (λ t j x. k (drop (journalRecordSize b) (b ∷ s)) (shorter (eqb-false (journalRecordSize b) 0 w)) t (n + 1) m (judged-kept (e .session) (e .due) _ n t h j) x) r)) (sym (unroll e n (b ∷ s)) ∙ q)
+    (λ t j x. k (drop (journalRecordSize b) (b ∷ s)) (shorter (eqb-false (journalRecordSize b) 0 w)) t (n + 1) m
+    (judged-kept (e .session) (e .due) _ n t h j) x) r)) (sym (unroll e n (b ∷ s)) ∙ q)
   where
     shorter : (journalRecordSize b ≡ 0 → ⊥) → length (drop (journalRecordSize b) (b ∷ s)) < length (b ∷ s)
     shorter z = omega (arith, length-drop (journalRecordSize b) (b ∷ s))

@@ -30,8 +30,12 @@ use Rattle.session_record.specs.Session.{isEnded}
 use Rattle.step_laws.proofs.Ranges.{start-keeps, answer-keeps, link-keeps, stop-keeps}
 use Rattle.basics.proofs.Laws.{no}
 use Rattle.step_laws.proofs.EveryCall.{Came, start-came, answer-came, link-came, stop-came}
-use Rattle.journal.specs.Record.{journalRecordSize, lengthInTwoBytes, zeroPadded, mostCommandBytesInJournalRecord, journalCommandBuffer, mostStartBytesInJournalRecord, mostAnswerBytesInJournalRecord, journalLengthAndZeroPaddingValid, isTooLongAnswerRecord, callFromJournalRecord}
-use Rattle.journal.specs.Verdict.{ExpectedNext, expectedNext, expectedAtStart, judgeCall, judgeRecordBy, firstRecordSize}
+use Rattle.journal.specs.Record.{journalRecordSize, lengthInTwoBytes, zeroPadded, mostCommandBytesInJournalRecord}
+use Rattle.journal.specs.Record.{journalCommandBuffer, mostStartBytesInJournalRecord}
+use Rattle.journal.specs.Record.{mostAnswerBytesInJournalRecord, journalLengthAndZeroPaddingValid}
+use Rattle.journal.specs.Record.{isTooLongAnswerRecord, callFromJournalRecord}
+use Rattle.journal.specs.Verdict.{ExpectedNext, expectedNext, expectedAtStart, judgeCall, judgeRecordBy}
+use Rattle.journal.specs.Verdict.{firstRecordSize}
 use Rattle.journal.proofs.Walk.{replyExpectedAfter}
 
 -- ---- what is kept from record to record
@@ -63,7 +67,8 @@ call-came s (answer card buf) = answer-came s card buf
 call-came s (link-failed buf) = link-came s buf
 call-came s (stop buf) = stop-came s buf
 
-call-keeps : (s : Session) (c : Call) → sessionRecordInRanges s ≡ true → sessionRecordInRanges (callStep s c .reply .session) ≡ true
+call-keeps : (s : Session) (c : Call) → sessionRecordInRanges s ≡ true
+    → sessionRecordInRanges (callStep s c .reply .session) ≡ true
 call-keeps s (start bytes buf) i = start-keeps s bytes buf i
 call-keeps s (answer card buf) i = answer-keeps s card buf i
 call-keeps s (link-failed buf) i = link-keeps s buf i
@@ -71,7 +76,8 @@ call-keeps s (stop buf) i = stop-keeps s buf i
 
 -- ---- a session that has ended takes no call
 
-admitted-refuses : (s : Session) (buf : List ℕ) (x : CallEffect) → isRefusal (stepOfEffect s buf x .reply .answer) ≡ true → isRefusal (stepIfAdmitted s buf x .reply .answer) ≡ true
+admitted-refuses : (s : Session) (buf : List ℕ) (x : CallEffect) → isRefusal (stepOfEffect s buf x .reply .answer)
+    ≡ true → isRefusal (stepIfAdmitted s buf x .reply .answer) ≡ true
 unfolding stepIfAdmitted
 admitted-refuses s buf x e = if-ind P _ _ _ (λ w. refl) (λ w. if-ind P _ _ _ (λ v. refl) (λ v. e))
   where
@@ -82,8 +88,10 @@ admitted-refuses s buf x e = if-ind P _ _ _ (λ w. refl) (λ w. if-ind P _ _ _ (
 abbrev inside : Session → Phase → Call → CallEffect
 inside s p (start bytes buf) = startEffect p (storeBytes s) bytes
 inside s p (answer card buf) = effectIfRunning p (nextOnResponse (storeBytes s) card)
-inside s p (link-failed buf) = effectIfRunning p (λ (w : AwaitedResponse). end (endingForReason reasonLink) (heldCvm w) (storeBytes s))
-inside s p (stop buf) = effectIfRunning p (λ (w : AwaitedResponse). end (endingForReason reasonStopped) (heldCvm w) (storeBytes s))
+inside s p (link-failed buf) = effectIfRunning p (λ (w : AwaitedResponse). end (endingForReason reasonLink) (heldCvm w)
+    (storeBytes s))
+inside s p (stop buf) = effectIfRunning p (λ (w : AwaitedResponse). end (endingForReason reasonStopped) (heldCvm w)
+    (storeBytes s))
 
 step-inside : (s : Session) (c : Call) → callStep s c ≡ stepIfAdmitted s (bufferOf c) (inside s (s .phase) c)
 step-inside s (start bytes buf) = refl
@@ -91,18 +99,22 @@ step-inside s (answer card buf) = refl
 step-inside s (link-failed buf) = refl
 step-inside s (stop buf) = refl
 
-inside-ended : (s : Session) (c : Call) (x : Ending) → isRefusal (stepOfEffect s (bufferOf c) (inside s (Phase.Ended x) c) .reply .answer) ≡ true
+inside-ended : (s : Session) (c : Call) (x : Ending)
+    → isRefusal (stepOfEffect s (bufferOf c) (inside s (Phase.Ended x) c) .reply .answer) ≡ true
 inside-ended s (start bytes buf) x = refl
 inside-ended s (answer card buf) x = refl
 inside-ended s (link-failed buf) x = refl
 inside-ended s (stop buf) x = refl
 
-ended-refuses : (s : Session) (c : Call) (x : Ending) → s .phase ≡ Phase.Ended x → isRefusal (callStep s c .reply .answer) ≡ true
+ended-refuses : (s : Session) (c : Call) (x : Ending) → s .phase ≡ Phase.Ended x
+    → isRefusal (callStep s c .reply .answer) ≡ true
 ended-refuses s c x q =
     ap (λ (st : Step). isRefusal (st .reply .answer)) (step-inside s c)
-    ∙ admitted-refuses s (bufferOf c) _ (ap (λ (p : Phase). isRefusal (stepOfEffect s (bufferOf c) (inside s p c) .reply .answer)) q ∙ inside-ended s c x)
+    ∙ admitted-refuses s (bufferOf c) _
+    (ap (λ (p : Phase). isRefusal (stepOfEffect s (bufferOf c) (inside s p c) .reply .answer)) q ∙ inside-ended s c x)
 
-not-ended : (s : Session) (c : Call) (p : Phase) → s .phase ≡ p → isRefusal (callStep s c .reply .answer) ≡ false → isEnded p ≡ false
+not-ended : (s : Session) (c : Call) (p : Phase) → s .phase ≡ p → isRefusal (callStep s c .reply .answer) ≡ false
+    → isEnded p ≡ false
 not-ended s c Phase.Fresh q r = refl
 not-ended s c (Phase.Waiting w) q r = refl
 not-ended s c (Phase.Ended x) q r = no (sym r ∙ ended-refuses s c x q)
@@ -118,10 +130,15 @@ nothing e = let z : _≡_ {A = ℕ} 0 1 = cc in absurd (omega arith)
 lent-call : (r : List ℕ) (c : Call) → callFromJournalRecord r ≡ some c → bufferOf c ≡ journalCommandBuffer
 unfolding callFromJournalRecord
 lent-call r c =
-    if-ind Lent (eqb (getD r 0 0) 1) _ _ (λ w. if-ind Lent (journalLengthAndZeroPaddingValid mostStartBytesInJournalRecord r) _ _ (λ v. made _ refl) (λ v e. nothing e))
+    if-ind Lent (eqb (getD r 0 0) 1) _ _
+    (λ w. if-ind Lent (journalLengthAndZeroPaddingValid mostStartBytesInJournalRecord r) _ _ (λ v. made _ refl)
+    (λ v e. nothing e))
     (λ w. if-ind Lent (eqb (getD r 0 0) 2) _ _
-    (λ w. if-ind Lent (isTooLongAnswerRecord r) _ _ (λ v. made _ refl) (λ v. if-ind Lent (journalLengthAndZeroPaddingValid mostAnswerBytesInJournalRecord r) _ _ (λ u. made _ refl) (λ u e. nothing e)))
-    (λ w. if-ind Lent (eqb (getD r 0 0) 3) _ _ (λ v. made _ refl) (λ v. if-ind Lent (eqb (getD r 0 0) 4) _ _ (λ u. made _ refl) (λ u e. nothing e))))
+    (λ w. if-ind Lent (isTooLongAnswerRecord r) _ _ (λ v. made _ refl)
+    (λ v. if-ind Lent (journalLengthAndZeroPaddingValid mostAnswerBytesInJournalRecord r) _ _ (λ u. made _ refl)
+    (λ u e. nothing e)))
+    (λ w. if-ind Lent (eqb (getD r 0 0) 3) _ _ (λ v. made _ refl)
+    (λ v. if-ind Lent (eqb (getD r 0 0) 4) _ _ (λ u. made _ refl) (λ u e. nothing e))))
   where
     Lent : Option Call → Type 0
     Lent o = o ≡ some c → bufferOf c ≡ journalCommandBuffer
@@ -131,34 +148,55 @@ lent-call r c =
 
 -- ---- one more record
 
-command-size : (k : ℕ) (v : List ℕ) → k ≤ 261 → length (5 ∷ (lengthInTwoBytes k ++ zeroPadded mostCommandBytesInJournalRecord (take k v))) ≡ 264
+command-size : (k : ℕ) (v : List ℕ) → k ≤ 261
+    → length (5 ∷ (lengthInTwoBytes k ++ zeroPadded mostCommandBytesInJournalRecord (take k v))) ≡ 264
 command-size k v h =
-    omega (arith, length-append (take k v) (replicate (261 - length (take k v)) 0), length-replicate {A = ℕ} (261 - length (take k v)) 0, length-take k v)
+    omega (
+      arith,
+      length-append (take k v) (replicate (261 - length (take k v)) 0),
+      length-replicate {A = ℕ}
+          (261 - length (take k v)) 0,
+      length-take k v,
+    )
 
-came-kept : {s : Session} {buf : List ℕ} {st : Step} (n : ℕ) (t : ExpectedNext) → Came s buf st → length buf ≤ 261 → sessionRecordInRanges (st .reply .session) ≡ true
+came-kept : {s : Session} {buf : List ℕ} {st : Step} (n : ℕ) (t : ExpectedNext) → Came s buf st → length buf ≤ 261
+    → sessionRecordInRanges (st .reply .session) ≡ true
     → (isRefusal (st .reply .answer) ≡ false → isEnded (s .phase) ≡ false)
     → n + 0 ≤ 2 * (s .count + oneIf (isEnded (s .phase))) → replyExpectedAfter st ≡ some t → Kept t (n + 1)
 unfolding journalRecordSize if
 came-kept n t (Came.refused k) m i f h e = nothing e
 came-kept n t (Came.ended y b o k) m i f h e =
     let g = ap oneIf (f refl) in
-    subst (λ (x : ExpectedNext). Kept x (n + 1)) (same-some e) (record { ranges = i; few = omega arith; fits = omega arith; whole = λ z. refl })
+    subst (λ (x : ExpectedNext). Kept x (n + 1)) (same-some e)
+    (record { ranges = i; few = omega arith; fits = omega arith; whole = λ z. refl })
 came-kept n t (Came.sent b p c l) m i f h e =
     let g = ap oneIf (f refl) in
     let z = command-size (length c) _ (omega arith) in
-    subst (λ (x : ExpectedNext). Kept x (n + 1)) (same-some e) (record { ranges = i; few = omega arith; fits = omega arith; whole = λ y. z })
+    subst (λ (x : ExpectedNext). Kept x (n + 1)) (same-some e)
+    (record { ranges = i; few = omega arith; fits = omega arith; whole = λ y. z })
 
-called-kept : (s : Session) (o : Option Call) (n : ℕ) (t : ExpectedNext) → ((c : Call) → o ≡ some c → bufferOf c ≡ journalCommandBuffer) → Kept (expectedNext s []) n
+called-kept : (s : Session) (o : Option Call) (n : ℕ) (t : ExpectedNext)
+    → ((c : Call) → o ≡ some c → bufferOf c ≡ journalCommandBuffer) → Kept (expectedNext s []) n
     → judgeCall s o ≡ some t → Kept t (n + 1)
 called-kept s none n t b k e = nothing e
 called-kept s (some c) n t b k e =
-    came-kept n t (call-came s c) (let l = ap length (b c refl) in omega arith) (call-keeps s c (k .ranges)) (not-ended s c (s .phase) refl) (k .few) e
+    came-kept n t (call-came s c) (let l = ap length (b c refl) in omega arith) (call-keeps s c (k .ranges))
+    (not-ended s c (s .phase) refl) (k .few) e
 
-pub judged-kept : (s : Session) (d r : List ℕ) (n : ℕ) (t : ExpectedNext) → Kept (expectedNext s d) n → judgeRecordBy s d r ≡ some t → Kept t (n + 1)
+pub judged-kept : (s : Session) (d r : List ℕ) (n : ℕ) (t : ExpectedNext) → Kept (expectedNext s d) n
+    → judgeRecordBy s d r ≡ some t → Kept t (n + 1)
 judged-kept s [] r n t k e = called-kept s (callFromJournalRecord r) n t (lent-call r) k e
 judged-kept s (b ∷ d) r n t k e =
-    if-ind (λ (o : Option ExpectedNext). o ≡ some t → Kept t (n + 1)) (bytesEqual r (b ∷ d)) (some (expectedNext s [])) none
-    (λ w e. subst (λ (x : ExpectedNext). Kept x (n + 1)) (same-some e) (record { ranges = k .ranges; few = let f = k .few in omega arith; fits = omega arith; whole = λ z. absurd (omega arith) }))
+    if-ind (λ (o : Option ExpectedNext). o ≡ some t → Kept t (n + 1)) (bytesEqual r (b ∷ d)) (some (expectedNext s []))
+    none
+    (λ w e. subst (λ (x : ExpectedNext). Kept x (n + 1)) (same-some e)
+    (record {
+      ranges = k .ranges;
+      few = let f = k .few in omega arith;
+      fits = omega arith;
+      whole =
+          λ z. absurd (omega arith);
+    }))
     (λ w e. nothing e) e
 
 pub first-kept : Kept expectedAtStart 0

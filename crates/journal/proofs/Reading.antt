@@ -20,7 +20,10 @@ use Rattle.session.specs.Start.{startStep}
 use Rattle.session.specs.Answer.{answerStep}
 use Rattle.step_laws.proofs.EveryCall.{start-came, answer-came}
 use Rattle.journal.specs.declared.JournalCheckState.{JournalCheckState}
-use Rattle.journal.specs.Record.{journalRecordSize, journalCommandBuffer, journalRecordLengthField, journalRecordData, journalLengthAndZeroPaddingValid, isTooLongAnswerRecord, answerOf259ZeroBytes, mostStartBytesInJournalRecord, mostAnswerBytesInJournalRecord}
+use Rattle.journal.specs.Record.{journalRecordSize, journalCommandBuffer, journalRecordLengthField}
+use Rattle.journal.specs.Record.{journalRecordData, journalLengthAndZeroPaddingValid, isTooLongAnswerRecord}
+use Rattle.journal.specs.Record.{answerOf259ZeroBytes, mostStartBytesInJournalRecord}
+use Rattle.journal.specs.Record.{mostAnswerBytesInJournalRecord}
 use Rattle.session.specs.Calls.{link-failed, stop}
 use Rattle.journal.specs.Record.{startCallFromRecord, answerCallFromRecord, callFromJournalRecord}
 use Rattle.journal.specs.Verdict.{expectReplyUnlessEmpty, judgeCall}
@@ -34,10 +37,12 @@ pub fits-over : (n : ℕ) (r : List ℕ) → n < journalRecordLengthField r → 
 unfolding journalLengthAndZeroPaddingValid
 fits-over n r h = both-no-left _ _ (lt-leb (journalRecordLengthField r) n h)
 
-pub fits-tail : (n : ℕ) (r : List ℕ) (k : ℕ) → k ≡ journalRecordLengthField r → k ≤ n → every isZeroByte (take (length r - (3 + k)) (drop (3 + k) r)) ≡ journalLengthAndZeroPaddingValid n r
+pub fits-tail : (n : ℕ) (r : List ℕ) (k : ℕ) → k ≡ journalRecordLengthField r → k ≤ n
+    → every isZeroByte (take (length r - (3 + k)) (drop (3 + k) r)) ≡ journalLengthAndZeroPaddingValid n r
 unfolding journalLengthAndZeroPaddingValid
 fits-tail n r k e h =
-    ap (every isZeroByte) (tail-is r (3 + k) ∙ ap (λ (m : ℕ). drop (3 + m) r) e ∙ sym (drop-drop (journalRecordLengthField r) 3 r))
+    ap (every isZeroByte) (tail-is r (3 + k) ∙ ap (λ (m : ℕ). drop (3 + m) r) e ∙ sym
+    (drop-drop (journalRecordLengthField r) 3 r))
     ∙ sym (both-true _ (le-leb (journalRecordLengthField r) n (let g = e in omega arith)))
 
 pub fits-length : (n : ℕ) (r : List ℕ) → journalLengthAndZeroPaddingValid n r ≡ true → journalRecordLengthField r ≤ n
@@ -48,39 +53,52 @@ pub long-no : (r : List ℕ) → (journalRecordLengthField r ≡ 65535 → ⊥) 
 unfolding isTooLongAnswerRecord
 long-no r h = both-no-left _ _ (ne-eqb (journalRecordLengthField r) 65535 h)
 
-pub long-tail : (r : List ℕ) → journalRecordLengthField r ≡ 65535 → every isZeroByte (take (length r - 3) (drop 3 r)) ≡ isTooLongAnswerRecord r
+pub long-tail : (r : List ℕ) → journalRecordLengthField r ≡ 65535 → every isZeroByte (take (length r - 3) (drop 3 r))
+    ≡ isTooLongAnswerRecord r
 unfolding isTooLongAnswerRecord
 long-tail r e = ap (every isZeroByte) (tail-is r 3) ∙ sym (both-true _ (eq-eqb (journalRecordLengthField r) 65535 e))
 
 -- ---- what is expected after the call
 
 abbrev Due : JournalCheckState → JournalCheckState → Reply → List ℕ → Type 0
-Due x y q buf = x ≡ checkStateAfterRecord y (expectReplyUnlessEmpty (q .session) (replyRecordWithWholeBuffer (q .answer) buf))
+Due x y q buf = x ≡ checkStateAfterRecord y
+    (expectReplyUnlessEmpty (q .session) (replyRecordWithWholeBuffer (q .answer) buf))
 
 brought-is : (r : List ℕ) (k : ℕ) → k ≡ journalRecordLengthField r → take (3 + k - 3) (drop 3 r) ≡ journalRecordData r
-brought-is r k e = let g : 3 + k - 3 ≡ journalRecordLengthField r = let h = e in omega arith in ap (λ (m : ℕ). take m (drop 3 r)) g
+brought-is r k e = let g : 3 + k - 3 ≡ journalRecordLengthField r = let h = e in omega arith in
+    ap (λ (m : ℕ). take m (drop 3 r)) g
 
 module _ (s : Session) (r : List ℕ) (x y : JournalCheckState) where
-  pub start-none : journalLengthAndZeroPaddingValid mostStartBytesInJournalRecord r ≡ false → x ≡ checkStateAfterRecord y none → x ≡ checkStateAfterRecord y (judgeCall s (startCallFromRecord r))
+  pub start-none : journalLengthAndZeroPaddingValid mostStartBytesInJournalRecord r ≡ false
+      → x ≡ checkStateAfterRecord y none → x ≡ checkStateAfterRecord y (judgeCall s (startCallFromRecord r))
   start-none f h = stands-as y (ap (judgeCall s) (sym (if-no _ _ f))) h
 
-  pub start-due : (k : ℕ) (q : Reply) (buf : List ℕ) → journalLengthAndZeroPaddingValid mostStartBytesInJournalRecord r ≡ true → k ≡ journalRecordLengthField r
-      → ReturnsStep q buf (startStep s (take (3 + k - 3) (drop 3 r)) journalCommandBuffer) → Due x y q buf → x ≡ checkStateAfterRecord y (judgeCall s (startCallFromRecord r))
+  pub start-due : (k : ℕ) (q : Reply) (buf : List ℕ) → journalLengthAndZeroPaddingValid mostStartBytesInJournalRecord r
+      ≡ true → k ≡ journalRecordLengthField r
+      → ReturnsStep q buf (startStep s (take (3 + k - 3) (drop 3 r)) journalCommandBuffer) → Due x y q buf
+      → x ≡ checkStateAfterRecord y (judgeCall s (startCallFromRecord r))
   start-due k q buf f e d h =
-      stands-as y (ap (λ (v : List ℕ). replyExpectedAfter (startStep s v journalCommandBuffer)) (brought-is r k e) ∙ ap (judgeCall s) (sym (if-yes _ _ f)))
+      stands-as y (ap (λ (v : List ℕ). replyExpectedAfter (startStep s v journalCommandBuffer)) (brought-is r k e) ∙ ap
+      (judgeCall s) (sym (if-yes _ _ f)))
       (did-due y (start-came s (take (3 + k - 3) (drop 3 r)) journalCommandBuffer) d h)
 
-  pub long-due : (q : Reply) (buf : List ℕ) → isTooLongAnswerRecord r ≡ true → ReturnsStep q buf (answerStep s answerOf259ZeroBytes journalCommandBuffer) → Due x y q buf
+  pub long-due : (q : Reply) (buf : List ℕ) → isTooLongAnswerRecord r ≡ true
+      → ReturnsStep q buf (answerStep s answerOf259ZeroBytes journalCommandBuffer) → Due x y q buf
       → x ≡ checkStateAfterRecord y (judgeCall s (answerCallFromRecord r))
-  long-due q buf f d h = stands-as y (ap (judgeCall s) (sym (if-yes _ _ f))) (did-due y (answer-came s answerOf259ZeroBytes journalCommandBuffer) d h)
+  long-due q buf f d h = stands-as y (ap (judgeCall s) (sym (if-yes _ _ f)))
+      (did-due y (answer-came s answerOf259ZeroBytes journalCommandBuffer) d h)
 
-  pub answer-none : isTooLongAnswerRecord r ≡ false → journalLengthAndZeroPaddingValid mostAnswerBytesInJournalRecord r ≡ false → x ≡ checkStateAfterRecord y none → x ≡ checkStateAfterRecord y (judgeCall s (answerCallFromRecord r))
+  pub answer-none : isTooLongAnswerRecord r ≡ false → journalLengthAndZeroPaddingValid mostAnswerBytesInJournalRecord r
+      ≡ false → x ≡ checkStateAfterRecord y none → x ≡ checkStateAfterRecord y (judgeCall s (answerCallFromRecord r))
   answer-none g f h = stands-as y (ap (judgeCall s) (sym (if-no _ _ g ∙ if-no _ _ f))) h
 
-  pub answer-due : (k : ℕ) (q : Reply) (buf : List ℕ) → isTooLongAnswerRecord r ≡ false → journalLengthAndZeroPaddingValid mostAnswerBytesInJournalRecord r ≡ true → k ≡ journalRecordLengthField r
-      → ReturnsStep q buf (answerStep s (take (3 + k - 3) (drop 3 r)) journalCommandBuffer) → Due x y q buf → x ≡ checkStateAfterRecord y (judgeCall s (answerCallFromRecord r))
+  pub answer-due : (k : ℕ) (q : Reply) (buf : List ℕ) → isTooLongAnswerRecord r ≡ false
+      → journalLengthAndZeroPaddingValid mostAnswerBytesInJournalRecord r ≡ true → k ≡ journalRecordLengthField r
+      → ReturnsStep q buf (answerStep s (take (3 + k - 3) (drop 3 r)) journalCommandBuffer) → Due x y q buf
+      → x ≡ checkStateAfterRecord y (judgeCall s (answerCallFromRecord r))
   answer-due k q buf g f e d h =
-      stands-as y (ap (λ (v : List ℕ). replyExpectedAfter (answerStep s v journalCommandBuffer)) (brought-is r k e) ∙ ap (judgeCall s) (sym (if-no _ _ g ∙ if-yes _ _ f)))
+      stands-as y (ap (λ (v : List ℕ). replyExpectedAfter (answerStep s v journalCommandBuffer)) (brought-is r k e) ∙ ap
+      (judgeCall s) (sym (if-no _ _ g ∙ if-yes _ _ f)))
       (did-due y (answer-came s (take (3 + k - 3) (drop 3 r)) journalCommandBuffer) d h)
 
 -- ---- by the kind
@@ -114,7 +132,8 @@ module _ (r : List ℕ) where
       if-no _ _ (ne-eqb (getD r 0 0) 1 (λ z. omega arith)) ∙ if-no _ _ (ne-eqb (getD r 0 0) 2 (λ z. omega arith))
       ∙ if-no _ _ (ne-eqb (getD r 0 0) 3 (λ z. omega arith)) ∙ if-yes _ _ (eq-eqb (getD r 0 0) 4 e)
 
-  pub kind-none : (getD r 0 0 ≡ 1 → ⊥) → (getD r 0 0 ≡ 2 → ⊥) → (getD r 0 0 ≡ 3 → ⊥) → (getD r 0 0 ≡ 4 → ⊥) → callFromJournalRecord r ≡ none
+  pub kind-none : (getD r 0 0 ≡ 1 → ⊥) → (getD r 0 0 ≡ 2 → ⊥) → (getD r 0 0 ≡ 3 → ⊥) → (getD r 0 0 ≡ 4 → ⊥)
+      → callFromJournalRecord r ≡ none
   unfolding callFromJournalRecord
   kind-none a b c d =
       if-no _ _ (ne-eqb (getD r 0 0) 1 a) ∙ if-no _ _ (ne-eqb (getD r 0 0) 2 b)

@@ -18,7 +18,8 @@ use Rattle.basics.proofs.Laws.{no}
 use Rattle.step_laws.proofs.EveryCall.{Came}
 use Rattle.journal.specs.declared.JournalVerdict.{JournalVerdict}
 use Rattle.journal.specs.Record.{journalRecordSize, journalCallRecord, journalRecordsOf, journalOfRecords}
-use Rattle.journal.specs.Verdict.{ExpectedNext, expectedNext, expectedAtStart, judgeRecord, verdictFrom, journalVerdictOf}
+use Rattle.journal.specs.Verdict.{ExpectedNext, expectedNext, expectedAtStart, judgeRecord, verdictFrom}
+use Rattle.journal.specs.Verdict.{journalVerdictOf}
 use Rattle.journal.proofs.Walk.{verdictContinues, ends, whole}
 use Rattle.journal.proofs.Kept.{call-came}
 use Rattle.journal.proofs.Few.{accepted-few}
@@ -29,7 +30,8 @@ use Rattle.journal.proofs.WrittenCall.{read, call-judged, due-there, du
 
 pub data Walks : ExpectedNext → List (List ℕ) → ExpectedNext → Type 0 where
   done : {e : ExpectedNext} → Walks e [] e
-  next : {e t u : ExpectedNext} {r : List ℕ} {rs : List (List ℕ)} → 0 < length r → length r ≡ journalRecordSize (getD r 0 0) → judgeRecord e r ≡ some t → Walks t rs u
+  next : {e t u : ExpectedNext} {r : List ℕ} {rs : List (List ℕ)} → 0 < length r
+      → length r ≡ journalRecordSize (getD r 0 0) → judgeRecord e r ≡ some t → Walks t rs u
       → Walks e (r ∷ rs) u
 
 pub record Walked (e : ExpectedNext) (rs : List (List ℕ)) : Type 0 where
@@ -44,12 +46,14 @@ verdict-behind {e} n more Walks.done = let g : n ≡ n + 0 = omega arith in ap (
 verdict-behind {e} n more (Walks.next {t = t} {u = u} {r = r} {rs = rs} h z j w) =
     let g : n + 1 + length rs ≡ n + suc (length rs) = omega arith in
     ap (verdictFrom e n) (append-assoc r (journalOfRecords rs) more) ∙ whole e n r (journalOfRecords rs ++ more) h z
-    ∙ ap (verdictContinues (λ x. verdictFrom x (n + 1) (journalOfRecords rs ++ more)) (n + 1)) j ∙ verdict-behind (n + 1) more w
+    ∙ ap (verdictContinues (λ x. verdictFrom x (n + 1) (journalOfRecords rs ++ more)) (n + 1)) j ∙ verdict-behind
+    (n + 1) more w
     ∙ ap (λ (m : ℕ). verdictFrom u m more) g
 
 -- ---- what calls write
 
-refused-same : {s : Session} {buf : List ℕ} {st : Step} → Came s buf st → isRefusal (st .reply .answer) ≡ true → st .reply .session ≡ s
+refused-same : {s : Session} {buf : List ℕ} {st : Step} → Came s buf st → isRefusal (st .reply .answer) ≡ true
+    → st .reply .session ≡ s
 refused-same (Came.refused n) r = refl
 refused-same (Came.ended y b o n) r = no r
 refused-same (Came.sent b p c l) r = no r
@@ -67,14 +71,14 @@ two-records s c r rs k zero = record { last = expectedNext s []; walks = Walks.d
 two-records s c r rs k (suc zero) =
     record {
       last = expectedNext (callStep s c .reply .session) (dueBy (callStep s c));
-      walks = Walks.next (read s c r .there) (read s c r .sized) (call-judged s c r) Walks.done
+      walks = Walks.next (read s c r .there) (read s c r .sized) (call-judged s c r) Walks.done;
     }
 two-records s c r rs k (suc (suc m)) =
     record {
       last = k m .last;
       walks =
-        Walks.next (read s c r .there) (read s c r .sized) (call-judged s c r)
-        (Walks.next (due-there s c r) (due-sized s c r) (due-judged s c r) (k m .walks))
+          Walks.next (read s c r .there) (read s c r .sized) (call-judged s c r)
+          (Walks.next (due-there s c r) (due-sized s c r) (due-judged s c r) (k m .walks));
     }
 
 -- a call that is refused leaves the session, and is not written
@@ -83,20 +87,25 @@ unfolding journalRecordsOf playCalls
 all-walked s [] = no-records s
 all-walked s (c ∷ cs) =
     if-ind (AllWalked s) (isRefusal (callStep s c .reply .answer)) _ _
-    (λ r. subst (λ (t : Session). AllWalked t (journalRecordsOf (playCalls (callStep s c .reply .session) cs))) (refused-same (call-came s c) r) (all-walked (callStep s c .reply .session) cs))
-    (λ r. two-records s c r (journalRecordsOf (playCalls (callStep s c .reply .session) cs)) (all-walked (callStep s c .reply .session) cs))
+    (λ r. subst (λ (t : Session). AllWalked t (journalRecordsOf (playCalls (callStep s c .reply .session) cs)))
+    (refused-same (call-came s c) r) (all-walked (callStep s c .reply .session) cs))
+    (λ r. two-records s c r (journalRecordsOf (playCalls (callStep s c .reply .session) cs))
+    (all-walked (callStep s c .reply .session) cs))
 
 -- the first m records of what calls on a fresh session write, refused ones among them, are accepted, and m is
 -- their number
 pub written-accepted : (cs : List Call) (m : ℕ) → m ≤ length (journalRecordsOf (playCalls freshSession cs))
-    → journalVerdictOf (journalOfRecords (take m (journalRecordsOf (playCalls freshSession cs)))) ≡ JournalVerdict.Accepted m
+    → journalVerdictOf (journalOfRecords (take m (journalRecordsOf (playCalls freshSession cs))))
+    ≡ JournalVerdict.Accepted m
 unfolding journalVerdictOf
 written-accepted cs m h =
     let rs = take m (journalRecordsOf (playCalls freshSession cs)) in
     let w = all-walked freshSession cs m in
     let e : 0 + length rs ≡ m = omega (arith, length-take-le m (journalRecordsOf (playCalls freshSession cs)) h) in
-    ap (verdictFrom expectedAtStart 0) (sym (append-nil (journalOfRecords rs))) ∙ verdict-behind 0 [] (w .walks) ∙ ends (w .last) (0 + length rs) ∙ ap JournalVerdict.Accepted e
+    ap (verdictFrom expectedAtStart 0) (sym (append-nil (journalOfRecords rs))) ∙ verdict-behind 0 [] (w .walks) ∙ ends
+    (w .last) (0 + length rs) ∙ ap JournalVerdict.Accepted e
 
 -- so no calls write more than 262 records
 pub written-few : (cs : List Call) → length (journalRecordsOf (playCalls freshSession cs)) ≤ 262
-written-few cs = accepted-few _ _ (written-accepted cs (length (journalRecordsOf (playCalls freshSession cs))) (omega arith))
+written-few cs = accepted-few _ _ (written-accepted cs (length (journalRecordsOf (playCalls freshSession cs)))
+    (omega arith))

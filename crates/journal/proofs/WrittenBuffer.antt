@@ -15,9 +15,11 @@ use Rattle.basics.proofs.Laws.{no, if-yes, if-no}
 use Rattle.basics.proofs.Order.{le-or-gt}
 use Rattle.session_record.specs.declared.Session.{Session}
 use Rattle.session_record.specs.Ranges.{sessionRecordInRanges}
-use Rattle.session.specs.Steps.{NextAction, ask, end, Step, CallEffect, refuse, follow, stepOfNext, refusedStep, stepOfEffect, stepIfAdmitted}
+use Rattle.session.specs.Steps.{NextAction, ask, end, Step, CallEffect, refuse, follow, stepOfNext, refusedStep}
+use Rattle.session.specs.Steps.{stepOfEffect, stepIfAdmitted}
 use Rattle.session.specs.Calls.{Call, start, answer, link-failed, stop, callStep, isRefusal}
-use Rattle.journal.specs.Record.{lengthInTwoBytes, zeroPadded, mostCommandBytesInJournalRecord, journalReplyRecord}
+use Rattle.journal.specs.Record.{lengthInTwoBytes, zeroPadded, mostCommandBytesInJournalRecord}
+use Rattle.journal.specs.Record.{journalReplyRecord}
 
 -- ---- the same step in two buffers
 
@@ -31,22 +33,26 @@ unfolding if
 if-both R true p q = p
 if-both R false p q = q
 
-effect-same : (s : Session) (buf other : List ℕ) (x : CallEffect) → SameStep s buf other (stepOfEffect s buf x) (stepOfEffect s other x)
+effect-same : (s : Session) (buf other : List ℕ) (x : CallEffect)
+    → SameStep s buf other (stepOfEffect s buf x) (stepOfEffect s other x)
 effect-same s buf other (refuse n) = SameStep.refused n
 effect-same s buf other (follow x) = SameStep.follows x
 
 -- ---- the refusals that every call checks first
 
 long-enough : (s : Session) (buf : List ℕ) (x : CallEffect) → 261 ≤ length buf
-    → stepIfAdmitted s buf x ≡ if (not (sessionRecordInRanges s)) (refusedStep s refusalRecordOutOfRanges buf) (stepOfEffect s buf x)
+    → stepIfAdmitted s buf x ≡ if (not (sessionRecordInRanges s)) (refusedStep s refusalRecordOutOfRanges buf)
+    (stepOfEffect s buf x)
 unfolding stepIfAdmitted
 long-enough s buf x h = if-no _ _ (le-ltb (length buf) 261 h)
 
-too-short : (s : Session) (buf : List ℕ) (x : CallEffect) → length buf < 261 → stepIfAdmitted s buf x ≡ refusedStep s refusalBufferTooSmall buf
+too-short : (s : Session) (buf : List ℕ) (x : CallEffect) → length buf < 261
+    → stepIfAdmitted s buf x ≡ refusedStep s refusalBufferTooSmall buf
 unfolding stepIfAdmitted
 too-short s buf x h = if-yes _ _ (lt-ltb (length buf) 261 h)
 
-admitted-room : (s : Session) (buf : List ℕ) (x : CallEffect) → isRefusal (stepIfAdmitted s buf x .reply .answer) ≡ false → 261 ≤ length buf
+admitted-room : (s : Session) (buf : List ℕ) (x : CallEffect) → isRefusal (stepIfAdmitted s buf x .reply .answer)
+    ≡ false → 261 ≤ length buf
 admitted-room s buf x r = elim (le-or-gt 261 (length buf)) [
   | inl h ↦ h
   | inr h ↦ no (sym r ∙ ap (λ (y : Step). isRefusal (y .reply .answer)) (too-short s buf x h))
@@ -55,7 +61,8 @@ admitted-room s buf x r = elim (le-or-gt 261 (length buf)) [
 admitted-same : (s : Session) (buf other : List ℕ) (x : CallEffect) → 261 ≤ length buf → 261 ≤ length other
     → SameStep s buf other (stepIfAdmitted s buf x) (stepIfAdmitted s other x)
 admitted-same s buf other x h k =
-    rw (long-enough s buf x h, long-enough s other x k) (if-both (SameStep s buf other) _ (SameStep.refused refusalRecordOutOfRanges) (effect-same s buf other x))
+    rw (long-enough s buf x h, long-enough s other x k)
+    (if-both (SameStep s buf other) _ (SameStep.refused refusalRecordOutOfRanges) (effect-same s buf other x))
 
 -- ---- a call with another buffer
 
@@ -79,7 +86,8 @@ room s (link-failed buf) r = admitted-room s buf _ r
 room s (stop buf) r = admitted-room s buf _ r
 
 module _ (s : Session) (other : List ℕ) (k : 261 ≤ length other) where
-  pub buffer-same : (c : Call) → 261 ≤ length (bufferOf c) → SameStep s (bufferOf c) other (callStep s c) (callStep s (withBuffer other c))
+  pub buffer-same : (c : Call) → 261 ≤ length (bufferOf c)
+      → SameStep s (bufferOf c) other (callStep s c) (callStep s (withBuffer other c))
   buffer-same (start bytes buf) h = admitted-same s buf other _ h k
   buffer-same (answer card buf) h = admitted-same s buf other _ h k
   buffer-same (link-failed buf) h = admitted-same s buf other _ h k
@@ -87,7 +95,8 @@ module _ (s : Session) (other : List ℕ) (k : 261 ≤ length other) where
 
 -- ---- so the reply is the same, and its record
 
-pub same-reply : {s : Session} {buf other : List ℕ} {st st′ : Step} → SameStep s buf other st st′ → st .reply ≡ st′ .reply
+pub same-reply : {s : Session} {buf other : List ℕ} {st st′ : Step} → SameStep s buf other st st′
+    → st .reply ≡ st′ .reply
 same-reply (SameStep.refused n) = refl
 same-reply (SameStep.follows (ask c w b)) = refl
 same-reply (SameStep.follows (end e m b)) = refl

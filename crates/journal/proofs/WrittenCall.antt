@@ -28,7 +28,8 @@ use Rattle.session.specs.Calls.{Call, start, answer, link-failed, stop, callSte
 use Rattle.basics.proofs.Laws.{no}
 use Rattle.step_laws.proofs.Long.{answer-long}
 use Rattle.step_laws.proofs.EveryCall.{Came, buffer-length, start-came, answer-came, link-came, stop-came}
-use Rattle.journal.specs.Record.{journalRecordSize, lengthThenPaddedBytes, journalCommandBuffer, answerOf259ZeroBytes, journalCallRecord, callFromJournalRecord}
+use Rattle.journal.specs.Record.{journalRecordSize, lengthThenPaddedBytes, journalCommandBuffer}
+use Rattle.journal.specs.Record.{answerOf259ZeroBytes, journalCallRecord, callFromJournalRecord}
 use Rattle.journal.specs.Verdict.{expectedNext, judgeCall, judgeRecord}
 use Rattle.journal.proofs.Walk.{replyExpectedAfter}
 use Rattle.journal.proofs.Due.{whole-is, reply-due}
@@ -39,7 +40,9 @@ use Rattle.journal.proofs.WrittenBuffer.{room, buffer-same, same-reply,
 
 module _ (s : Session) (v buf : List ℕ) (h : 1024 < length v) where
   over-in : (p : Phase) → isRefusal (stepOfEffect s buf (startEffect p (storeBytes s) v) .reply .answer) ≡ true
-  over-in Phase.Fresh = ap (λ (x : LoadedStore). isRefusal (stepOfEffect s buf (startEffectAfterLoading x) .reply .answer)) (load-long (storeBytes s) v h)
+  over-in Phase.Fresh =
+      ap (λ (x : LoadedStore). isRefusal (stepOfEffect s buf (startEffectAfterLoading x) .reply .answer))
+      (load-long (storeBytes s) v h)
   over-in (Phase.Waiting w) = refl
   over-in (Phase.Ended e) = refl
 
@@ -65,9 +68,15 @@ lent-room : 261 ≤ length journalCommandBuffer
 lent-room = omega (arith, length-replicate {A = ℕ} 261 0)
 
 sized-length : (k n : ℕ) (v : List ℕ) → length v ≤ n → length (k ∷ lengthThenPaddedBytes n v) ≡ n + 3
-sized-length k n v h = omega (arith, length-append v (replicate (n - length v) 0), length-replicate {A = ℕ} (n - length v) 0)
+sized-length k n v h = omega (
+  arith,
+  length-append v (replicate (n - length v) 0),
+  length-replicate {A = ℕ}
+      (n - length v) 0,
+)
 
-read-start : (s : Session) (v buf : List ℕ) → isRefusal (startStep s v buf .reply .answer) ≡ false → length v ≤ 1024 → Read s (start v buf)
+read-start : (s : Session) (v buf : List ℕ) → isRefusal (startStep s v buf .reply .answer) ≡ false → length v ≤ 1024
+    → Read s (start v buf)
 unfolding journalRecordSize if
 read-start s v buf r h =
     let w = buffer-same s journalCommandBuffer lent-room (start v buf) (room s (start v buf) r) in
@@ -78,10 +87,11 @@ read-start s v buf r h =
       reply = same-reply w;
       due = same-due w;
       sized = sized-length 1 1024 v h;
-      there = omega arith
+      there = omega arith;
     }
 
-read-answer : (s : Session) (v buf : List ℕ) → isRefusal (answerStep s v buf .reply .answer) ≡ false → length v ≤ 258 → Read s (answer v buf)
+read-answer : (s : Session) (v buf : List ℕ) → isRefusal (answerStep s v buf .reply .answer) ≡ false → length v ≤ 258
+    → Read s (answer v buf)
 unfolding journalRecordSize if
 read-answer s v buf r h =
     let w = buffer-same s journalCommandBuffer lent-room (answer v buf) (room s (answer v buf) r) in
@@ -92,14 +102,16 @@ read-answer s v buf r h =
       reply = same-reply w;
       due = same-due w;
       sized = ap (λ (b : List ℕ). length (2 ∷ b)) (if-yes _ _ (le-leb (length v) 258 h)) ∙ sized-length 2 258 v h;
-      there = omega arith
+      there = omega arith;
     }
 
-read-long : (s : Session) (v buf : List ℕ) → isRefusal (answerStep s v buf .reply .answer) ≡ false → 258 < length v → Read s (answer v buf)
+read-long : (s : Session) (v buf : List ℕ) → isRefusal (answerStep s v buf .reply .answer) ≡ false → 258 < length v
+    → Read s (answer v buf)
 unfolding journalRecordSize if
 read-long s v buf r h =
     let w = buffer-same s journalCommandBuffer lent-room (answer v buf) (room s (answer v buf) r) in
-    let e : answerStep s v journalCommandBuffer ≡ answerStep s answerOf259ZeroBytes journalCommandBuffer = answer-long s v answerOf259ZeroBytes journalCommandBuffer h (omega (arith, length-replicate {A = ℕ} 259 0)) in
+    let e : answerStep s v journalCommandBuffer ≡ answerStep s answerOf259ZeroBytes journalCommandBuffer =
+    answer-long s v answerOf259ZeroBytes journalCommandBuffer h (omega (arith, length-replicate {A = ℕ} 259 0)) in
     record {
       call = answer answerOf259ZeroBytes journalCommandBuffer;
       back = long-back v h;
@@ -107,7 +119,7 @@ read-long s v buf r h =
       reply = same-reply w ∙ ap (λ (st : Step). st .reply) e;
       due = same-due w ∙ ap dueBy e;
       sized = ap (λ (b : List ℕ). length (2 ∷ b)) (if-no _ _ (lt-leb (length v) 258 h));
-      there = omega arith
+      there = omega arith;
     }
 
 pub read : (s : Session) (c : Call) → isRefusal (callStep s c .reply .answer) ≡ false → Read s c
@@ -122,15 +134,34 @@ read s (answer v buf) r = elim (le-or-gt (length v) 258) [
 ]
 read s (link-failed buf) r =
     let w = buffer-same s journalCommandBuffer lent-room (link-failed buf) (room s (link-failed buf) r) in
-    record { call = link-failed journalCommandBuffer; back = link-back; came = link-came s journalCommandBuffer; reply = same-reply w; due = same-due w; sized = refl; there = omega arith }
+    record {
+      call = link-failed journalCommandBuffer;
+      back = link-back;
+      came = link-came s journalCommandBuffer;
+      reply =
+          same-reply w;
+      due = same-due w;
+      sized = refl;
+      there = omega arith;
+    }
 read s (stop buf) r =
     let w = buffer-same s journalCommandBuffer lent-room (stop buf) (room s (stop buf) r) in
-    record { call = stop journalCommandBuffer; back = stop-back; came = stop-came s journalCommandBuffer; reply = same-reply w; due = same-due w; sized = refl; there = omega arith }
+    record {
+      call = stop journalCommandBuffer;
+      back = stop-back;
+      came = stop-came s journalCommandBuffer;
+      reply =
+          same-reply w;
+      due = same-due w;
+      sized = refl;
+      there = omega arith;
+    }
 
 -- ---- its reply
 
 module _ {s : Session} where
-  reply-there : {st : Step} → Came s journalCommandBuffer st → isRefusal (st .reply .answer) ≡ false → 0 < length (dueBy st)
+  reply-there : {st : Step} → Came s journalCommandBuffer st → isRefusal (st .reply .answer) ≡ false
+      → 0 < length (dueBy st)
   reply-there (Came.refused n) r = no (sym r)
   reply-there (Came.ended y b o n) r = omega arith
   reply-there (Came.sent b p c l) r = omega arith
@@ -141,12 +172,14 @@ module _ {s : Session} where
   reply-some (Came.ended y b o n) r = refl
   reply-some (Came.sent b p c l) r = refl
 
-  reply-sized : {st : Step} → Came s journalCommandBuffer st → isRefusal (st .reply .answer) ≡ false → length (dueBy st) ≡ journalRecordSize (getD (dueBy st) 0 0)
+  reply-sized : {st : Step} → Came s journalCommandBuffer st → isRefusal (st .reply .answer) ≡ false
+      → length (dueBy st) ≡ journalRecordSize (getD (dueBy st) 0 0)
   unfolding journalRecordSize if
   reply-sized (Came.refused n) r = no (sym r)
   reply-sized (Came.ended y b o n) r = refl
   reply-sized (Came.sent b p c l) r =
-      ap length (sym (whole-is {s = s} (Came.sent b p c l))) ∙ (let e = buffer-length {s = s} {buf = journalCommandBuffer} (Came.sent b p c l) in omega arith)
+      ap length (sym (whole-is {s = s} (Came.sent b p c l))) ∙
+      (let e = buffer-length {s = s} {buf = journalCommandBuffer} (Came.sent b p c l) in omega arith)
 
 -- ---- the two records
 
@@ -154,10 +187,12 @@ module _ (s : Session) (c : Call) (r : isRefusal (callStep s c .reply .answer) �
   answered : isRefusal (callStep s (read s c r .call) .reply .answer) ≡ false
   answered = sym (ap (λ (q : Reply). isRefusal (q .answer)) (read s c r .reply)) ∙ r
 
-  pub call-judged : judgeRecord (expectedNext s []) (journalCallRecord c) ≡ some (expectedNext (callStep s c .reply .session) (dueBy (callStep s c)))
+  pub call-judged : judgeRecord (expectedNext s []) (journalCallRecord c)
+      ≡ some (expectedNext (callStep s c .reply .session) (dueBy (callStep s c)))
   call-judged =
       ap (judgeCall s) (read s c r .back) ∙ reply-some (read s c r .came) answered
-      ∙ ap₂ (λ (q : Reply) (d : List ℕ). some (expectedNext (q .session) d)) (sym (read s c r .reply)) (sym (read s c r .due))
+      ∙ ap₂ (λ (q : Reply) (d : List ℕ). some (expectedNext (q .session) d)) (sym (read s c r .reply))
+      (sym (read s c r .due))
 
   pub due-there : 0 < length (dueBy (callStep s c))
   due-there = rw (read s c r .due) (reply-there (read s c r .came) answered)
@@ -165,5 +200,7 @@ module _ (s : Session) (c : Call) (r : isRefusal (callStep s c .reply .answer) �
   pub due-sized : length (dueBy (callStep s c)) ≡ journalRecordSize (getD (dueBy (callStep s c)) 0 0)
   due-sized = rw (read s c r .due) (reply-sized (read s c r .came) answered)
 
-  pub due-judged : judgeRecord (expectedNext (callStep s c .reply .session) (dueBy (callStep s c))) (dueBy (callStep s c)) ≡ some (expectedNext (callStep s c .reply .session) [])
-  due-judged = reply-due (callStep s c .reply .session) (dueBy (callStep s c)) (dueBy (callStep s c)) due-there ∙ if-yes _ _ (alike-refl (dueBy (callStep s c)))
+  pub due-judged : judgeRecord (expectedNext (callStep s c .reply .session) (dueBy (callStep s c)))
+      (dueBy (callStep s c)) ≡ some (expectedNext (callStep s c .reply .session) [])
+  due-judged = reply-due (callStep s c .reply .session) (dueBy (callStep s c)) (dueBy (callStep s c)) due-there ∙ if-yes
+      _ _ (alike-refl (dueBy (callStep s c)))

@@ -28,7 +28,8 @@ use Rattle.tlv.specs.Encoding.{tagBytes, wellFormedTag, lengthBytes, objectByte
 use Rattle.tlv.proofs.Laws.{tag-fits}
 use Rattle.tlv.proofs.Encoding.{header-encoded}
 use Rattle.reading.specs.Answer.{isStatus9000, responseLengthIs2To258}
-use Rattle.laws.specs.Records.{withoutStatusBytes, outerObjectContents, isSuccessfulRecordAnswerIn70, RecordAnswerWithContents, shortestRecordAnswer}
+use Rattle.laws.specs.Records.{withoutStatusBytes, outerObjectContents, isSuccessfulRecordAnswerIn70}
+use Rattle.laws.specs.Records.{RecordAnswerWithContents, shortestRecordAnswer}
 use Rattle.laws.proofs.Answers.{Outer, outer-of, outer-record, outer-contents}
 
 -- ---- contents of at most 253 bytes
@@ -45,7 +46,8 @@ few-bytes : (n : ℕ) → n < 0x100 → length (lengthBytes n) ≤ 2
 unfolding lengthBytes
 few-bytes n h =
     let P : List ℕ → Type 0 = λ s. length s ≤ 2 in
-    if-ind P _ _ _ (λ _. omega arith) (λ _. if-ind P _ _ _ (λ _. omega arith) (λ e. let z = ltb-false n 0x100 e in absurd (omega arith)))
+    if-ind P _ _ _ (λ _. omega arith)
+    (λ _. if-ind P _ _ _ (λ _. omega arith) (λ e. let z = ltb-false n 0x100 e in absurd (omega arith)))
 
 module _ (c : List ℕ) (h : length c ≤ 253) where
   abbrev object : List ℕ
@@ -70,15 +72,18 @@ module _ (c : List ℕ) (h : length c ≤ 253) where
   unfolding responseLengthIs2To258
   good-length =
       both-yes _ _ (le-leb 2 (length (shortestRecordAnswer c)) (omega (arith, size)))
-      (le-leb (length (shortestRecordAnswer c)) 258 (omega (arith, size, object-size, one-byte, few-bytes (length c) (omega arith))))
+      (le-leb (length (shortestRecordAnswer c)) 258
+      (omega (arith, size, object-size, one-byte, few-bytes (length c) (omega arith))))
 
   good-status : isStatus9000 (shortestRecordAnswer c) ≡ true
   unfolding isStatus9000
   good-status =
       let x : length (shortestRecordAnswer c) - 2 ≡ length object + 0 = omega (arith, size) in
       let y : length (shortestRecordAnswer c) - 1 ≡ length object + 1 = omega (arith, size) in
-      both-yes _ _ (ap (λ (i : ℕ). eqb (getD (shortestRecordAnswer c) i 0) 0x90) x ∙ ap (λ (n : ℕ). eqb n 0x90) (getD-append-add object status 0 0))
-      (ap (λ (i : ℕ). eqb (getD (shortestRecordAnswer c) i 0) 0) y ∙ ap (λ (n : ℕ). eqb n 0) (getD-append-add object status 1 0))
+      both-yes _ _ (ap (λ (i : ℕ). eqb (getD (shortestRecordAnswer c) i 0) 0x90) x ∙ ap (λ (n : ℕ). eqb n 0x90)
+      (getD-append-add object status 0 0))
+      (ap (λ (i : ℕ). eqb (getD (shortestRecordAnswer c) i 0) 0) y ∙ ap (λ (n : ℕ). eqb n 0)
+      (getD-append-add object status 1 0))
 
   outer : Outer (shortestRecordAnswer c)
   outer = record {
@@ -92,14 +97,16 @@ module _ (c : List ℕ) (h : length c ≤ 253) where
 
   value : headerValue object (tlvHeader 0x70 from (length c)) ≡ c
   value =
-      ap (take (length c)) (drop-append-add (tagBytes 0x70) (lengthBytes (length c) ++ c) (length (lengthBytes (length c)))
+      ap (take (length c)) (drop-append-add (tagBytes 0x70) (lengthBytes (length c) ++ c)
+      (length (lengthBytes (length c)))
       ∙ drop-append-seam (lengthBytes (length c)) c) ∙ take-length c
 
   pub room : RecordAnswerWithContents (shortestRecordAnswer c) c
   unfolding outer
   room = record {
     whole = outer-record (shortestRecordAnswer c) outer;
-    contents = outer-contents (shortestRecordAnswer c) outer ∙ ap (λ (s : List ℕ). headerValue s (tlvHeader 0x70 from (length c))) body ∙ value;
+    contents = outer-contents (shortestRecordAnswer c) outer ∙ ap
+        (λ (s : List ℕ). headerValue s (tlvHeader 0x70 from (length c))) body ∙ value;
   }
 
 -- ---- no answer holds more
@@ -154,5 +161,9 @@ most-held s e =
     let m = most s (o .size) in
     let z = o .end in
     let l : o .header .start ≤ 2 → o .header .len < 0x80 = rw (o .front) at (low-front (withoutStatusBytes s)) in
-    let n : o .header .len ≤ 253 = elim (le-or-gt (o .header .start) 2) [ inl h ↦ omega (arith, l h) | inr h ↦ omega arith ] in
+    let n : o .header .len ≤ 253 = elim (le-or-gt (o .header .start) 2) [
+      | inl h ↦ omega (arith, l h)
+      | inr h ↦
+          omega arith
+    ] in
     rw (outer-contents s o) (simp length-take (omega arith))

@@ -33,7 +33,8 @@ not-missing true false e h = cc
 not-missing false b e h = cc
 
 pub contained-within : (s t : List ℕ) → contained s t ≡ true → FortyBitsWithin s t
-contained-within s t e i l = not-missing (hasBitCountedFromZeroAtByte1B8 s i) (hasBitCountedFromZeroAtByte1B8 t i) (none-passes (missing s t) 40 0 (none-of _ e) i (omega arith) l)
+contained-within s t e i l = not-missing (hasBitCountedFromZeroAtByte1B8 s i) (hasBitCountedFromZeroAtByte1B8 t i)
+    (none-passes (missing s t) 40 0 (none-of _ e) i (omega arith) l)
 
 -- ---- a test that fails is no containment
 
@@ -45,4 +46,6 @@ there-too false b h = refl
 
 pub within-contained : (s t : List ℕ) → FortyBitsWithin s t → contained s t ≡ true
 within-contained s t w =
-    ap (λ x. not (isSomeBit x)) (lowest-none (missing s t) 40 0 (λ i u l. there-too (hasBitCountedFromZeroAtByte1B8 s i) (hasBitCountedFromZeroAtByte1B8 t i) (w i l)))
+    ap (λ x. not (isSomeBit x))
+    (lowest-none (missing s t) 40 0 (λ i u l. there-too (hasBitCountedFromZeroAtByte1B8 s i)
+    (hasBitCountedFromZeroAtByte1B8 t i) (w i l)))

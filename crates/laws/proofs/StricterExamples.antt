@@ -15,7 +15,10 @@ use Rattle.dictionary.specs.Rows.{dictionaryRows, rowFoundShifted, findRow}
 use Rattle.store.specs.Place.{StoredValue, absent, bytesOrEmptyIfAbsent, objectValue}
 use Rattle.analysis.specs.Bits.{hasBitCountedFromZeroAtByte1B8}
 use Rattle.analysis.specs.Value.{firstBytesZeroPadded}
-use Rattle.analysis.specs.Choice.{denialStage, onlineStage, defaultStage, tvrBitIsInEitherActionCode, lowestBitFrom, lowestTvrBitInCodes, allZerosActionCode, allOnesActionCode, iacOrDefault, actionCodesAt, someTvrBitInCodesOfStage, onlineCapabilityByDigit, terminalActionAnalysis}
+use Rattle.analysis.specs.Choice.{denialStage, onlineStage, defaultStage, tvrBitIsInEitherActionCode, lowestBitFrom}
+use Rattle.analysis.specs.Choice.{lowestTvrBitInCodes, allZerosActionCode, allOnesActionCode, iacOrDefault}
+use Rattle.analysis.specs.Choice.{actionCodesAt, someTvrBitInCodesOfStage, onlineCapabilityByDigit}
+use Rattle.analysis.specs.Choice.{terminalActionAnalysis}
 use Rattle.analysis.specs.Action.{terminalType, actionCodesOf, choiceForTvr}
 use Rattle.analysis.specs.declared.choice.Choice.{Choice}
 use Rattle.analysis.specs.declared.choice.Choice.the-variants.{Decline, Online, Offline}
@@ -70,7 +73,8 @@ abbrev cardAdds : State → State → ℕ → Bool
 cardAdds x y stage = contained (iacOrDefault stage (cardValue x stage)) (iacOrDefault stage (cardValue y stage))
 
 abbrev terminalAdds : State → State → ℕ → Bool
-terminalAdds x y stage = contained (firstBytesZeroPadded 5 (terminalBytes x stage)) (firstBytesZeroPadded 5 (terminalBytes y stage))
+terminalAdds x y stage = contained (firstBytesZeroPadded 5 (terminalBytes x stage))
+    (firstBytesZeroPadded 5 (terminalBytes y stage))
 
 abbrev codesAdd : State → State → Bool
 codesAdd x y =
@@ -99,13 +103,16 @@ module _ (r s b c : List ℕ) where
       }
 
   -- where it passes the law speaks of the change
-  never-higher : isAddition (inStore r b) (inStore s c) ≡ true → choiceRank (choiceForTvr c s) ≤ choiceRank (choiceForTvr b r)
+  never-higher : isAddition (inStore r b) (inStore s c) ≡ true → choiceRank (choiceForTvr c s)
+      ≤ choiceRank (choiceForTvr b r)
   never-higher e =
       let more = both-right _ _ e in
-      never-loosens .stores r s b c (eqb-true _ _ (both-left _ _ e)) (contained-within _ _ (both-left _ _ more)) (codes-added (both-right _ _ more))
+      never-loosens .stores r s b c (eqb-true _ _ (both-left _ _ e)) (contained-within _ _ (both-left _ _ more))
+      (codes-added (both-right _ _ more))
 
   -- where it fails the law does not
-  addition-passes : terminalType c ≡ terminalType b → FortyBitsWithin r s → StoredActionCodesWithin b c → isAddition (inStore r b) (inStore s c) ≡ true
+  addition-passes : terminalType c ≡ terminalType b → FortyBitsWithin r s → StoredActionCodesWithin b c
+      → isAddition (inStore r b) (inStore s c) ≡ true
   addition-passes e g w =
       both-yes _ _ (eq-eqb _ _ e)
       (both-yes _ _ (within-contained _ _ g)
@@ -154,7 +161,8 @@ ranks x = (oldChoice x, choiceRank (oldChoice x)) ∷ (newChoice x, choiceRank (
 
 -- a terminal of a type with codes of zeros, and no code of the card
 abbrev terminal : ℕ → List (ℕ × List ℕ)
-terminal kind = (0x9F35, kind ∷ []) ∷ (0xDF8121, allZerosActionCode) ∷ (0xDF8122, allZerosActionCode) ∷ (0xDF8120, allZerosActionCode) ∷ []
+terminal kind = (0x9F35, kind ∷ []) ∷ (0xDF8121, allZerosActionCode) ∷ (0xDF8122, allZerosActionCode)
+    ∷ (0xDF8120, allZerosActionCode) ∷ []
 
 -- byte 1 b8; byte 2 b7; both; byte 5 b1; byte 5 b2
 abbrev first : List ℕ
@@ -179,7 +187,8 @@ falling =
     -- types 22 and 25, online: zeros of the card get byte 1 b8; they go away; the terminal's code gets it
     codes first ((0x9F0F, allZerosActionCode) ∷ terminal 0x22) ((0x9F0F, first) ∷ terminal 0x22)
     ∷ codes first ((0x9F0F, allZerosActionCode) ∷ terminal 0x22) (terminal 0x22)
-    ∷ codes first ((0x9F0F, allZerosActionCode) ∷ terminal 0x25) ((0x9F0F, allZerosActionCode) ∷ (0xDF8122, first) ∷ terminal 0x25)
+    ∷ codes first ((0x9F0F, allZerosActionCode) ∷ terminal 0x25) ((0x9F0F, allZerosActionCode) ∷ (0xDF8122, first)
+    ∷ terminal 0x25)
     -- types 22, 34 and 21, denial: a code of the card appears; one gets a bit more; the terminal's gets one
     ∷ codes first (terminal 0x22) ((0x9F0E, first) ∷ terminal 0x22)
     ∷ codes first ((0x9F0E, expiry) ∷ terminal 0x34) ((0x9F0E, firstAndExpiry) ∷ terminal 0x34)
@@ -194,10 +203,12 @@ falling =
     ∷ result allZerosActionCode last ((0x9F0E, last) ∷ (0x9F0D, allZerosActionCode) ∷ terminal 0x36)
     ∷ result allZerosActionCode last ((0x9F0D, last) ∷ terminal 0x13)
     -- the TVR and two codes at once; by the TVR alone, or by the codes alone, the choice is kept: see below
-    ∷ change allZerosActionCode ((0x9F0F, allZerosActionCode) ∷ terminal 0x25) last ((0x9F0F, last) ∷ (0xDF8121, last) ∷ terminal 0x25)
+    ∷ change allZerosActionCode ((0x9F0F, allZerosActionCode) ∷ terminal 0x25) last
+    ((0x9F0F, last) ∷ (0xDF8121, last) ∷ terminal 0x25)
     ∷ []
 
-falling-adds : map adds falling ≡ true ∷ true ∷ true ∷ true ∷ true ∷ true ∷ true ∷ true ∷ true ∷ true ∷ true ∷ true ∷ true ∷ []
+falling-adds : map adds falling ≡ true ∷ true ∷ true ∷ true ∷ true ∷ true ∷ true ∷ true ∷ true ∷ true ∷ true ∷ true
+    ∷ true ∷ []
 unfolding valueAmong lowestBitFrom iacOrDefault hasBitCountedFromZeroAtByte1B8 firstBytesZeroPadded both either if
 falling-adds = refl
 
@@ -216,7 +227,9 @@ falling-ranks : map ranks falling
     ∷ ((Offline, 2) ∷ (Decline, 0) ∷ [])
     ∷ ((Offline, 2) ∷ (Decline, 0) ∷ [])
     ∷ []
-unfolding valueAmong terminalActionAnalysis onlineCapabilityByDigit someTvrBitInCodesOfStage lowestTvrBitInCodes lowestBitFrom tvrBitIsInEitherActionCode iacOrDefault hasBitCountedFromZeroAtByte1B8 firstBytesZeroPadded both either if
+unfolding valueAmong terminalActionAnalysis onlineCapabilityByDigit someTvrBitInCodesOfStage lowestTvrBitInCodes
+    lowestBitFrom tvrBitIsInEitherActionCode iacOrDefault hasBitCountedFromZeroAtByte1B8 firstBytesZeroPadded both
+    either if
 falling-ranks = refl
 
 -- ---- additions by which the choice is kept
@@ -225,7 +238,8 @@ abbrev keeping : List Change
 keeping =
     -- the last one's TVR alone, and its codes alone
     result allZerosActionCode last ((0x9F0F, allZerosActionCode) ∷ terminal 0x25)
-    ∷ codes allZerosActionCode ((0x9F0F, allZerosActionCode) ∷ terminal 0x25) ((0x9F0F, last) ∷ (0xDF8121, last) ∷ terminal 0x25)
+    ∷ codes allZerosActionCode ((0x9F0F, allZerosActionCode) ∷ terminal 0x25)
+    ((0x9F0F, last) ∷ (0xDF8121, last) ∷ terminal 0x25)
     -- a code of ones appears, of online and of default; a denial code of zeros goes away
     ∷ codes first (terminal 0x22) ((0x9F0F, allOnesActionCode) ∷ terminal 0x22)
     ∷ codes first (terminal 0x23) ((0x9F0D, allOnesActionCode) ∷ terminal 0x23)
@@ -246,7 +260,9 @@ keeping-ranks : map ranks keeping
     ∷ ((Online, 1) ∷ (Online, 1) ∷ [])
     ∷ ((Decline, 0) ∷ (Decline, 0) ∷ [])
     ∷ []
-unfolding valueAmong terminalActionAnalysis onlineCapabilityByDigit someTvrBitInCodesOfStage lowestTvrBitInCodes lowestBitFrom tvrBitIsInEitherActionCode iacOrDefault hasBitCountedFromZeroAtByte1B8 firstBytesZeroPadded both either if
+unfolding valueAmong terminalActionAnalysis onlineCapabilityByDigit someTvrBitInCodesOfStage lowestTvrBitInCodes
+    lowestBitFrom tvrBitIsInEitherActionCode iacOrDefault hasBitCountedFromZeroAtByte1B8 firstBytesZeroPadded both
+    either if
 keeping-ranks = refl
 
 -- ---- changes that are no additions, by which the choice rises
@@ -260,8 +276,10 @@ rising =
     -- the TVR loses a bit
     ∷ result first allZerosActionCode ((0x9F0F, first) ∷ terminal 0x22)
     -- the terminal's online code is a greater number, by its bytes and in one byte, and loses a bit
-    ∷ codes expiry ((0x9F0F, allZerosActionCode) ∷ (0xDF8122, expiry) ∷ terminal 0x22) ((0x9F0F, allZerosActionCode) ∷ (0xDF8122, first) ∷ terminal 0x22)
-    ∷ codes last ((0x9F0F, allZerosActionCode) ∷ (0xDF8122, last) ∷ terminal 0x22) ((0x9F0F, allZerosActionCode) ∷ (0xDF8122, lastButOne) ∷ terminal 0x22)
+    ∷ codes expiry ((0x9F0F, allZerosActionCode) ∷ (0xDF8122, expiry) ∷ terminal 0x22)
+    ((0x9F0F, allZerosActionCode) ∷ (0xDF8122, first) ∷ terminal 0x22)
+    ∷ codes last ((0x9F0F, allZerosActionCode) ∷ (0xDF8122, last) ∷ terminal 0x22)
+    ((0x9F0F, allZerosActionCode) ∷ (0xDF8122, lastButOne) ∷ terminal 0x22)
     -- another type
     ∷ codes first ((0x9F0F, allZerosActionCode) ∷ terminal 0x21) ((0x9F0F, allZerosActionCode) ∷ terminal 0x22)
     ∷ []
@@ -279,7 +297,9 @@ rising-ranks : map ranks rising
     ∷ ((Online, 1) ∷ (Offline, 2) ∷ [])
     ∷ ((Online, 1) ∷ (Offline, 2) ∷ [])
     ∷ []
-unfolding valueAmong terminalActionAnalysis onlineCapabilityByDigit someTvrBitInCodesOfStage lowestTvrBitInCodes lowestBitFrom tvrBitIsInEitherActionCode iacOrDefault hasBitCountedFromZeroAtByte1B8 firstBytesZeroPadded both either if
+unfolding valueAmong terminalActionAnalysis onlineCapabilityByDigit someTvrBitInCodesOfStage lowestTvrBitInCodes
+    lowestBitFrom tvrBitIsInEitherActionCode iacOrDefault hasBitCountedFromZeroAtByte1B8 firstBytesZeroPadded both
+    either if
 rising-ranks = refl
 
 -- ---- in stores
@@ -305,5 +325,7 @@ module _ (r : List ℕ) (l : List (ℕ × List ℕ)) (h : haveRoom l ≡ true) w
   choice-stored = sym (choice-is r (storeOf l)) ∙ ap choice in-store
 
 -- and the change is an addition there exactly where the test passes
-adds-stored : (x : Change) → storable x ≡ true → isAddition (inStore (x .oldBits) (storeOf (x .old))) (inStore (x .newBits) (storeOf (x .new))) ≡ adds x
-adds-stored x h = ap₂ isAddition (in-store (x .oldBits) (x .old) (both-left _ _ h)) (in-store (x .newBits) (x .new) (both-right _ _ h))
+adds-stored : (x : Change) → storable x ≡ true → isAddition (inStore (x .oldBits) (storeOf (x .old)))
+    (inStore (x .newBits) (storeOf (x .new))) ≡ adds x
+adds-stored x h = ap₂ isAddition (in-store (x .oldBits) (x .old) (both-left _ _ h))
+    (in-store (x .newBits) (x .new) (both-right _ _ h))

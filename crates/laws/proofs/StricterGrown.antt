@@ -18,11 +18,13 @@ use Rattle.analysis.specs.Value.{firstBytesZeroPadded}
 use Rattle.analysis.specs.Choice.{denialStage, onlineStage, defaultStage, iacOrDefault}
 use Rattle.analysis.specs.Action.{findingsOf, choiceForTvr}
 use Rattle.laws.specs.Rank.{choiceRank}
-use Rattle.laws.specs.Stricter.{FortyBitsWithin, storedIacOrValueIfAbsent, storedTacOrZeros, StoredActionCodesWithin, isActionCodeTag, AlikeButActionCodes}
+use Rattle.laws.specs.Stricter.{FortyBitsWithin, storedIacOrValueIfAbsent, storedTacOrZeros}
+use Rattle.laws.specs.Stricter.{StoredActionCodesWithin, isActionCodeTag, AlikeButActionCodes}
 use Rattle.laws.proofs.StricterLaws.{apart, never-loosens}
 use Rattle.laws.proofs.StricterStored.{put-own, put-kept}
 
-module _ (b v : List ℕ) (l : length b ≡ storeSize) (n : length v ≤ 5) (w : FortyBitsWithin (storedTacOrZeros b 0xDF8122) (firstBytesZeroPadded 5 v)) where
+module _ (b v : List ℕ) (l : length b ≡ storeSize) (n : length v ≤ 5)
+    (w : FortyBitsWithin (storedTacOrZeros b 0xDF8122) (firstBytesZeroPadded 5 v)) where
   abbrev grown : List ℕ
   grown = putRow dictionaryRows b rowTacOnline v
 
@@ -37,11 +39,15 @@ module _ (b v : List ℕ) (l : length b ≡ storeSize) (n : length v ≤ 5) (w :
   unfolding either
   alike u e = kept u (λ z. apart (sym e ∙ ap isActionCodeTag z))
 
-  card-same : (stage u : ℕ) → (u ≡ 0xDF8122 → ⊥) → FortyBitsWithin (storedIacOrValueIfAbsent b stage u) (storedIacOrValueIfAbsent grown stage u)
-  card-same stage u ne i h e = ap (λ (x : StoredValue). hasBitCountedFromZeroAtByte1B8 (iacOrDefault stage x) i) (sym (kept u ne)) ∙ e
+  card-same : (stage u : ℕ) → (u ≡ 0xDF8122 → ⊥) → FortyBitsWithin (storedIacOrValueIfAbsent b stage u)
+      (storedIacOrValueIfAbsent grown stage u)
+  card-same stage u ne i h e = ap (λ (x : StoredValue). hasBitCountedFromZeroAtByte1B8 (iacOrDefault stage x) i)
+      (sym (kept u ne)) ∙ e
 
   terminal-same : (u : ℕ) → (u ≡ 0xDF8122 → ⊥) → FortyBitsWithin (storedTacOrZeros b u) (storedTacOrZeros grown u)
-  terminal-same u ne i h e = ap (λ (x : StoredValue). hasBitCountedFromZeroAtByte1B8 (firstBytesZeroPadded 5 (bytesOrEmptyIfAbsent x)) i) (sym (kept u ne)) ∙ e
+  terminal-same u ne i h e =
+      ap (λ (x : StoredValue). hasBitCountedFromZeroAtByte1B8 (firstBytesZeroPadded 5 (bytesOrEmptyIfAbsent x)) i)
+      (sym (kept u ne)) ∙ e
 
   codes : StoredActionCodesWithin b grown
   codes =
@@ -51,9 +57,11 @@ module _ (b v : List ℕ) (l : length b ≡ storeSize) (n : length v ≤ 5) (w :
         card-default = card-same defaultStage 0x9F0D (λ z. omega arith);
         terminal-denial = terminal-same 0xDF8121 (λ z. omega arith);
         terminal-online = λ i h e.
-            ap (λ (x : StoredValue). hasBitCountedFromZeroAtByte1B8 (firstBytesZeroPadded 5 (bytesOrEmptyIfAbsent x)) i) (put-own b 0xDF8122 rowTacOnline v at-DF8122 fits) ∙ w i h e;
+            ap (λ (x : StoredValue). hasBitCountedFromZeroAtByte1B8 (firstBytesZeroPadded 5 (bytesOrEmptyIfAbsent x)) i)
+            (put-own b 0xDF8122 rowTacOnline v at-DF8122 fits) ∙ w i h e;
         terminal-default = terminal-same 0xDF8120 (λ z. omega arith);
       }
 
-  pub no-higher : choiceRank (choiceForTvr grown (findingsOf grown .bits)) ≤ choiceRank (choiceForTvr b (findingsOf b .bits))
+  pub no-higher : choiceRank (choiceForTvr grown (findingsOf grown .bits))
+      ≤ choiceRank (choiceForTvr b (findingsOf b .bits))
   no-higher = never-loosens .codes-alone b grown alike codes

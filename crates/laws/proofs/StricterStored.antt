@@ -23,21 +23,27 @@ use Rattle.laws.proofs.StricterLaws.{apart}
 
 -- ---- one value put
 
-module _ (b : List ℕ) (t k : ℕ) (v : List ℕ) (at : findRow dictionaryRows t ≡ At k) (f : Fits dictionaryRows b k v) where
-  -- its own tag has it
-  pub put-own : objectValue (putRow dictionaryRows b k v) t ≡ present v
-  put-own = by-row dictionaryRows (putRow dictionaryRows b k v) t k at ∙ put-get dictionaryRows b k v f
+module _ (b : List ℕ) (t k : ℕ) (v : List ℕ) (at : findRow dictionaryRows t ≡ At k) (f : Fits dictionaryRows b k v)
+  where
+    -- its own tag has it
+    pub put-own : objectValue (putRow dictionaryRows b k v) t ≡ present v
+    put-own = by-row dictionaryRows (putRow dictionaryRows b k v) t k at ∙ put-get dictionaryRows b k v f
 
-  -- every other tag keeps its value
-  pub put-kept : (u : ℕ) → (u ≡ t → ⊥) → objectValue b u ≡ objectValue (putRow dictionaryRows b k v) u
-  put-kept u ne = go (findRow dictionaryRows u) refl
-    where
-      go : (x : RowFound) → findRow dictionaryRows u ≡ x → objectValue b u ≡ objectValue (putRow dictionaryRows b k v) u
-      go Unknown e = unknown-absent dictionaryRows b u e ∙ sym (unknown-absent dictionaryRows (putRow dictionaryRows b k v) u e)
-      go (At j) e =
-          by-row dictionaryRows b u j e
-          ∙ sym (put-other dictionaryRows b k v f j (λ z. ne (sym (found dictionaryRows u j e .1) ∙ ap (λ (n : ℕ). rowIn dictionaryRows n .tag) z ∙ found dictionaryRows t k at .1)))
-          ∙ sym (by-row dictionaryRows (putRow dictionaryRows b k v) u j e)
+    -- every other tag keeps its value
+    pub put-kept : (u : ℕ) → (u ≡ t → ⊥) → objectValue b u ≡ objectValue (putRow dictionaryRows b k v) u
+    put-kept u ne = go (findRow dictionaryRows u) refl
+      where
+        go : (x : RowFound) → findRow dictionaryRows u ≡ x → objectValue b u ≡ objectValue (putRow dictionaryRows b k v)
+            u
+        go Unknown e = unknown-absent dictionaryRows b u e ∙ sym
+            (unknown-absent dictionaryRows (putRow dictionaryRows b k v) u e)
+        go (At j) e =
+            by-row dictionaryRows b u j e
+            ∙ sym
+            (put-other dictionaryRows b k v f j
+            (λ z. ne (sym (found dictionaryRows u j e .1) ∙ ap (λ (n : ℕ). rowIn dictionaryRows n .tag) z ∙ found
+            dictionaryRows t k at .1)))
+            ∙ sym (by-row dictionaryRows (putRow dictionaryRows b k v) u j e)
 
 -- ---- objects
 
@@ -66,23 +72,30 @@ record Room (b : List ℕ) (t : ℕ) (v : List ℕ) : Type 0 where
   at : findRow dictionaryRows t ≡ At (rowNumberOfTagOrZero t)
   fits : Fits dictionaryRows b (rowNumberOfTagOrZero t) v
 
-room : (b : List ℕ) (t : ℕ) (v : List ℕ) → length b ≡ storeSize → roomAt (length v) (findRow dictionaryRows t) ≡ true → Room b t v
+room : (b : List ℕ) (t : ℕ) (v : List ℕ) → length b ≡ storeSize → roomAt (length v) (findRow dictionaryRows t) ≡ true
+    → Room b t v
 unfolding rowNumberOfTagOrZero
 room b t v l h = go (findRow dictionaryRows t) refl h
   where
     go : (x : RowFound) → findRow dictionaryRows t ≡ x → roomAt (length v) x ≡ true → Room b t v
     go Unknown e g = apart g
     go (At k) e g =
-        let at : findRow dictionaryRows t ≡ At (rowNumberFoundOrZero (findRow dictionaryRows t)) = e ∙ ap (λ (x : RowFound). At (rowNumberFoundOrZero x)) (sym e) in
+        let at : findRow dictionaryRows t ≡ At (rowNumberFoundOrZero (findRow dictionaryRows t)) =
+        e ∙ ap (λ (x : RowFound). At (rowNumberFoundOrZero x)) (sym e) in
         let g2 = subst (λ (x : RowFound). roomAt (length v) x ≡ true) (sym e ∙ at) g in
-        record { at = at; fits = fits-row b (rowNumberFoundOrZero (findRow dictionaryRows t)) v l (row-found t at) (leb-true _ _ g2) }
+        record {
+          at = at;
+          fits = fits-row b (rowNumberFoundOrZero (findRow dictionaryRows t)) v l (row-found t at)
+              (leb-true _ _ g2);
+        }
 
 length-of : (l : List (ℕ × List ℕ)) → haveRoom l ≡ true → length (storeOf l) ≡ storeSize
 unfolding storeOf haveRoom
 length-of [] h = length-replicate {A = ℕ} storeSize 0
 length-of ((t, v) ∷ more) h =
     let n = length-of more (both-right _ _ h) in
-    put-length dictionaryRows (storeOf more) (rowNumberOfTagOrZero t) v (room (storeOf more) t v n (both-left _ _ h) .fits) ∙ n
+    put-length dictionaryRows (storeOf more) (rowNumberOfTagOrZero t) v
+    (room (storeOf more) t v n (both-left _ _ h) .fits) ∙ n
 
 empty-holds : (u : ℕ) → objectValue (replicate storeSize 0) u ≡ absent
 empty-holds u = go (findRow dictionaryRows u) refl
@@ -91,7 +104,8 @@ empty-holds u = go (findRow dictionaryRows u) refl
     go Unknown e = unknown-absent dictionaryRows (replicate storeSize 0) u e
     go (At k) e =
         by-row dictionaryRows (replicate storeSize 0) u k e
-        ∙ subst (λ (n : ℕ). rowValue dictionaryRows (replicate n 0) k ≡ absent) rows-size (empty-holds-nothing dictionaryRows k)
+        ∙ subst (λ (n : ℕ). rowValue dictionaryRows (replicate n 0) k ≡ absent) rows-size
+        (empty-holds-nothing dictionaryRows k)
 
 pub stored : (l : List (ℕ × List ℕ)) → haveRoom l ≡ true → (u : ℕ) → objectValue (storeOf l) u ≡ valueAmong l u
 unfolding storeOf haveRoom valueAmong

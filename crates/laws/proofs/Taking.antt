@@ -22,8 +22,10 @@ use Rattle.dictionary.proofs.Fit.{fits-length}
 use Rattle.store.specs.Place.{StoredValue, bytesOrEmptyIfAbsent, isRowAbsentOrEmpty, putRow}
 use Rattle.store.proofs.Laws.{Fits, put-length, put-other, put-put}
 use Rattle.store.proofs.Rows.{rows-length, fits-row}
-use Rattle.reading.specs.Taking.{PrimitiveItem, cardMaySet, rowAllowsValueFromCard, StoringState, storingState, storeItem, storeAllItems}
-use Rattle.reading.proofs.Laws.{item-unknown, item-skipped, item-barred, item-put, item-again, may-come-fits, next-good, next-bad}
+use Rattle.reading.specs.Taking.{PrimitiveItem, cardMaySet, rowAllowsValueFromCard, StoringState, storingState}
+use Rattle.reading.specs.Taking.{storeItem, storeAllItems}
+use Rattle.reading.proofs.Laws.{item-unknown, item-skipped, item-barred, item-put, item-again, may-come-fits, next-good}
+use Rattle.reading.proofs.Laws.{next-bad}
 use Rattle.reading.proofs.Kept.{All}
 
 module _ (answer : ℕ) where
@@ -34,7 +36,8 @@ module _ (answer : ℕ) where
     row : k < rowCount
     tag : rowAt k .tag ≡ i .tag
     short : length (i .value) ≤ rowAt k .greatest
-    puts : (b : List ℕ) → storeItem answer b i ≡ storingState (isRowAbsentOrEmpty dictionaryRows b k) (if (isRowAbsentOrEmpty dictionaryRows b k) (putRow dictionaryRows b k (i .value)) b)
+    puts : (b : List ℕ) → storeItem answer b i ≡ storingState (isRowAbsentOrEmpty dictionaryRows b k)
+        (if (isRowAbsentOrEmpty dictionaryRows b k) (putRow dictionaryRows b k (i .value)) b)
 
   data Effect (i : PrimitiveItem) : Type 0 where
     skipped : ((b : List ℕ) → storeItem answer b i ≡ storingState true b) → Effect i
@@ -56,9 +59,11 @@ module _ (answer : ℕ) where
                 tag = f .1;
                 short = l .1;
                 puts = λ b.
-                    elim (bool-cases (isRowAbsentOrEmpty dictionaryRows b k))
-                    [ inl t ↦ item-put answer b i (findRow dictionaryRows (i .tag)) refl k e s m t ∙ sym (ap₂ storingState t (if-yes _ _ t))
-                    | inr t ↦ item-again answer b i (findRow dictionaryRows (i .tag)) refl k e s m t ∙ sym (ap₂ storingState t (if-no _ _ t))
+                    elim (bool-cases (isRowAbsentOrEmpty dictionaryRows b k)) [
+                      | inl t ↦ item-put answer b i (findRow dictionaryRows (i .tag)) refl k e s m t ∙ sym
+                          (ap₂ storingState t (if-yes _ _ t))
+                      | inr t ↦ item-again answer b i (findRow dictionaryRows (i .tag)) refl k e s m t ∙ sym
+                          (ap₂ storingState t (if-no _ _ t))
                     ];
               })
           | inr m ↦ barred (λ b. item-barred answer b i (findRow dictionaryRows (i .tag)) refl k e s m)
@@ -80,7 +85,8 @@ module _ (answer : ℕ) where
     fit : Fits dictionaryRows b k (i .value)
     fit = fits-row b k (i .value) (t .size) (s .row) (s .short)
 
-    same : storingState (isRowAbsentOrEmpty dictionaryRows b k) (if (isRowAbsentOrEmpty dictionaryRows b k) (putRow dictionaryRows b k (i .value)) b) ≡ storingState true c
+    same : storingState (isRowAbsentOrEmpty dictionaryRows b k)
+        (if (isRowAbsentOrEmpty dictionaryRows b k) (putRow dictionaryRows b k (i .value)) b) ≡ storingState true c
     same = sym (s .puts b) ∙ t .is
 
     free : isRowAbsentOrEmpty dictionaryRows b k ≡ true
@@ -96,14 +102,17 @@ module _ (answer : ℕ) where
     other-free : (j : ℕ) → (j ≡ k → ⊥) → isRowAbsentOrEmpty dictionaryRows c j ≡ isRowAbsentOrEmpty dictionaryRows b j
     other-free j ne =
         ap (λ (x : List ℕ). isRowAbsentOrEmpty dictionaryRows x j) (sym written)
-        ∙ ap (λ (x : StoredValue). eqb (length (bytesOrEmptyIfAbsent x)) 0) (put-other dictionaryRows b k (i .value) fit j ne)
+        ∙ ap (λ (x : StoredValue). eqb (length (bytesOrEmptyIfAbsent x)) 0)
+        (put-other dictionaryRows b k (i .value) fit j ne)
 
   -- the object that is put where its row is free
-  puts-free : (b : List ℕ) {i : PrimitiveItem} {k : ℕ} (s : Stored i k) → isRowAbsentOrEmpty dictionaryRows b k ≡ true → storeItem answer b i ≡ storingState true (putRow dictionaryRows b k (i .value))
+  puts-free : (b : List ℕ) {i : PrimitiveItem} {k : ℕ} (s : Stored i k) → isRowAbsentOrEmpty dictionaryRows b k ≡ true
+      → storeItem answer b i ≡ storingState true (putRow dictionaryRows b k (i .value))
   puts-free b {i} {k} s e = s .puts b ∙ ap₂ storingState e (if-yes _ _ e)
 
   -- a refusal takes nothing
-  never : {b c : List ℕ} {i : PrimitiveItem} {A : Type 0} → ((x : List ℕ) → storeItem answer x i ≡ storingState false x) → Takes b i c → A
+  never : {b c : List ℕ} {i : PrimitiveItem} {A : Type 0} → ((x : List ℕ) → storeItem answer x i ≡ storingState false x)
+      → Takes b i c → A
   never {b} {c} h t =
       let e : storingState false b ≡ storingState true c = sym (h b) ∙ t .is in
       let f : false ≡ true = ap (λ (w : StoringState). w .good) e in
@@ -114,7 +123,8 @@ module _ (answer : ℕ) where
   takes-size {b} {c} {i} t = go (effect i)
     where
       go : Effect i → length c ≡ storeSize
-      go (skipped h) = let e : storingState true b ≡ storingState true c = sym (h b) ∙ t .is in ap (λ (w : StoringState). length (w .store)) (sym e) ∙ t .size
+      go (skipped h) = let e : storingState true b ≡ storingState true c = sym (h b) ∙ t .is in
+          ap (λ (w : StoringState). length (w .store)) (sym e) ∙ t .size
       go (barred h) = never h t
       go (stored k s) = sized s t
 
@@ -127,22 +137,36 @@ module _ (answer : ℕ) where
     first : Takes d i store
 
   -- an object that does nothing
-  nothing : {b c d : List ℕ} {i j : PrimitiveItem} → ((x : List ℕ) → storeItem answer x i ≡ storingState true x) → Takes b i c → Takes b j d → Meets c d i j
+  nothing : {b c d : List ℕ} {i j : PrimitiveItem} → ((x : List ℕ) → storeItem answer x i ≡ storingState true x)
+      → Takes b i c → Takes b j d → Meets c d i j
   nothing {b} {c} {d} {i} {j} h t u =
       let e : storingState true b ≡ storingState true c = sym (h b) ∙ t .is in
       let same-store : b ≡ c = ap (λ (w : StoringState). w .store) e in
-      record { store = d; second = subst (λ (x : List ℕ). Takes x j d) same-store u; first = record { size = takes-size u; is = h d } }
+      record {
+        store = d;
+        second = subst (λ (x : List ℕ). Takes x j d) same-store u;
+        first =
+            record { size = takes-size u; is = h d };
+      }
 
   turned : {c d : List ℕ} {i j : PrimitiveItem} → Meets c d i j → Meets d c j i
   turned m = record { store = m .store; second = m .first; first = m .second }
 
   -- two rows, which differ since the tags do
-  two-rows : {b c d : List ℕ} {i j : PrimitiveItem} {k l : ℕ} → (i .tag ≡ j .tag → ⊥) → Stored i k → Stored j l → Takes b i c → Takes b j d → Meets c d i j
+  two-rows : {b c d : List ℕ} {i j : PrimitiveItem} {k l : ℕ} → (i .tag ≡ j .tag → ⊥) → Stored i k → Stored j l
+      → Takes b i c → Takes b j d → Meets c d i j
   two-rows {b} {c} {d} {i} {j} {k} {l} ne s s′ t u =
       record {
         store = putRow dictionaryRows c l (j .value);
-        second = record { size = sized s t; is = puts-free c s′ (other-free s t l (λ e. apart-rows (sym e)) ∙ free s′ u) };
-        first = record { size = sized s′ u; is = puts-free d s (other-free s′ u k apart-rows ∙ free s t) ∙ ap (storingState true) meet };
+        second = record {
+          size = sized s t;
+          is = puts-free c s′ (other-free s t l (λ e. apart-rows (sym e)) ∙ free s′ u);
+        };
+        first = record {
+          size = sized s′ u;
+          is = puts-free d s (other-free s′ u k apart-rows ∙ free s t) ∙ ap
+              (storingState true) meet;
+        };
       }
     where
       apart-rows : k ≡ l → ⊥
@@ -179,7 +203,8 @@ module _ (answer : ℕ) where
   run-join (done l) r = r
   run-join (more t q) r = more t (run-join q r)
 
-  past-list : {b c d : List ℕ} {i : PrimitiveItem} {js : List PrimitiveItem} → All (λ j. i .tag ≡ j .tag → ⊥) js → Takes b i c → Run b js d
+  past-list : {b c d : List ℕ} {i : PrimitiveItem} {js : List PrimitiveItem} → All (λ j. i .tag ≡ j .tag → ⊥) js
+      → Takes b i c → Run b js d
       → (e : List ℕ) × Run c js e × Takes d i e
   past-list {c = c} a t (done l) = (c, done (takes-size t), t)
   past-list a t (more u r) =
@@ -187,7 +212,8 @@ module _ (answer : ℕ) where
       let p = past-list (a .1) (m .first) r in
       (p .0, more (m .second) (p .1), p .2)
 
-  pub past-lists : {b c d : List ℕ} {is js : List PrimitiveItem} → All (λ i. All (λ j. i .tag ≡ j .tag → ⊥) js) is → Run b is c → Run b js d
+  pub past-lists : {b c d : List ℕ} {is js : List PrimitiveItem} → All (λ i. All (λ j. i .tag ≡ j .tag → ⊥) js) is
+      → Run b is c → Run b js d
       → (e : List ℕ) × Run c js e × Run d is e
   past-lists {d = d} a (done l) r = (d, r, done (run-size r))
   past-lists a (more t q) r =
@@ -197,19 +223,25 @@ module _ (answer : ℕ) where
 
   -- ---- as the reading takes them
 
-  pub run-is : {b c : List ℕ} {is : List PrimitiveItem} → Run b is c → storeAllItems answer (storingState true b) is ≡ storingState true c
+  pub run-is : {b c : List ℕ} {is : List PrimitiveItem} → Run b is c → storeAllItems answer (storingState true b) is
+      ≡ storingState true c
   unfolding storeAllItems
   run-is (done l) = refl
-  run-is {b = b} (more {i = i} {is = is} t r) = ap (λ (w : StoringState). storeAllItems answer w is) (next-good answer b i refl ∙ t .is) ∙ run-is r
+  run-is {b = b} (more {i = i} {is = is} t r) = ap (λ (w : StoringState). storeAllItems answer w is)
+      (next-good answer b i refl ∙ t .is) ∙ run-is r
 
-  bad-stays : (b : List ℕ) (is : List PrimitiveItem) → storeAllItems answer (storingState false b) is ≡ storingState false b
+  bad-stays : (b : List ℕ) (is : List PrimitiveItem) → storeAllItems answer (storingState false b) is
+      ≡ storingState false b
   unfolding storeAllItems
   bad-stays b [] = refl
-  bad-stays b (i ∷ is) = ap (λ (w : StoringState). storeAllItems answer w is) (next-bad answer b i refl) ∙ bad-stays b is
+  bad-stays b (i ∷ is) = ap (λ (w : StoringState). storeAllItems answer w is) (next-bad answer b i refl) ∙ bad-stays b
+      is
 
   -- the first object of a list that is taken whole, and the ones after it
-  first-of : (b : List ℕ) (i : PrimitiveItem) (is : List PrimitiveItem) (c : List ℕ) → storeAllItems answer (storingState true b) (i ∷ is) ≡ storingState true c
-      → (d : List ℕ) × (storeItem answer b i ≡ storingState true d) × (storeAllItems answer (storingState true d) is ≡ storingState true c)
+  first-of : (b : List ℕ) (i : PrimitiveItem) (is : List PrimitiveItem) (c : List ℕ)
+      → storeAllItems answer (storingState true b) (i ∷ is) ≡ storingState true c
+      → (d : List ℕ) × (storeItem answer b i ≡ storingState true d)
+      × (storeAllItems answer (storingState true d) is ≡ storingState true c)
   unfolding storeAllItems
   first-of b i is c e = by (storeItem answer b i .good) (storeItem answer b i .store) refl
     where
@@ -217,7 +249,8 @@ module _ (answer : ℕ) where
       behind w p = ap (λ (x : StoringState). storeAllItems answer x is) (sym p ∙ sym (next-good answer b i refl)) ∙ e
 
       by : (g : Bool) (d : List ℕ) → storeItem answer b i ≡ storingState g d
-          → (d : List ℕ) × (storeItem answer b i ≡ storingState true d) × (storeAllItems answer (storingState true d) is ≡ storingState true c)
+          → (d : List ℕ) × (storeItem answer b i ≡ storingState true d)
+          × (storeAllItems answer (storingState true d) is ≡ storingState true c)
       by true d p = (d, p, behind (storingState true d) p)
       by false d p =
           let f : storingState false d ≡ storingState true c = sym (bad-stays d is) ∙ behind (storingState false d) p in
@@ -225,7 +258,8 @@ module _ (answer : ℕ) where
           let z : _≡_ {A = ℕ} 0 1 = cc in
           absurd (omega arith)
 
-  pub run-of : (b : List ℕ) (is : List PrimitiveItem) (c : List ℕ) → length b ≡ storeSize → storeAllItems answer (storingState true b) is ≡ storingState true c → Run b is c
+  pub run-of : (b : List ℕ) (is : List PrimitiveItem) (c : List ℕ) → length b ≡ storeSize
+      → storeAllItems answer (storingState true b) is ≡ storingState true c → Run b is c
   unfolding storeAllItems
   run-of b [] c l e = subst (Run b []) (ap (λ (w : StoringState). w .store) e) (done l)
   run-of b (i ∷ is) c l e =

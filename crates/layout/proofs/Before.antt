@@ -21,22 +21,24 @@ use Rattle.session_record.specs.declared.AwaitedResponse.{AwaitedResponse}
 use Rattle.session_record.specs.declared.Phase.{Phase}
 use Rattle.session_record.specs.Session.{endingOf}
 use Rattle.layout.specs.declared.PhaseFields.{PhaseFields}
-use Rattle.layout.specs.Layout.{layoutVersion, recordHeadSize, sessionRecordSize, phaseFields, phaseFieldsOfAwaited, phaseFieldsOf, bigEndianBytes, recordHeadBytes}
-use Rattle.layout.specs.Layout.{elementWithNumber, choiceOfP1, cvmOfNumber, outcomeOfNumber, awaitedOfPhaseFields, phaseOfPhaseFields}
+use Rattle.layout.specs.Layout.{layoutVersion, recordHeadSize, sessionRecordSize, phaseFields}
+use Rattle.layout.specs.Layout.{phaseFieldsOfAwaited, phaseFieldsOf, bigEndianBytes, recordHeadBytes}
+use Rattle.layout.specs.Layout.{elementWithNumber, choiceOfP1, cvmOfNumber, outcomeOfNumber, awaitedOfPhaseFields}
+use Rattle.layout.specs.Layout.{phaseOfPhaseFields}
 use Rattle.layout.specs.Layout.{phaseFieldsIn, phaseInHead, commandCountInHead, hasRecordLengthAndCanonicalHead}
 use Rattle.layout.proofs.Number.{eight-bytes}
 
 -- the transaction limit that a phase holds, 0 where it holds none
 awaitedLimit : AwaitedResponse → ℕ
-awaitedLimit AwaitedResponse.Gpo            = 0
-awaitedLimit (AwaitedResponse.Record p)     = p .limit
+awaitedLimit AwaitedResponse.Gpo = 0
+awaitedLimit (AwaitedResponse.Record p) = p .limit
 awaitedLimit (AwaitedResponse.Cryptogram a) = a .limit
-awaitedLimit (AwaitedResponse.Checksum c)   = c .limit
+awaitedLimit (AwaitedResponse.Checksum c) = c .limit
 
 phaseLimit : Phase → ℕ
-phaseLimit Phase.Fresh       = 0
+phaseLimit Phase.Fresh = 0
 phaseLimit (Phase.Waiting w) = awaitedLimit w
-phaseLimit (Phase.Ended e)   = 0
+phaseLimit (Phase.Ended e) = 0
 
 awaited-limit : (w : AwaitedResponse) → awaitedLimit w ≡ phaseFieldsOfAwaited w .limit
 unfolding awaitedLimit
@@ -58,7 +60,7 @@ phaseBy c =
     else if c .number =? 1 then Phase.Waiting AwaitedResponse.Gpo
     else if c .number =? 2 then Phase.Waiting (AwaitedResponse.Record (record { number = c .datum; limit = c .limit }))
     else if c .number =? 3 then Phase.Waiting (AwaitedResponse.Cryptogram
-        (record { choice = choiceOfP1 (c .datum); cvm = cvmOfNumber (c .cvm); limit = c .limit }))
+    (record { choice = choiceOfP1 (c .datum); cvm = cvmOfNumber (c .cvm); limit = c .limit }))
     else if c .number =? 5 then Phase.Waiting (AwaitedResponse.Checksum (record { limit = c .limit }))
     else Phase.Ended (endingOf (outcomeOfNumber (c .datum)) (c .reason))
 
@@ -75,21 +77,22 @@ phase-by (suc (suc (suc (suc (suc (suc n)))))) d r m l h = absurd (omega arith)
 -- a limit as eight bytes, high byte first: `eight-bytes` of proofs/Number
 
 -- the choice, the CVM and the outcome of a number, number by number
-choice-from : (n : ℕ) → choiceOfP1 n ≡ (if n =? 0x40 then Choice.Offline else if n =? 0x80 then Choice.Online else Choice.Decline)
+choice-from : (n : ℕ) → choiceOfP1 n ≡ (if n =? 0x40 then Choice.Offline else if n =? 0x80 then Choice.Online
+    else Choice.Decline)
 unfolding elementWithNumber
 choice-from n = refl
 
 cvm-from : (n : ℕ)
     → cvmOfNumber n
     ≡ (if n =? 0 then Cvm.NoCvm else if n =? 1 then Cvm.Signature else if n =? 2 then Cvm.OnlinePin
-       else if n =? 3 then Cvm.ConfirmationCode else Cvm.OfflinePin)
+    else if n =? 3 then Cvm.ConfirmationCode else Cvm.OfflinePin)
 unfolding elementWithNumber
 cvm-from n = refl
 
 outcome-from : (n : ℕ)
     → outcomeOfNumber n
     ≡ (if n =? 0 then Outcome.Approved else if n =? 1 then Outcome.OnlineRequest else if n =? 2 then Outcome.Declined
-       else if n =? 3 then Outcome.Ended else Outcome.SelectNext)
+    else if n =? 3 then Outcome.Ended else Outcome.SelectNext)
 unfolding elementWithNumber
 outcome-from n = refl
 
@@ -113,17 +116,17 @@ eqb-sym : (m n : ℕ) → eqb m n ≡ eqb n m
 eqb-sym m n = elim (bool-cases (eqb n m)) [
   | inl e ↦ eq-eqb m n (sym (eqb-true n m e)) ∙ sym e
   | inr e ↦ elim (bool-cases (eqb m n)) [
-      | inl f ↦ let g = eq-eqb n m (sym (eqb-true m n f)) in f ∙ sym g
-      | inr f ↦ f ∙ sym e
-    ]
+    | inl f ↦ let g = eq-eqb n m (sym (eqb-true m n f)) in f ∙ sym g
+    | inr f ↦ f ∙ sym e
+  ]
 ]
 
 -- the head compared byte by byte
 head-tests : (v n d r c m : ℕ) (t : List ℕ) (k : PhaseFields)
     → bytesEqual (recordHeadBytes k c) (v ∷ n ∷ d ∷ r ∷ c ∷ m ∷ take 8 t)
     ≡ (v =? layoutVersion
-       and ((k .number =? n) and (k .datum =? d) and (k .reason =? r) and (k .cvm =? m))
-       and bytesEqual (bigEndianBytes 8 (k .limit)) (take 8 t))
+    and ((k .number =? n) and (k .datum =? d) and (k .reason =? r) and (k .cvm =? m))
+    and bytesEqual (bigEndianBytes 8 (k .limit)) (take 8 t))
 unfolding bytesEqual
 head-tests v n d r c m t k =
     let e = bytesEqual (bigEndianBytes 8 (k .limit)) (take 8 t) in
@@ -140,15 +143,16 @@ holds-record l = elim (bool-cases (sessionRecordSize ≤? length l)) [
   | inr h ↦ both-no-left _ _ h ∙ sym (both-no-left _ _ h)
 ]
   where
-  long : (l : List ℕ) → sessionRecordSize ≤ length l
-      → bytesEqual (recordHeadBytes (phaseFieldsOf (phaseInHead l)) (commandCountInHead l)) (take recordHeadSize l)
-      ≡ (getD l 0 0 =? layoutVersion
-         and samePhaseCode (phaseFieldsOf (phaseInHead l)) (phaseFieldsIn l)
-         and bytesEqual (bigEndianBytes 8 (phaseFieldsOf (phaseInHead l) .limit)) (take 8 (drop 6 l)))
-  long [] h = absurd (omega arith)
-  long (v ∷ []) h = absurd (omega arith)
-  long (v ∷ n ∷ []) h = absurd (omega arith)
-  long (v ∷ n ∷ d ∷ []) h = absurd (omega arith)
-  long (v ∷ n ∷ d ∷ r ∷ []) h = absurd (omega arith)
-  long (v ∷ n ∷ d ∷ r ∷ c ∷ []) h = absurd (omega arith)
-  long (v ∷ n ∷ d ∷ r ∷ c ∷ m ∷ t) h = head-tests v n d r c m t (phaseFieldsOf (phaseInHead (v ∷ n ∷ d ∷ r ∷ c ∷ m ∷ t)))
+    long : (l : List ℕ) → sessionRecordSize ≤ length l
+        → bytesEqual (recordHeadBytes (phaseFieldsOf (phaseInHead l)) (commandCountInHead l)) (take recordHeadSize l)
+        ≡ (getD l 0 0 =? layoutVersion
+        and samePhaseCode (phaseFieldsOf (phaseInHead l)) (phaseFieldsIn l)
+        and bytesEqual (bigEndianBytes 8 (phaseFieldsOf (phaseInHead l) .limit)) (take 8 (drop 6 l)))
+    long [] h = absurd (omega arith)
+    long (v ∷ []) h = absurd (omega arith)
+    long (v ∷ n ∷ []) h = absurd (omega arith)
+    long (v ∷ n ∷ d ∷ []) h = absurd (omega arith)
+    long (v ∷ n ∷ d ∷ r ∷ []) h = absurd (omega arith)
+    long (v ∷ n ∷ d ∷ r ∷ c ∷ []) h = absurd (omega arith)
+    long (v ∷ n ∷ d ∷ r ∷ c ∷ m ∷ t) h = head-tests v n d r c m t
+        (phaseFieldsOf (phaseInHead (v ∷ n ∷ d ∷ r ∷ c ∷ m ∷ t)))

@@ -15,7 +15,8 @@ use Rattle.session_record.specs.declared.AwaitedResponse.{AwaitedResponse}
 use Rattle.session_record.specs.declared.Phase.{Phase}
 use Rattle.session_record.specs.declared.CallResult.{CallResult}
 use Rattle.session_record.specs.Session.{endingOf, outcomeParameters}
-use Rattle.layout.specs.Layout.{phaseFields, phaseFieldsOf, bigEndianBytes, recordHeadBytes, elementWithNumber, awaitedOfPhaseFields, phaseOfPhaseFields}
+use Rattle.layout.specs.Layout.{phaseFields, phaseFieldsOf, bigEndianBytes, recordHeadBytes, elementWithNumber}
+use Rattle.layout.specs.Layout.{awaitedOfPhaseFields, phaseOfPhaseFields}
 use Rattle.layout.specs.Word.{commandWord, resultWord}
 
 -- the head of a phase and a count
@@ -27,7 +28,7 @@ heads : headOf Phase.Fresh 0
     ∷ headOf (Phase.Waiting AwaitedResponse.Gpo) 1
     ∷ headOf (Phase.Waiting (AwaitedResponse.Record (record { number = 3; limit = 999999999999 }))) 4
     ∷ headOf (Phase.Waiting (AwaitedResponse.Cryptogram
-        (record { choice = Choice.Online; cvm = Cvm.ConfirmationCode; limit = 0xFEDCBA9876543210 }))) 5
+    (record { choice = Choice.Online; cvm = Cvm.ConfirmationCode; limit = 0xFEDCBA9876543210 }))) 5
     ∷ headOf (Phase.Waiting (AwaitedResponse.Checksum (record { limit = 100 }))) 3
     ∷ headOf (Phase.Ended (endingOf Outcome.SelectNext 6)) 5
     ∷ []
@@ -57,15 +58,19 @@ unfolding bytesEqual bigEndianBytes phaseOfPhaseFields awaitedOfPhaseFields elem
 codes = refl
 
 -- a limit of 1 is held while a record, the cryptogram or the checksum is awaited, and by no other phase
-limits : map (λ n. phaseFieldsOf (phaseOfPhaseFields (phaseFields n 0 0 0 1)) .limit) (0 ∷ 1 ∷ 2 ∷ 3 ∷ 4 ∷ 5 ∷ []) ≡ 0 ∷ 0 ∷ 1 ∷ 1 ∷ 0 ∷ 1 ∷ []
+limits : map (λ n. phaseFieldsOf (phaseOfPhaseFields (phaseFields n 0 0 0 1)) .limit) (0 ∷ 1 ∷ 2 ∷ 3 ∷ 4 ∷ 5 ∷ []) ≡ 0
+    ∷ 0 ∷ 1 ∷ 1 ∷ 0 ∷ 1 ∷ []
 unfolding phaseOfPhaseFields awaitedOfPhaseFields elementWithNumber if
 limits = refl
 
 -- a command's length, the longest that a word reports, one more; an approval with a signature, the last outcome before
 -- a choice of the CVM, and an end with an offline PIN; the refusals
 words : map resultWord
-    (CallResult.Command (record { size = 5 }) ∷ CallResult.Command (record { size = 65535 }) ∷ CallResult.Command (record { size = 65536 })
-    ∷ CallResult.Outcome (outcomeParameters (endingOf Outcome.Approved 0) 1) ∷ CallResult.Outcome (outcomeParameters (endingOf Outcome.SelectNext 6) cvmNumberNotApplicable) ∷ CallResult.Outcome (outcomeParameters (endingOf Outcome.Ended 9) 4)
+    (CallResult.Command (record { size = 5 }) ∷ CallResult.Command (record { size = 65535 }) ∷ CallResult.Command
+    (record { size = 65536 })
+    ∷ CallResult.Outcome (outcomeParameters (endingOf Outcome.Approved 0) 1) ∷ CallResult.Outcome
+    (outcomeParameters (endingOf Outcome.SelectNext 6) cvmNumberNotApplicable) ∷ CallResult.Outcome
+    (outcomeParameters (endingOf Outcome.Ended 9) 4)
     ∷ CallResult.Refused (record { number = 20 }) ∷ CallResult.Refused (record { number = 25 }) ∷ [])
     ≡ 5 ∷ 65535 ∷ 65535 ∷ 0x01010000 ∷ 0x0F010406 ∷ 0x04010309 ∷ 0x20014 ∷ 0x20019 ∷ []
 unfolding commandWord

@@ -16,7 +16,8 @@ use Rattle.basics.specs.Alike.{bytesEqual}
 use Rattle.basics.specs.Choice.{if}
 use Rattle.basics.specs.Types.{Bytes}
 use Rattle.basics.proofs.Alike.{alike-refl, alike-eq}
-use Rattle.basics.proofs.Laws.{if-yes, if-no, if-ind, both-yes, both-left, both-right, both-no-left, both-no-right, bool-cases, no}
+use Rattle.basics.proofs.Laws.{if-yes, if-no, if-ind, both-yes, both-left, both-right, both-no-left, both-no-right}
+use Rattle.basics.proofs.Laws.{bool-cases, no}
 use Rattle.dictionary.specs.Rows.{storeSize}
 use Rattle.analysis.specs.declared.choice.Choice.{Choice}
 use Rattle.analysis.specs.Choice.{generateAcP1}
@@ -32,11 +33,16 @@ use Rattle.session_record.specs.Session.{storeBytes, sessionOf, endingOf}
 use Rattle.layout.specs.declared.PhaseFields.{PhaseFields}
 use Rattle.layout.specs.declared.SessionRecordHead.{SessionRecordHead}
 use Rattle.layout.specs.declared.DecodedRecordHead.{DecodedRecordHead}
-use Rattle.layout.specs.Layout.{layoutVersion, recordHeadSize, sessionRecordSize, phaseFields, phaseFieldsOfAwaited, phaseFieldsOf, bigEndianBytes, recordHeadBytes, encodedSession}
-use Rattle.layout.specs.Layout.{elementWithNumber, choiceOfP1, cvmOfNumber, outcomeOfNumber, awaitedOfPhaseFields, phaseOfPhaseFields, phaseFieldsIn, phaseInHead, commandCountInHead}
-use Rattle.layout.specs.Layout.{sessionWrittenOverFrontIfRoom, hasRecordLengthAndCanonicalHead, decodedSession, decodedRecordHead, decodedStoreOrUnchanged}
+use Rattle.layout.specs.Layout.{layoutVersion, recordHeadSize, sessionRecordSize, phaseFields}
+use Rattle.layout.specs.Layout.{phaseFieldsOfAwaited, phaseFieldsOf, bigEndianBytes, recordHeadBytes}
+use Rattle.layout.specs.Layout.{encodedSession}
+use Rattle.layout.specs.Layout.{elementWithNumber, choiceOfP1, cvmOfNumber, outcomeOfNumber, awaitedOfPhaseFields}
+use Rattle.layout.specs.Layout.{phaseOfPhaseFields, phaseFieldsIn, phaseInHead, commandCountInHead}
+use Rattle.layout.specs.Layout.{sessionWrittenOverFrontIfRoom, hasRecordLengthAndCanonicalHead, decodedSession}
+use Rattle.layout.specs.Layout.{decodedRecordHead, decodedStoreOrUnchanged}
 use Rattle.layout.proofs.Number.{bytes-length, bytes-number}
-use Rattle.layout.specs.Word.{resultWordKind, wordKindCommand, wordKindOutcome, wordKindRefusal, commandWord, outcomeWord, refusalWord}
+use Rattle.layout.specs.Word.{resultWordKind, wordKindCommand, wordKindOutcome, wordKindRefusal, commandWord}
+use Rattle.layout.specs.Word.{outcomeWord, refusalWord}
 
 -- ---- codes
 
@@ -72,7 +78,8 @@ awaited-back (AwaitedResponse.Cryptogram a) =
     (choice-back (a .choice)) (cvm-back (a .cvm))
 awaited-back (AwaitedResponse.Checksum c) = refl
 
-waiting-back : (w : AwaitedResponse) → phaseOfPhaseFields (phaseFieldsOfAwaited w) ≡ Phase.Waiting (awaitedOfPhaseFields (phaseFieldsOfAwaited w))
+waiting-back : (w : AwaitedResponse) → phaseOfPhaseFields (phaseFieldsOfAwaited w)
+    ≡ Phase.Waiting (awaitedOfPhaseFields (phaseFieldsOfAwaited w))
 unfolding phaseOfPhaseFields if
 waiting-back AwaitedResponse.Gpo = refl
 waiting-back (AwaitedResponse.Record p) = refl
@@ -104,12 +111,14 @@ module _ (l : List ℕ) where
   unfolding decodedSession hasRecordLengthAndCanonicalHead
   decoded-head e = if-no _ _ (both-no-right _ _ e)
 
-  pub decoded-some : sessionRecordSize ≤ length l → bytesEqual (ownHead l) (take recordHeadSize l) ≡ true → decodedSession l ≡ some (sessionIn l)
+  pub decoded-some : sessionRecordSize ≤ length l → bytesEqual (ownHead l) (take recordHeadSize l) ≡ true
+      → decodedSession l ≡ some (sessionIn l)
   unfolding decodedSession hasRecordLengthAndCanonicalHead
   decoded-some h e = if-yes _ _ (both-yes _ _ (le-leb sessionRecordSize (length l) h) e)
 
 -- bytes of another version are no record
-other-version : (l : List ℕ) → eqb (getD l 0 0) layoutVersion ≡ false → bytesEqual (ownHead l) (take recordHeadSize l) ≡ false
+other-version : (l : List ℕ) → eqb (getD l 0 0) layoutVersion ≡ false → bytesEqual (ownHead l) (take recordHeadSize l)
+    ≡ false
 unfolding bytesEqual
 other-version [] e = refl
 other-version (v ∷ t) e =
@@ -129,13 +138,16 @@ unfolding bigEndianBytes
 code-back c n rest = ap (phaseFields (c .number) (c .datum) (c .reason) (c .cvm)) (bytes-number 7 (c .limit))
 
 -- a record at the front of any bytes is read back; a session's store always has its size
-pub decode-encode : (s : Session) (rest : List ℕ) → length (storeBytes s) ≡ storeSize → decodedSession (encodedSession s ++ rest) ≡ some s
+pub decode-encode : (s : Session) (rest : List ℕ) → length (storeBytes s) ≡ storeSize
+    → decodedSession (encodedSession s ++ rest) ≡ some s
 unfolding encodedSession bigEndianBytes
 decode-encode s rest z =
     let c = phaseFieldsOf (s .phase) in
-    let p : phaseInHead (encodedSession s ++ rest) ≡ s .phase = ap phaseOfPhaseFields (code-back c (s .count) (storeBytes s ++ rest)) ∙ phase-back (s .phase) in
+    let p : phaseInHead (encodedSession s ++ rest) ≡ s .phase = ap phaseOfPhaseFields
+    (code-back c (s .count) (storeBytes s ++ rest)) ∙ phase-back (s .phase) in
     decoded-some (encodedSession s ++ rest) (simp length-append (omega arith))
-    (ap (λ (x : Phase). bytesEqual (recordHeadBytes (phaseFieldsOf x) (s .count)) (recordHeadBytes c (s .count))) p ∙ alike-refl (recordHeadBytes c (s .count)))
+    (ap (λ (x : Phase). bytesEqual (recordHeadBytes (phaseFieldsOf x) (s .count)) (recordHeadBytes c (s .count))) p ∙
+    alike-refl (recordHeadBytes c (s .count)))
     ∙ (λ i. some (sessionOf (p i) (s .count) (take-at (storeBytes s) rest storeSize z i)))
 
 -- what the test of a record reports of bytes
@@ -145,13 +157,18 @@ record Known (l : List ℕ) : Type 0 where
 
 known : (l : List ℕ) → hasRecordLengthAndCanonicalHead l ≡ true → Known l
 unfolding hasRecordLengthAndCanonicalHead
-known l t = record { enough = leb-true sessionRecordSize (length l) (both-left _ _ t); head = alike-eq _ _ (both-right _ _ t) }
+known l t = record {
+  enough = leb-true sessionRecordSize (length l) (both-left _ _ t);
+  head =
+      alike-eq _ _ (both-right _ _ t);
+}
 
 encode-known : (l : List ℕ) → Known l → encodedSession (sessionIn l) ++ drop sessionRecordSize l ≡ l
 unfolding encodedSession
 encode-known l k =
     let b = take storeSize (drop recordHeadSize l) in
-    let g : b ++ drop sessionRecordSize l ≡ drop recordHeadSize l = ap (λ (x : List ℕ). b ++ x) (sym (drop-drop storeSize recordHeadSize l)) ∙ take-append-drop storeSize (drop recordHeadSize l) in
+    let g : b ++ drop sessionRecordSize l ≡ drop recordHeadSize l = ap (λ (x : List ℕ). b ++ x)
+    (sym (drop-drop storeSize recordHeadSize l)) ∙ take-append-drop storeSize (drop recordHeadSize l) in
     append-assoc (ownHead l) b (drop sessionRecordSize l)
     ∙ (ap (λ (x : List ℕ). ownHead l ++ x) g
     ∙ (ap (λ (x : List ℕ). x ++ drop recordHeadSize l) (k .head) ∙ take-append-drop recordHeadSize l))
@@ -163,7 +180,8 @@ held-none none e = refl
 held-none (some s) e = let z : _≡_ {A = ℕ} 0 1 = cc in absurd (omega arith)
 
 -- bytes that hold a record are enough, and hold the session of their head and store
-pub held-some : (l : List ℕ) (h : SessionRecordHead) → decodedRecordHead (decodedSession l) ≡ DecodedRecordHead.Record h → (sessionRecordSize ≤ length l) × (decodedSession l ≡ some (sessionIn l))
+pub held-some : (l : List ℕ) (h : SessionRecordHead) → decodedRecordHead (decodedSession l) ≡ DecodedRecordHead.Record h
+    → (sessionRecordSize ≤ length l) × (decodedSession l ≡ some (sessionIn l))
 unfolding decodedSession
 held-some l h e = elim (bool-cases (hasRecordLengthAndCanonicalHead l)) [
   | inl t ↦ (known l t .enough, if-yes _ _ t)
@@ -174,7 +192,8 @@ held-some l h e = elim (bool-cases (hasRecordLengthAndCanonicalHead l)) [
 ]
 
 -- the store of the session that bytes hold is theirs after the head
-pub held-store : (l : List ℕ) (s : Session) → decodedSession l ≡ some s → (sessionRecordSize ≤ length l) × (storeBytes s ≡ take storeSize (drop recordHeadSize l))
+pub held-store : (l : List ℕ) (s : Session) → decodedSession l ≡ some s → (sessionRecordSize ≤ length l)
+    × (storeBytes s ≡ take storeSize (drop recordHeadSize l))
 held-store l s e =
     let h = held-some l (record { phase = s .phase; count = s .count }) (ap decodedRecordHead e) in
     let f : some s ≡ some (sessionIn l) = sym e ∙ h .1 in
@@ -182,14 +201,17 @@ held-store l s e =
     (h .0, ap storeBytes g)
 
 -- the session that was read is the one of the head that is said and the store that is left
-pub was-record : (x : Option Session) (h : SessionRecordHead) (b c : List ℕ) → decodedRecordHead x ≡ DecodedRecordHead.Record h → c ≡ decodedStoreOrUnchanged x b → x ≡ some (sessionOf (h .phase) (h .count) c)
+pub was-record : (x : Option Session) (h : SessionRecordHead) (b c : List ℕ)
+    → decodedRecordHead x ≡ DecodedRecordHead.Record h → c ≡ decodedStoreOrUnchanged x b
+    → x ≡ some (sessionOf (h .phase) (h .count) c)
 was-record none h b c e f = let z : _≡_ {A = ℕ} 0 1 = cc in absurd (omega arith)
 was-record (some s) h b c e f =
     let g : record { phase = s .phase; count = s .count } ≡ h = cc in
     λ i. some (sessionOf (g i .phase) (g i .count) (sym f i))
 
 -- a session that was read is encoded as the bytes it was read from
-pub encode-decode : (l : List ℕ) (s : Session) → decodedSession l ≡ some s → encodedSession s ++ drop sessionRecordSize l ≡ l
+pub encode-decode : (l : List ℕ) (s : Session) → decodedSession l ≡ some s
+    → encodedSession s ++ drop sessionRecordSize l ≡ l
 unfolding decodedSession
 encode-decode l s e = elim (bool-cases (hasRecordLengthAndCanonicalHead l)) [
   | inl t ↦
@@ -208,11 +230,13 @@ unfolding sessionWrittenOverFrontIfRoom
 written-back l s e = if-ind (λ (x : List ℕ). x ≡ l) _ _ _ (λ t. encode-decode l s e) (λ t. refl)
 
 -- the caller's bytes keep their number, and those after the record stay
-pub written-length : (l : List ℕ) (s : Session) → length (storeBytes s) ≡ storeSize → length (sessionWrittenOverFrontIfRoom s l) ≡ length l
+pub written-length : (l : List ℕ) (s : Session) → length (storeBytes s) ≡ storeSize
+    → length (sessionWrittenOverFrontIfRoom s l) ≡ length l
 unfolding sessionWrittenOverFrontIfRoom encodedSession
 written-length l s z =
     if-ind (λ (x : List ℕ). length x ≡ length l) _ _ _
-    (λ t. let h = leb-true sessionRecordSize (length l) t in simp (length-append, length-drop, bytes-length) (omega arith)) (λ t. refl)
+    (λ t. let h = leb-true sessionRecordSize (length l) t in simp (length-append, length-drop, bytes-length)
+    (omega arith)) (λ t. refl)
 
 -- ---- words
 

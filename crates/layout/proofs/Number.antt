@@ -9,7 +9,8 @@ use lib.ListN.{length, length-append}
 use Rattle.basics.specs.Number.{appendBigEndianBytes, bigEndianNumber}
 use Rattle.layout.specs.Layout.{bigEndianBytes}
 
-number-append : (n : ℕ) (s t : List ℕ) → appendBigEndianBytes n (s ++ t) ≡ appendBigEndianBytes (appendBigEndianBytes n s) t
+number-append : (n : ℕ) (s t : List ℕ) → appendBigEndianBytes n (s ++ t) ≡ appendBigEndianBytes
+    (appendBigEndianBytes n s) t
 unfolding appendBigEndianBytes
 number-append n [] t = refl
 number-append n (a ∷ s) t = number-append (n * 256 + a) s t

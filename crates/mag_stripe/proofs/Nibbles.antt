@@ -53,7 +53,8 @@ low-nibble (b ∷ t) (suc (suc i)) e = rw (two-on i) (low-nibble t i (omega arit
 both-nibbles : (h l h′ l′ : ℕ) (s : List ℕ) → h ≡ h′ → l ≡ l′ → h ∷ l ∷ s ≡ h′ ∷ l′ ∷ s
 both-nibbles h l h′ l′ s e f = cc
 
-pub high-set : (t : List ℕ) (i x : ℕ) → i % 2 ≡ 0 → nibbles (set t (i / 2) (x * 16 + getD t (i / 2) 0 % 16)) ≡ set (nibbles t) i x
+pub high-set : (t : List ℕ) (i x : ℕ) → i % 2 ≡ 0 → nibbles (set t (i / 2) (x * 16 + getD t (i / 2) 0 % 16))
+    ≡ set (nibbles t) i x
 unfolding nibbles
 high-set [] i x e = refl
 high-set (b ∷ t) zero x e = both-nibbles _ _ _ _ (nibbles t) (omega arith) (omega arith)
@@ -61,7 +62,8 @@ high-set (b ∷ t) (suc zero) x e = absurd (omega arith)
 high-set (b ∷ t) (suc (suc i)) x e =
     rw (two-on i) (ap (λ (l : List ℕ). b / 16 ∷ b % 16 ∷ l) (high-set t i x (omega arith)))
 
-pub low-set : (t : List ℕ) (i x : ℕ) → i % 2 ≡ 1 → x < 16 → nibbles (set t (i / 2) (getD t (i / 2) 0 / 16 * 16 + x)) ≡ set (nibbles t) i x
+pub low-set : (t : List ℕ) (i x : ℕ) → i % 2 ≡ 1 → x < 16 → nibbles (set t (i / 2) (getD t (i / 2) 0 / 16 * 16 + x))
+    ≡ set (nibbles t) i x
 unfolding nibbles
 low-set [] i x e h = refl
 low-set (b ∷ t) zero x e h = absurd (omega arith)
@@ -76,7 +78,8 @@ module _ (x : ℕ) (s : List ℕ) (i : ℕ) where
   unfolding nibblesBefore
   before-here h e = rw (drop-cons s i 0) (if-yes _ _ (eq-eqb (getD s i 0) x e))
 
-  pub before-next : i < length s → (getD s i 0 ≡ x → ⊥) → i + nibblesBefore x (drop i s) ≡ i + 1 + nibblesBefore x (drop (i + 1) s)
+  pub before-next : i < length s → (getD s i 0 ≡ x → ⊥) → i + nibblesBefore x (drop i s) ≡ i + 1 + nibblesBefore x
+      (drop (i + 1) s)
   unfolding nibblesBefore
   before-next h e =
       rw (add-one i, drop-cons s i 0)

@@ -37,7 +37,8 @@ pub not-cons : (p q : ℕ) (ps : List ℕ) → p ≢ q → isPlaceAmong p ps ≡
 unfolding isPlaceAmong
 not-cons p q ps e h = either-no _ _ (ne-eqb p q e) h
 
-pub not-append : (p : ℕ) (ps qs : List ℕ) → isPlaceAmong p ps ≡ false → isPlaceAmong p qs ≡ false → isPlaceAmong p (ps ++ qs) ≡ false
+pub not-append : (p : ℕ) (ps qs : List ℕ) → isPlaceAmong p ps ≡ false → isPlaceAmong p qs ≡ false
+    → isPlaceAmong p (ps ++ qs) ≡ false
 not-append p [] qs h k = k
 not-append p (q ∷ ps) qs h k = not-cons p q (ps ++ qs) (not-head p q ps h) (not-append p ps qs (not-tail p q ps h) k)
 
@@ -57,7 +58,8 @@ not-left p (suc n) (q ∷ ps) h = not-left p n ps (not-tail p q ps h)
 abbrev pub indices : ℕ → List PlacedDigit → List ℕ
 indices end ds = map (λ (d : PlacedDigit). end - d .place) ds
 
-pub written-other : (end : ℕ) (ds : List PlacedDigit) (s : List ℕ) (i : ℕ) → isPlaceAmong i (indices end ds) ≡ false → getD (placedDigitsWrittenBeforeEnd end ds s) i 0 ≡ getD s i 0
+pub written-other : (end : ℕ) (ds : List PlacedDigit) (s : List ℕ) (i : ℕ) → isPlaceAmong i (indices end ds) ≡ false
+    → getD (placedDigitsWrittenBeforeEnd end ds s) i 0 ≡ getD s i 0
 unfolding placedDigitsWrittenBeforeEnd
 written-other end [] s i h = refl
 written-other end (d ∷ ds) s i h =
@@ -67,40 +69,47 @@ written-other end (d ∷ ds) s i h =
 -- a nibble of a list in which one was written: that one, or as it was
 set-cases : (s : List ℕ) (j x i : ℕ) → (getD (set s j x) i 0 ≡ x) ⊎ (getD (set s j x) i 0 ≡ getD s i 0)
 set-cases s j x i =
-    elim (equal-or-not i j)
-    [ inl e ↦
-        elim (le-or-gt (length s) j)
-        [ inl out ↦ inr (ap (λ (l : List ℕ). getD l i 0) (set-out s j x out))
-        | inr in′ ↦ inl (rw e (getD-set-same s j x 0 in′))
-        ]
-    | inr ne ↦ inr (getD-set-other s j i x 0 ne)
+    elim (equal-or-not i j) [
+      | inl e ↦
+          elim (le-or-gt (length s) j) [
+            | inl out ↦ inr (ap (λ (l : List ℕ). getD l i 0) (set-out s j x out))
+            | inr in′ ↦ inl (rw e (getD-set-same s j x 0 in′))
+          ]
+      | inr ne ↦ inr (getD-set-other s j i x 0 ne)
     ]
 
 -- two lists that differ only where digits go come to the same
-set-agree : (s u : List ℕ) (j x i : ℕ) → length s ≡ length u → (i ≢ j → getD s i 0 ≡ getD u i 0) → getD (set s j x) i 0 ≡ getD (set u j x) i 0
+set-agree : (s u : List ℕ) (j x i : ℕ) → length s ≡ length u → (i ≢ j → getD s i 0 ≡ getD u i 0)
+    → getD (set s j x) i 0 ≡ getD (set u j x) i 0
 set-agree s u j x i n h =
-    elim (equal-or-not i j)
-    [ inl e ↦
-        elim (le-or-gt (length s) j)
-        [ inl out ↦
-            ap (λ (l : List ℕ). getD l i 0) (set-out s j x out) ∙ List·getD-eq-default s 0 (omega arith)
-            ∙ sym (ap (λ (l : List ℕ). getD l i 0) (set-out u j x (omega arith)) ∙ List·getD-eq-default u 0 (omega arith))
-        | inr in′ ↦ rw e (getD-set-same s j x 0 in′ ∙ sym (getD-set-same u j x 0 (omega arith)))
-        ]
-    | inr ne ↦ getD-set-other s j i x 0 ne ∙ h ne ∙ sym (getD-set-other u j i x 0 ne)
+    elim (equal-or-not i j) [
+      | inl e ↦
+          elim (le-or-gt (length s) j) [
+            | inl out ↦
+                ap (λ (l : List ℕ). getD l i 0) (set-out s j x out) ∙ List·getD-eq-default s 0 (omega arith)
+                ∙ sym (ap (λ (l : List ℕ). getD l i 0) (set-out u j x (omega arith)) ∙ List·getD-eq-default u 0
+                (omega arith))
+            | inr in′ ↦ rw e (getD-set-same s j x 0 in′ ∙ sym (getD-set-same u j x 0 (omega arith)))
+          ]
+      | inr ne ↦ getD-set-other s j i x 0 ne ∙ h ne ∙ sym (getD-set-other u j i x 0 ne)
     ]
 
 written-agree : (end : ℕ) (ds : List PlacedDigit) (s u : List ℕ) → length s ≡ length u
-    → ((i : ℕ) → isPlaceAmong i (indices end ds) ≡ false → getD s i 0 ≡ getD u i 0) → placedDigitsWrittenBeforeEnd end ds s ≡ placedDigitsWrittenBeforeEnd end ds u
+    → ((i : ℕ) → isPlaceAmong i (indices end ds) ≡ false → getD s i 0 ≡ getD u i 0)
+    → placedDigitsWrittenBeforeEnd end ds s ≡ placedDigitsWrittenBeforeEnd end ds u
 unfolding placedDigitsWrittenBeforeEnd isPlaceAmong
 written-agree end [] s u n h = ext-getD 0 s u n (λ i _. h i refl)
 written-agree end (d ∷ ds) s u n h =
     let j = end - d .place in
-    written-agree end ds (set s j (d .digit)) (set u j (d .digit)) (length-set s j (d .digit) ∙ n ∙ sym (length-set u j (d .digit)))
+    written-agree end ds (set s j (d .digit)) (set u j (d .digit))
+    (length-set s j (d .digit) ∙ n ∙ sym (length-set u j (d .digit)))
     (λ i k. set-agree s u j (d .digit) i n (λ ne. h i (not-cons i j (indices end ds) ne k)))
 
-pub written-twice : (end : ℕ) (ds : List PlacedDigit) (s : List ℕ) → placedDigitsWrittenBeforeEnd end ds (placedDigitsWrittenBeforeEnd end ds s) ≡ placedDigitsWrittenBeforeEnd end ds s
-written-twice end ds s = written-agree end ds (placedDigitsWrittenBeforeEnd end ds s) s (written-length end ds s) (written-other end ds s)
+pub written-twice : (end : ℕ) (ds : List PlacedDigit) (s : List ℕ)
+    → placedDigitsWrittenBeforeEnd end ds (placedDigitsWrittenBeforeEnd end ds s) ≡ placedDigitsWrittenBeforeEnd end ds
+    s
+written-twice end ds s = written-agree end ds (placedDigitsWrittenBeforeEnd end ds s) s (written-length end ds s)
+    (written-other end ds s)
 
 -- ---- digits that are not x
 
@@ -112,7 +121,8 @@ pub without-append : (x : ℕ) (ds es : List PlacedDigit) → Without x ds → W
 without-append x [] es h k = k
 without-append x (d ∷ ds) es h k = (h .0, without-append x ds es (h .1) k)
 
-pub written-without : (end x : ℕ) (ds : List PlacedDigit) (s : List ℕ) (i : ℕ) → Without x ds → getD s i 0 ≢ x → getD (placedDigitsWrittenBeforeEnd end ds s) i 0 ≢ x
+pub written-without : (end x : ℕ) (ds : List PlacedDigit) (s : List ℕ) (i : ℕ) → Without x ds → getD s i 0 ≢ x
+    → getD (placedDigitsWrittenBeforeEnd end ds s) i 0 ≢ x
 unfolding placedDigitsWrittenBeforeEnd
 written-without end x [] s i w h = h
 written-without end x (d ∷ ds) s i w h =

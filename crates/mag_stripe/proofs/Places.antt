@@ -39,9 +39,9 @@ unfolding bitmapPlacesCountedFrom ones
 length-from zero p n h = let e : n ≡ 0 = omega arith in rw e
 length-from (suc k) p n h =
     let ih = length-from k (p + 1) (n / 2) (halved k n h) in
-    elim (bit-cases n)
-    [ inl e ↦ ap length (places-odd k p n e) ∙ omega (arith, ones-step n)
-    | inr e ↦ ap length (places-even k p n e) ∙ omega (arith, ones-step n)
+    elim (bit-cases n) [
+      | inl e ↦ ap length (places-odd k p n e) ∙ omega (arith, ones-step n)
+      | inr e ↦ ap length (places-even k p n e) ∙ omega (arith, ones-step n)
     ]
 
 pub bits-counted : (n : ℕ) → n < 2 ^ 16 → (ones n ≡ setBitCount n) × (ones n ≤ 16)
@@ -63,31 +63,34 @@ module _ (k n : ℕ) where
 lowest-bit : (k n : ℕ) → 0 < n → n < 2 ^ k → (trailingZeros k n < k) × (2 ^ trailingZeros k n ≤ n)
 lowest-bit zero n p h = absurd (omega arith)
 lowest-bit (suc k) n p h =
-    elim (bit-cases n)
-    [ inl e ↦ rw (zeros-odd k n e) (omega arith, omega arith)
-    | inr e ↦
-        let ih = lowest-bit k (n / 2) (omega arith) (halved k n h) in
-        let w = two-pow-succ (trailingZeros k (n / 2)) in
-        rw (zeros-even k n e) (omega arith, omega arith)
+    elim (bit-cases n) [
+      | inl e ↦ rw (zeros-odd k n e) (omega arith, omega arith)
+      | inr e ↦
+          let ih = lowest-bit k (n / 2) (omega arith) (halved k n h) in
+          let w = two-pow-succ (trailingZeros k (n / 2)) in
+          rw (zeros-even k n e) (omega arith, omega arith)
     ]
 
-lowest-from : (k p n : ℕ) → 0 < n → n < 2 ^ k → bitmapPlacesCountedFrom k p n ≡ (trailingZeros k n + p) ∷ bitmapPlacesCountedFrom k p (n - 2 ^ trailingZeros k n)
+lowest-from : (k p n : ℕ) → 0 < n → n < 2 ^ k → bitmapPlacesCountedFrom k p n ≡ (trailingZeros k n + p)
+    ∷ bitmapPlacesCountedFrom k p (n - 2 ^ trailingZeros k n)
 lowest-from zero p n q h = absurd (omega arith)
 lowest-from (suc k) p n q h =
-    elim (bit-cases n)
-    [ inl e ↦
-        let d : (n - 1) / 2 ≡ n / 2 = omega arith in
-        let f : p ≡ 0 + p = omega arith in
-        rw (zeros-odd k n e)
-        (places-odd k p n e ∙ ap₂ (λ (x : ℕ) (l : List ℕ). x ∷ l) f (sym (places-even k p (n - 1) (omega arith) ∙ ap (bitmapPlacesCountedFrom k (p + 1)) d)))
-    | inr e ↦
-        let z = trailingZeros k (n / 2) in
-        let w = two-pow-succ z in
-        let d : (n - 2 ^ suc z) / 2 ≡ n / 2 - 2 ^ z = omega arith in
-        let f : z + (p + 1) ≡ suc z + p = omega arith in
-        rw (zeros-even k n e)
-        (places-even k p n e ∙ lowest-from k (p + 1) (n / 2) (omega arith) (halved k n h)
-        ∙ ap₂ (λ (x : ℕ) (l : List ℕ). x ∷ l) f (sym (places-even k p (n - 2 ^ suc z) (omega arith) ∙ ap (bitmapPlacesCountedFrom k (p + 1)) d)))
+    elim (bit-cases n) [
+      | inl e ↦
+          let d : (n - 1) / 2 ≡ n / 2 = omega arith in
+          let f : p ≡ 0 + p = omega arith in
+          rw (zeros-odd k n e)
+          (places-odd k p n e ∙ ap₂ (λ (x : ℕ) (l : List ℕ). x ∷ l) f
+          (sym (places-even k p (n - 1) (omega arith) ∙ ap (bitmapPlacesCountedFrom k (p + 1)) d)))
+      | inr e ↦
+          let z = trailingZeros k (n / 2) in
+          let w = two-pow-succ z in
+          let d : (n - 2 ^ suc z) / 2 ≡ n / 2 - 2 ^ z = omega arith in
+          let f : z + (p + 1) ≡ suc z + p = omega arith in
+          rw (zeros-even k n e)
+          (places-even k p n e ∙ lowest-from k (p + 1) (n / 2) (omega arith) (halved k n h)
+          ∙ ap₂ (λ (x : ℕ) (l : List ℕ). x ∷ l) f
+          (sym (places-even k p (n - 2 ^ suc z) (omega arith) ∙ ap (bitmapPlacesCountedFrom k (p + 1)) d)))
     ]
 
 -- ---- places past so many digits
@@ -104,9 +107,9 @@ low-within m (suc k) p n zero h b =
     let e : n ≡ 0 = omega arith in rw (e, places-zero (suc k) p)
 low-within m (suc k) p n (suc j) h b =
     let ih = low-within m k (p + 1) (n / 2) j (halved j n h) (omega arith) in
-    elim (bit-cases n)
-    [ inl e ↦ rw (places-odd k p n e) (both-yes _ _ (le-leb p m (omega arith)) ih)
-    | inr e ↦ rw (places-even k p n e) ih
+    elim (bit-cases n) [
+      | inl e ↦ rw (places-odd k p n e) (both-yes _ _ (le-leb p m (omega arith)) ih)
+      | inr e ↦ rw (places-even k p n e) ih
     ]
 
 grown : {n a b : ℕ} (j : ℕ) → a ≡ j → b ≡ suc j → n / 2 < 2 ^ a → n < 2 ^ b
@@ -115,25 +118,26 @@ grown {n} {a} {b} j e f h =
     let i : n / 2 < 2 ^ j = rw e at h in
     rw f (omega arith)
 
-within-low : (m k p n : ℕ) → n < 2 ^ k → every (λ q. leb q m) (bitmapPlacesCountedFrom k p n) ≡ true → n < 2 ^ (m + 1 - p)
+within-low : (m k p n : ℕ) → n < 2 ^ k → every (λ q. leb q m) (bitmapPlacesCountedFrom k p n) ≡ true
+    → n < 2 ^ (m + 1 - p)
 unfolding every bitmapPlacesCountedFrom
 within-low m zero p n h t = let w = pow-pos (m + 1 - p) in omega arith
 within-low m (suc k) p n h t =
-    elim (bit-cases n)
-    [ inl e ↦
-        let here : p ≤ m = leb-true p m (both-left _ _ (rw (places-odd k p n e) at t)) in
-        let ih = within-low m k (p + 1) (n / 2) (halved k n h) (both-right _ _ (rw (places-odd k p n e) at t)) in
-        grown (m - p) (omega arith) (omega arith) ih
-    | inr e ↦
-        let ih = within-low m k (p + 1) (n / 2) (halved k n h) (rw (places-even k p n e) at t) in
-        elim (le-or-gt p m)
-        [ inl here ↦ grown (m - p) (omega arith) (omega arith) ih
-        | inr past ↦
-            let z : m + 1 - (p + 1) ≡ 0 = omega arith in
-            let z′ : m + 1 - p ≡ 0 = omega arith in
-            let i : n / 2 < 2 ^ 0 = rw z at ih in
-            rw z′ (omega arith)
-        ]
+    elim (bit-cases n) [
+      | inl e ↦
+          let here : p ≤ m = leb-true p m (both-left _ _ (rw (places-odd k p n e) at t)) in
+          let ih = within-low m k (p + 1) (n / 2) (halved k n h) (both-right _ _ (rw (places-odd k p n e) at t)) in
+          grown (m - p) (omega arith) (omega arith) ih
+      | inr e ↦
+          let ih = within-low m k (p + 1) (n / 2) (halved k n h) (rw (places-even k p n e) at t) in
+          elim (le-or-gt p m) [
+            | inl here ↦ grown (m - p) (omega arith) (omega arith) ih
+            | inr past ↦
+                let z : m + 1 - (p + 1) ≡ 0 = omega arith in
+                let z′ : m + 1 - p ≡ 0 = omega arith in
+                let i : n / 2 < 2 ^ 0 = rw z at ih in
+                rw z′ (omega arith)
+          ]
     ]
 
 -- no place past so many digits, by the highest bit that is set
@@ -144,26 +148,30 @@ within-by-highest n m h =
     let j = top .0 in
     let high : 16 - leadingZeros 16 n ≡ j = omega (arith, top .1) in
     rw high
-    (elim (le-or-gt j m)
-    [ inl fits ↦ le-leb j m fits ∙ sym (low-within m 16 1 n j (top .2) (omega arith))
-    | inr past ↦
-        lt-leb j m past
-        ∙ elim (bool-cases (every (λ q. leb q m) (bitmapPlacesCountedFrom 16 1 n)))
-        [ inl t ↦
-            let e : m + 1 - 1 ≡ m = omega arith in
-            let low : n < 2 ^ m = rw e at (within-low m 16 1 n h t) in
-            let w = two-pow-succ m in
-            let up : 2 ^ suc m ≤ 2 ^ j = pow-mono past in
-            absurd (omega (arith, top .3))
-        | inr f ↦ sym f
-        ]
+    (elim (le-or-gt j m) [
+      | inl fits ↦ le-leb j m fits ∙ sym (low-within m 16 1 n j (top .2) (omega arith))
+      | inr past ↦
+          lt-leb j m past
+          ∙ elim (bool-cases (every (λ q. leb q m) (bitmapPlacesCountedFrom 16 1 n))) [
+            | inl t ↦
+                let e : m + 1 - 1 ≡ m = omega arith in
+                let low : n < 2 ^ m = rw e at (within-low m 16 1 n h t) in
+                let w = two-pow-succ m in
+                let up : 2 ^ suc m ≤ 2 ^ j = pow-mono past in
+                absurd (omega (arith, top .3))
+            | inr f ↦ sym f
+          ]
     ])
 
 -- the lowest place of a bitmap that sets one, and the bitmap without it
 module _ (n : ℕ) (h : n < 2 ^ 16) (some : 1 ≤ setBitCount n) where
   not-zero : 0 < n
   unfolding bitmapPlacesFromOne
-  not-zero = elim (le-or-gt 1 n) [ inl p ↦ p | inr z ↦ let e : n ≡ 0 = omega arith in absurd (omega (arith, rw (e, places-zero 16 1) at some)) ]
+  not-zero = elim (le-or-gt 1 n) [
+    | inl p ↦ p
+    | inr z ↦ let e : n ≡ 0 = omega arith in
+        absurd (omega (arith, rw (e, places-zero 16 1) at some))
+  ]
 
   pub zeros-small : (trailingZeros 16 n < 16) × (2 ^ trailingZeros 16 n ≤ n)
   zeros-small = lowest-bit 16 n not-zero h

@@ -13,17 +13,21 @@ use Rattle.basics.specs.Choice.{both}
 use Rattle.basics.proofs.Laws.{if-ind, both-no-left, both-no-right, both-true, both-left, both-right}
 use Rattle.mag_stripe.specs.declared.Bitmaps.{Bitmaps}
 use Rattle.mag_stripe.specs.declared.DiscretionaryData.{DiscretionaryData}
-use Rattle.mag_stripe.specs.Track.{trackSeparator, trackPadding, nibblesBefore, discretionaryDataInNibbles, discretionaryDataOf}
-use Rattle.mag_stripe.specs.Bitmap.{bitmapPlacesFromOne, setBitCount, unDigitCount, bitmapWithin, trackCanTakeDigits}
+use Rattle.mag_stripe.specs.Track.{trackSeparator, trackPadding, nibblesBefore, discretionaryDataInNibbles}
+use Rattle.mag_stripe.specs.Track.{discretionaryDataOf}
+use Rattle.mag_stripe.specs.Bitmap.{bitmapPlacesFromOne, setBitCount, unDigitCount, bitmapWithin}
+use Rattle.mag_stripe.specs.Bitmap.{trackCanTakeDigits}
 use Rattle.mag_stripe.proofs.Writing.{upTo, upTo-more}
 
 pub before-le : (x : ℕ) (s : List ℕ) → nibblesBefore x s ≤ length s
 unfolding nibblesBefore
 before-le x [] = omega arith
-before-le x (n ∷ s) = if-ind (λ (k : ℕ). k ≤ suc (length s)) (eqb n x) 0 (suc (nibblesBefore x s)) (λ e. omega arith) (λ e. omega (arith, before-le x s))
+before-le x (n ∷ s) = if-ind (λ (k : ℕ). k ≤ suc (length s)) (eqb n x) 0 (suc (nibblesBefore x s)) (λ e. omega arith)
+    (λ e. omega (arith, before-le x s))
 
 -- by the place r of the first D and the end e of the data after it
-pub data-by : (s : List ℕ) (r e : ℕ) → r ≡ 0 + nibblesBefore trackSeparator (drop 0 s) → e ≡ r + 1 + nibblesBefore trackPadding (drop (r + 1) s)
+pub data-by : (s : List ℕ) (r e : ℕ) → r ≡ 0 + nibblesBefore trackSeparator (drop 0 s)
+    → e ≡ r + 1 + nibblesBefore trackPadding (drop (r + 1) s)
     → record { end = e; count = e - (r + 1) - 7 } ≡ discretionaryDataInNibbles s
 unfolding discretionaryDataInNibbles
 data-by s r e p q =
@@ -31,7 +35,8 @@ data-by s r e p q =
     let n : e - (r + 1) - 7 ≡ nibblesBefore trackPadding (drop (r + 1) s) - 7 = omega arith in
     rw (n, q, d)
 
-pub data-none : (s : List ℕ) (r e : ℕ) → r ≡ 0 + nibblesBefore trackSeparator (drop 0 s) → e ≡ r + 1 + nibblesBefore trackPadding (drop (r + 1) s)
+pub data-none : (s : List ℕ) (r e : ℕ) → r ≡ 0 + nibblesBefore trackSeparator (drop 0 s)
+    → e ≡ r + 1 + nibblesBefore trackPadding (drop (r + 1) s)
     → e - (r + 1) < 7 → record { end = e; count = 0 } ≡ discretionaryDataInNibbles s
 data-none s r e p q h =
     let z : e - (r + 1) - 7 ≡ 0 = omega arith in
@@ -41,7 +46,12 @@ data-none s r e p q h =
 pub end-inside : (s : List ℕ) → 1 ≤ discretionaryDataInNibbles s .count → discretionaryDataInNibbles s .end ≤ length s
 unfolding discretionaryDataInNibbles
 end-inside s h =
-    omega (arith, before-le trackPadding (drop (nibblesBefore trackSeparator s + 1) s), length-drop (nibblesBefore trackSeparator s + 1) s)
+    omega (
+      arith,
+      before-le trackPadding (drop (nibblesBefore trackSeparator s + 1) s),
+      length-drop
+          (nibblesBefore trackSeparator s + 1) s,
+    )
 
 -- ---- the test of a track, by what it finds
 
@@ -65,10 +75,14 @@ module _ (t : List ℕ) (b : Bitmaps) (d : DiscretionaryData) (e : d ≡ discret
   code-past h = sym (both-no-right (leb 1 (d .count)) _ (both-no-left _ _ h)) ∙ by-count
 
   pub number-past : bitmapWithin (d .count) (b .punatc) ≡ false → false ≡ trackCanTakeDigits t b
-  number-past h = sym (both-no-right (leb 1 (d .count)) _ (both-no-right (bitmapWithin (d .count) (b .pcvc3)) _ (both-no-left _ _ h))) ∙ by-count
+  number-past h =
+      sym
+      (both-no-right (leb 1 (d .count)) _ (both-no-right (bitmapWithin (d .count) (b .pcvc3)) _ (both-no-left _ _ h))) ∙
+      by-count
 
   -- all but the last two tests
-  module _ (some : d .count ≡ 0 → ⊥) (code : bitmapWithin (d .count) (b .pcvc3) ≡ true) (number : bitmapWithin (d .count) (b .punatc) ≡ true) where
+  module _ (some : d .count ≡ 0 → ⊥) (code : bitmapWithin (d .count) (b .pcvc3) ≡ true)
+      (number : bitmapWithin (d .count) (b .punatc) ≡ true) where
     by-counts : both (leb (b .natc) (setBitCount (b .punatc))) (leb (unDigitCount b) 8) ≡ trackCanTakeDigits t b
     by-counts = sym (both-true _ (le-leb 1 (d .count) (omega arith)) ∙ both-true _ code ∙ both-true _ number) ∙ by-count
 
@@ -101,7 +115,8 @@ sound-gives t b h =
     }
 
 -- as many digits as are before the end, but for eight nibbles
-pub digits-end : (s : List ℕ) → 1 ≤ discretionaryDataInNibbles s .count → discretionaryDataInNibbles s .end ≡ nibblesBefore trackSeparator s + 8 + discretionaryDataInNibbles s .count
+pub digits-end : (s : List ℕ) → 1 ≤ discretionaryDataInNibbles s .count → discretionaryDataInNibbles s .end
+    ≡ nibblesBefore trackSeparator s + 8 + discretionaryDataInNibbles s .count
 unfolding discretionaryDataInNibbles
 digits-end s h = omega arith
 
@@ -112,7 +127,8 @@ pub record Room (end : ℕ) (t : List ℕ) (b : Bitmaps) : Type 0 where
   pub code : upTo end (bitmapPlacesFromOne (b .pcvc3)) ≡ true
   pub number : upTo end (bitmapPlacesFromOne (b .punatc)) ≡ true
 
-pub room : (t : List ℕ) (b : Bitmaps) (d : DiscretionaryData) → d ≡ discretionaryDataOf t → Sound t b → Room (d .end) t b
+pub room : (t : List ℕ) (b : Bitmaps) (d : DiscretionaryData) → d ≡ discretionaryDataOf t → Sound t b
+    → Room (d .end) t b
 unfolding bitmapWithin
 room t b d e s =
     let f = digits-end (nibbles t) (s .some) in

@@ -14,14 +14,18 @@ use Rattle.basics.proofs.Laws.{both-yes, both-left, both-right}
 use Rattle.mag_stripe.specs.declared.Bitmaps.{Bitmaps}
 use Rattle.mag_stripe.specs.declared.DigitValues.{DigitValues}
 use Rattle.mag_stripe.specs.Bitmap.{bitmapPlacesFromOne, setBitCount, unDigitCount}
-use Rattle.mag_stripe.specs.Digits.{PlacedDigit, placedDigit, lowestDigitsAtPlaces, cvc3Digits, unDigits, atcDigits, trackDigits, placedDigitsWrittenBeforeEnd}
+use Rattle.mag_stripe.specs.Digits.{PlacedDigit, placedDigit, lowestDigitsAtPlaces, cvc3Digits, unDigits}
+use Rattle.mag_stripe.specs.Digits.{atcDigits, trackDigits, placedDigitsWrittenBeforeEnd}
 
-pub written-length : (end : ℕ) (ds : List PlacedDigit) (s : List ℕ) → length (placedDigitsWrittenBeforeEnd end ds s) ≡ length s
+pub written-length : (end : ℕ) (ds : List PlacedDigit) (s : List ℕ) → length (placedDigitsWrittenBeforeEnd end ds s)
+    ≡ length s
 unfolding placedDigitsWrittenBeforeEnd
 written-length end [] s = refl
-written-length end (d ∷ ds) s = written-length end ds (set s (end - d .place) (d .digit)) ∙ length-set s (end - d .place) (d .digit)
+written-length end (d ∷ ds) s = written-length end ds (set s (end - d .place) (d .digit)) ∙ length-set s
+    (end - d .place) (d .digit)
 
-pub written-append : (end : ℕ) (ds es : List PlacedDigit) (s : List ℕ) → placedDigitsWrittenBeforeEnd end (ds ++ es) s ≡ placedDigitsWrittenBeforeEnd end es (placedDigitsWrittenBeforeEnd end ds s)
+pub written-append : (end : ℕ) (ds es : List PlacedDigit) (s : List ℕ) → placedDigitsWrittenBeforeEnd end (ds ++ es) s
+    ≡ placedDigitsWrittenBeforeEnd end es (placedDigitsWrittenBeforeEnd end ds s)
 unfolding placedDigitsWrittenBeforeEnd
 written-append end [] es s = refl
 written-append end (d ∷ ds) es s = written-append end ds es (set s (end - d .place) (d .digit))
@@ -56,7 +60,8 @@ upTo-tail m p ps h = both-right _ _ h
 pub upTo-more : (m n : ℕ) (ps : List ℕ) → m ≤ n → upTo m ps ≡ true → upTo n ps ≡ true
 unfolding every
 upTo-more m n [] b h = refl
-upTo-more m n (p ∷ ps) b h = both-yes _ _ (le-leb p n (omega (arith, upTo-head m p ps h))) (upTo-more m n ps b (upTo-tail m p ps h))
+upTo-more m n (p ∷ ps) b h = both-yes _ _ (le-leb p n (omega (arith, upTo-head m p ps h)))
+    (upTo-more m n ps b (upTo-tail m p ps h))
 
 pub upTo-take : (m n : ℕ) (ps : List ℕ) → upTo m ps ≡ true → upTo m (take n ps) ≡ true
 unfolding every
@@ -84,7 +89,8 @@ copying-start end base number count ps s h k =
     let z : count - 0 ≡ count = omega arith in
     record { few = omega arith; rest = refl; enough = omega arith; inside = k; same = rw z }
 
-module _ {end base number count : ℕ} {ps s : List ℕ} {copied m : ℕ} {qs u : List ℕ} (c : Copying end base number count ps s copied m qs u) where
+module _ {end base number count : ℕ} {ps s : List ℕ} {copied m : ℕ} {qs u : List ℕ}
+    (c : Copying end base number count ps s copied m qs u) where
   -- one more: at the first place that is left
   pub copying-one : (p : ℕ) (rs v : List ℕ) → copied < count → qs ≡ p ∷ rs → v ≡ set u (end - p) (m % base)
       → Copying end base number count ps s (copied + 1) (m / base) rs v
@@ -104,7 +110,9 @@ module _ {end base number count : ℕ} {ps s : List ℕ} {copied m : ℕ} {qs u 
   pub copying-place : (p : ℕ) (rs : List ℕ) → qs ≡ p ∷ rs → p ≤ end
   copying-place p rs e = upTo-head end p rs (rw e at (c .inside))
 
-  pub copying-end : count ≤ copied → (qs ≡ drop count ps) × (u ≡ placedDigitsWrittenBeforeEnd end (lowestDigitsAtPlaces base number (take count ps)) s)
+  pub copying-end : count ≤ copied
+      → (qs ≡ drop count ps) × (u ≡ placedDigitsWrittenBeforeEnd end (lowestDigitsAtPlaces base number (take count ps))
+      s)
   copying-end h =
       let k : copied ≡ count = omega (arith, c .few) in
       let z : count - copied ≡ 0 = omega arith in
@@ -118,8 +126,10 @@ module _ (b : Bitmaps) (v : DigitValues) (end q n k : ℕ) (s s₁ s₂ s₃ s�
       → n ≡ unDigitCount b
       → k ≡ b .natc
       → b .natc ≤ setBitCount (b .punatc)
-      → s₁ ≡ placedDigitsWrittenBeforeEnd end (lowestDigitsAtPlaces 10 (v .cvc3) (take q (bitmapPlacesFromOne (b .pcvc3)))) s
-      → s₂ ≡ placedDigitsWrittenBeforeEnd end (lowestDigitsAtPlaces 16 (v .un) (take n (bitmapPlacesFromOne (b .punatc)))) s₁
+      → s₁ ≡ placedDigitsWrittenBeforeEnd end
+      (lowestDigitsAtPlaces 10 (v .cvc3) (take q (bitmapPlacesFromOne (b .pcvc3)))) s
+      → s₂ ≡ placedDigitsWrittenBeforeEnd end
+      (lowestDigitsAtPlaces 16 (v .un) (take n (bitmapPlacesFromOne (b .punatc)))) s₁
       → rest ≡ drop n (bitmapPlacesFromOne (b .punatc))
       → s₃ ≡ placedDigitsWrittenBeforeEnd end (lowestDigitsAtPlaces 10 (v .atc) (take k rest)) s₂
       → s₄ ≡ set s₃ (end - 1) n
@@ -127,10 +137,19 @@ module _ (b : Bitmaps) (v : DigitValues) (end q n k : ℕ) (s s₁ s₂ s₃ s�
   unfolding trackDigits placedDigitsWrittenBeforeEnd
   all-written eq en ek counter h₁ h₂ r h₃ h₄ =
       let few : length rest ≤ k = omega (arith, ap length r ∙ length-drop n (bitmapPlacesFromOne (b .punatc))) in
-      let code : s₁ ≡ placedDigitsWrittenBeforeEnd end (cvc3Digits b v) s = h₁ ∙ rw (eq, take-length (bitmapPlacesFromOne (b .pcvc3))) in
+      let code : s₁ ≡ placedDigitsWrittenBeforeEnd end (cvc3Digits b v) s =
+      h₁ ∙ rw (eq, take-length (bitmapPlacesFromOne (b .pcvc3))) in
       let number : s₂ ≡ placedDigitsWrittenBeforeEnd end (unDigits b v) s₁ = h₂ ∙ rw en in
       let count : s₃ ≡ placedDigitsWrittenBeforeEnd end (atcDigits b v) s₂ = h₃ ∙ rw (take-all k rest few, r, en) in
       h₄
-      ∙ sym (written-append end (cvc3Digits b v ++ unDigits b v ++ atcDigits b v) (placedDigit 1 (unDigitCount b) ∷ []) s
-      ∙ rw (written-append end (cvc3Digits b v ++ unDigits b v) (atcDigits b v) s, written-append end (cvc3Digits b v) (unDigits b v) s,
-        ← code, ← number, ← count, ← en))
+      ∙ sym (written-append end (cvc3Digits b v ++ unDigits b v ++ atcDigits b v) (placedDigit 1 (unDigitCount b) ∷ [])
+      s
+      ∙ rw (
+        written-append end (cvc3Digits b v ++ unDigits b v) (atcDigits b v) s,
+        written-append end (cvc3Digits b v)
+            (unDigits b v) s,
+        ← code,
+        ← number,
+        ← count,
+        ← en,
+      ))

@@ -20,7 +20,8 @@ use Rattle.personalise.specs.Objects.{tagAndValueAllowedInRecord, tagsDi
 use Rattle.personalise.specs.Placements.{eachPlacedOnce}
 use Rattle.personalise.specs.Entries.{mostAflEntries, mostCardRecords}
 use Rattle.personalise.specs.Records.{recordContent, mostRecordContentBytes}
-use Rattle.personalise.specs.Outcome.{leastRecordsBufferSize, leastAflBufferSize, CardPlan, objectsOfPlan, placementsOfPlan}
+use Rattle.personalise.specs.Outcome.{leastRecordsBufferSize, leastAflBufferSize, CardPlan, objectsOfPlan}
+use Rattle.personalise.specs.Outcome.{placementsOfPlan}
 use Rattle.personalise.specs.Word.{isWritten}
 
 -- ---- one entry
@@ -102,7 +103,8 @@ pub record PersonaliseRules (p : CardPlan) (r l : Bytes) : Type 0 where
   -- the records: placements name records of the AFL and objects of the list; each content is at most 253 bytes
   pub named : every (placesInRecord (aflRecordCount (p .entries))) (placementsOfPlan p) ≡ true
   pub objectsThere : every (placesObject (length (objectsOfPlan p))) (placementsOfPlan p) ≡ true
-  pub contents : (k : ℕ) → 1 ≤ k → k ≤ aflRecordCount (p .entries) → length (recordContent (objectsOfPlan p) (placementsOfPlan p) k) ≤ mostRecordContentBytes
+  pub contents : (k : ℕ) → 1 ≤ k → k ≤ aflRecordCount (p .entries)
+      → length (recordContent (objectsOfPlan p) (placementsOfPlan p) k) ≤ mostRecordContentBytes
 
 -- the answer a reports that all is written exactly where the rules are satisfied
 abbrev pub WrittenExactly : PersonaliseResult → CardPlan → Bytes → Bytes → Type 0

@@ -13,8 +13,10 @@ use Rattle.tlv.proofs.Primitives.{firstOf, restOf}
 use Rattle.personalise.specs.declared.Placement.{Placement}
 use Rattle.personalise.specs.Placements.{objectsInRecordFrom}
 use Rattle.personalise.specs.Objects.{tagRecordTemplate, parsedObjectsOrEmpty}
-use Rattle.personalise.specs.Records.{encodedObjects, recordContent, cardRecordBytes, cardRecordsFrom, concatenatedRecords, mostRecordContentBytes}
-use Rattle.personalise.specs.Inner.{AreObjectsAllowedInRecord, bytesWrittenOver, WritesBytesAt, objectBytesIfPlacedInRecord, concatenatedFirstRecords}
+use Rattle.personalise.specs.Records.{encodedObjects, recordContent, cardRecordBytes, cardRecordsFrom}
+use Rattle.personalise.specs.Records.{concatenatedRecords, mostRecordContentBytes}
+use Rattle.personalise.specs.Inner.{AreObjectsAllowedInRecord, bytesWrittenOver, WritesBytesAt}
+use Rattle.personalise.specs.Inner.{objectBytesIfPlacedInRecord, concatenatedFirstRecords}
 use Rattle.personalise.proofs.Known.{known, known-tag}
 use Rattle.personalise.proofs.Listed.{first-settable, bytes-on, object-length}
 use Rattle.personalise.proofs.Forms.{tag-one, length-most}
@@ -24,7 +26,8 @@ use Rattle.personalise.proofs.Over.{puts-length, puts-next}
 abbrev pub content : List Placement → ℕ → ℕ → List ℕ → List ℕ
 content ps k j s = encodedObjects (objectsInRecordFrom ps k j (parsedObjectsOrEmpty s))
 
-module _ (s : List ℕ) (n : length s ≡ 0 → ⊥) (h : TlvHeader) (e : primitiveAtFront s ≡ front.Object h) (u : AreObjectsAllowedInRecord s) (ps : List Placement) (k j : ℕ) where
+module _ (s : List ℕ) (n : length s ≡ 0 → ⊥) (h : TlvHeader) (e : primitiveAtFront s ≡ front.Object h)
+    (u : AreObjectsAllowedInRecord s) (ps : List Placement) (k j : ℕ) where
   -- a tag of at most three bytes, and a length below 256
   pub first-small : (h .tag < 0x1000000) × (length (firstOf s h .value) < 0x100)
   first-small =
@@ -62,10 +65,17 @@ module _ (os : List Object) (ps : List Placement) where
   recordsLeft n k = concatenatedRecords (cardRecordsFrom os ps k (n + 1 - k))
 
   -- a record is at most 256 bytes
-  pub record-most : (k : ℕ) → length (recordContent os ps k) ≤ mostRecordContentBytes → length (cardRecordBytes os ps k) ≤ 256
+  pub record-most : (k : ℕ) → length (recordContent os ps k) ≤ mostRecordContentBytes → length (cardRecordBytes os ps k)
+      ≤ 256
   record-most k h =
       let v = recordContent os ps k in
-      omega (arith, object-length tagRecordTemplate v, ap length (tag-one tagRecordTemplate (omega arith)), length-most (length v) (omega arith))
+      omega (
+        arith,
+        object-length tagRecordTemplate v,
+        ap length (tag-one tagRecordTemplate (omega arith)),
+        length-most
+            (length v) (omega arith),
+      )
 
   pub records-more : (n k : ℕ) → k ≤ n → recordsLeft n k ≡ cardRecordBytes os ps k ++ recordsLeft n (k + 1)
   unfolding cardRecordsFrom concatenatedRecords
@@ -78,19 +88,27 @@ module _ (os : List Object) (ps : List Placement) where
   records-done n k h = let e : n + 1 - k ≡ 0 = omega arith in rw e
 
   pub records-all : (n : ℕ) → recordsLeft n 1 ≡ concatenatedFirstRecords os ps n
-  records-all n = let e : n + 1 - 1 ≡ n = omega arith in ap (λ (m : ℕ). concatenatedRecords (cardRecordsFrom os ps 1 m)) e
+  records-all n = let e : n + 1 - 1 ≡ n = omega arith in ap (λ (m : ℕ). concatenatedRecords (cardRecordsFrom os ps 1 m))
+      e
 
   -- an iteration of the loop
-  module _ (n k : ℕ) (h : k ≤ n) (f : length (recordContent os ps k) ≤ mostRecordContentBytes) (out : List ℕ) (at : ℕ) (room : at + 256 ≤ length out)
+  module _ (n k : ℕ) (h : k ≤ n) (f : length (recordContent os ps k) ≤ mostRecordContentBytes) (out : List ℕ) (at : ℕ)
+      (room : at + 256 ≤ length out)
       {at′ : ℕ} {out′ : List ℕ} (p : WritesBytesAt at′ out′ out at (cardRecordBytes os ps k)) where
     fits : at + length (cardRecordBytes os ps k) ≤ length out
     fits = omega (arith, record-most k f)
 
     pub transition-over : bytesWrittenOver out at (recordsLeft n k) ≡ bytesWrittenOver out′ at′ (recordsLeft n (k + 1))
-    transition-over = ap (bytesWrittenOver out at) (records-more n k h) ∙ puts-next out at (cardRecordBytes os ps k) fits p (recordsLeft n (k + 1))
+    transition-over = ap (bytesWrittenOver out at) (records-more n k h) ∙ puts-next out at (cardRecordBytes os ps k)
+        fits p (recordsLeft n (k + 1))
 
     pub transition-next : at + length (recordsLeft n k) ≡ at′ + length (recordsLeft n (k + 1))
-    transition-next = omega (arith, ap length (records-more n k h) ∙ length-append (cardRecordBytes os ps k) (recordsLeft n (k + 1)), p .next)
+    transition-next = omega (
+      arith,
+      ap length (records-more n k h) ∙ length-append (cardRecordBytes os ps k)
+          (recordsLeft n (k + 1)),
+      p .next,
+    )
 
     pub transition-length : length out′ ≡ length out
     transition-length = puts-length out at (cardRecordBytes os ps k) fits p

@@ -34,4 +34,5 @@ pub length-most : (n : ℕ) → n < 0x100 → length (lengthBytes n) ≤ 2
 unfolding lengthBytes
 length-most n h =
     let P : List ℕ → Type 0 = λ s. length s ≤ 2 in
-    if-ind P _ _ _ (λ _. omega arith) (λ _. if-ind P _ _ _ (λ _. omega arith) (λ e. let z = ltb-false n 0x100 e in absurd (omega arith)))
+    if-ind P _ _ _ (λ _. omega arith)
+    (λ _. if-ind P _ _ _ (λ _. omega arith) (λ e. let z = ltb-false n 0x100 e in absurd (omega arith)))

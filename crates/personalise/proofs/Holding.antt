@@ -27,9 +27,11 @@ use Rattle.personalise.specs.declared.WrittenSizes.{WrittenSizes}
 use Rattle.personalise.specs.Objects.{tagAndValueAllowedInRecord, tagsDistinct}
 use Rattle.personalise.specs.Entries.{validEntrySfi1To10NoOfflineAuth, firstBadEntry}
 use Rattle.personalise.specs.Records.{cardRecordsFrom}
-use Rattle.personalise.specs.Outcome.{CardPlan, objectsOfPlan, placementsOfPlan, cardRecords, allRecordsBytes, personaliseResult, recordsBufferAfter, aflBufferAfter}
+use Rattle.personalise.specs.Outcome.{CardPlan, objectsOfPlan, placementsOfPlan, cardRecords, allRecordsBytes}
+use Rattle.personalise.specs.Outcome.{personaliseResult, recordsBufferAfter, aflBufferAfter}
 use Rattle.personalise.specs.Word.{isWritten}
-use Rattle.personalise.specs.Read.{putObjects, emptyStoreBytes, storeOfObjects, readAllRecords, WrittenCardReadsBackAsObjects, CardReadsBackAsObjectsIfWritten}
+use Rattle.personalise.specs.Read.{putObjects, emptyStoreBytes, storeOfObjects, readAllRecords}
+use Rattle.personalise.specs.Read.{WrittenCardReadsBackAsObjects, CardReadsBackAsObjectsIfWritten}
 use Rattle.personalise.specs.Inner.{resultAllWritten}
 use Rattle.personalise.proofs.Clauses.{PersonaliseRules}
 use Rattle.personalise.proofs.Rules.{entries-follow, total-most}
@@ -67,7 +69,9 @@ accepted : (es : List ℕ) → firstBadEntry es ≡ Nothing → 1 ≤ aflRecordC
 unfolding acceptsAfl
 accepted es q s =
     let f = entries-follow es q in
-    both-yes _ _ (f .whole) (both-yes _ _ (all-keep (aflEntries es) (f .alone)) (both-yes _ _ (le-leb 1 (aflRecordCount es) s) (le-leb (aflRecordCount es) 128 (total-most es q))))
+    both-yes _ _ (f .whole)
+    (both-yes _ _ (all-keep (aflEntries es) (f .alone))
+    (both-yes _ _ (le-leb 1 (aflRecordCount es) s) (le-leb (aflRecordCount es) 128 (total-most es q))))
 
 -- ---- the records
 
@@ -92,29 +96,36 @@ module _ (p : CardPlan) (r l : List ℕ) (q : Passes p r l) (k : PersonaliseRule
       let n = length (aflRecords es) in
       let e : n ≡ aflRecordCount es = records-length es in
       let a = arranged ps (aflRecordCount es) 1 os (k .once) (k .named) in
-      let b = subst (λ (m : ℕ). every tagAndValueAllowedInRecord (ordered ps 1 m 1 os) ≡ true) (sym e) (perm-every tagAndValueAllowedInRecord a (k .settable)) in
+      let b = subst (λ (m : ℕ). every tagAndValueAllowedInRecord (ordered ps 1 m 1 os) ≡ true) (sym e)
+      (perm-every tagAndValueAllowedInRecord a (k .settable)) in
       let d = subst (λ (m : ℕ). tagsDistinct (ordered ps 1 m 1 os) ≡ true) (sym e) (perm-distinct a (k .distinct)) in
       let z : length emptyStoreBytes ≡ storeSize = length-replicate {A = ℕ} storeSize 0 in
       ap (λ (m : ℕ). readAllRecords emptyStoreBytes (aflRecords es) (cardRecordsFrom os ps 1 m)) (sym e)
-      ∙ read-all os ps (aflRecords es) 1 emptyStoreBytes (files-of (aflEntries es) (k .files)) (λ i g h. k .contents i g (omega arith)) b d z (empty-free (ordered ps 1 n 1 os))
+      ∙ read-all os ps (aflRecords es) 1 emptyStoreBytes (files-of (aflEntries es) (k .files))
+      (λ i g h. k .contents i g (omega arith)) b d z (empty-free (ordered ps 1 n 1 os))
       ∙ ap (λ (m : ℕ). some (putObjects emptyStoreBytes (ordered ps 1 m 1 os))) e
       ∙ ap some (perm-put emptyStoreBytes a (k .settable) (k .distinct) z)
 
-  written-holds : (z : WrittenSizes) → Written z ≡ resultAllWritten p → (x y : List ℕ) → x ≡ recordsBufferAfter true p r → y ≡ aflBufferAfter true es l → WrittenCardReadsBackAsObjects p z x y
+  written-holds : (z : WrittenSizes) → Written z ≡ resultAllWritten p → (x y : List ℕ) → x ≡ recordsBufferAfter true p r
+      → y ≡ aflBufferAfter true es l → WrittenCardReadsBackAsObjects p z x y
   written-holds z d x y e f =
       let n : z .records ≡ length (allRecordsBytes p) = cc in
       let m : z .afl ≡ length es = cc in
       record {
-        stand = ap (λ (i : ℕ). take i x) n ∙ ap (take (length (allRecordsBytes p))) (e ∙ if-yes _ _ refl) ∙ take-append-seam (allRecordsBytes p) _;
+        stand = ap (λ (i : ℕ). take i x) n ∙ ap (take (length (allRecordsBytes p))) (e ∙ if-yes _ _ refl) ∙
+            take-append-seam (allRecordsBytes p) _;
         afl = ap (λ (i : ℕ). take i y) m ∙ ap (take (length es)) (f ∙ if-yes _ _ refl) ∙ take-append-seam es _;
         accepted = accepted es (q .entries) (k .someRecord);
         read = read-back;
       }
 
 -- by the answer
-pub holds : (p : CardPlan) (r l : List ℕ) → ((i : ℕ) → getD (p .placements) i 0 < 256) → (a : PersonaliseResult) → a ≡ personaliseResult p r l → (x y : List ℕ)
-    → x ≡ recordsBufferAfter (isWritten a) p r → y ≡ aflBufferAfter (isWritten a) (p .entries) l → CardReadsBackAsObjectsIfWritten p a x y
+pub holds : (p : CardPlan) (r l : List ℕ) → ((i : ℕ) → getD (p .placements) i 0 < 256) → (a : PersonaliseResult)
+    → a ≡ personaliseResult p r l → (x y : List ℕ)
+    → x ≡ recordsBufferAfter (isWritten a) p r → y ≡ aflBufferAfter (isWritten a) (p .entries) l
+    → CardReadsBackAsObjectsIfWritten p a x y
 holds p r l b a e x y f g z d =
     let w : isWritten a ≡ true = ap isWritten d in
     let q = passes p r l (ap isWritten (sym e) ∙ w) in
-    written-holds p r l q (kept-of p r l b q) z (sym d ∙ e ∙ passed p r l q) x y (f ∙ ap (λ (c : Bool). recordsBufferAfter c p r) w) (g ∙ ap (λ (c : Bool). aflBufferAfter c (p .entries) l) w)
+    written-holds p r l q (kept-of p r l b q) z (sym d ∙ e ∙ passed p r l q) x y
+    (f ∙ ap (λ (c : Bool). recordsBufferAfter c p r) w) (g ∙ ap (λ (c : Bool). aflBufferAfter c (p .entries) l) w)

@@ -42,18 +42,21 @@ pub known : (o : Object) → tagAndValueAllowedInRecord o ≡ true → Known o
 unfolding tagAndValueAllowedInRecord
 known o e = go (findRow dictionaryRows (o .tag)) refl e
   where
-    at-row : (k : ℕ) → findRow dictionaryRows (o .tag) ≡ At k → rowAllowsValueFromCard inRecordResponse (rowAt k) tagRecordTemplate (o .value) ≡ true → Known o
+    at-row : (k : ℕ) → findRow dictionaryRows (o .tag) ≡ At k → rowAllowsValueFromCard inRecordResponse (rowAt k)
+        tagRecordTemplate (o .value) ≡ true → Known o
     at-row k q c =
         let f = found dictionaryRows (o .tag) k q in
         let r : k < rowCount = omega (arith, rows-length) in
-        let m = fits-length (rowAt k) (o .value) (may-come-fits inRecordResponse (rowAt k) tagRecordTemplate (o .value) c) .1 in
+        let m = fits-length (rowAt k) (o .value) (may-come-fits inRecordResponse (rowAt k) tagRecordTemplate (o .value)
+        c) .1 in
         record {
           place = k;
           found = q;
           comes = c;
           row = r;
           tag = ap wellFormedTag (sym (f .1)) ∙ proper-row dictionaryRows rows-proper k (f .0) .tag;
-          primitive = ap isTemplate (sym (f .1)) ∙ not-true _ (at (λ x. not (isTemplate (x .tag))) dictionaryRows blankRow rows-primitive k (f .0));
+          primitive = ap isTemplate (sym (f .1)) ∙ not-true _
+              (at (λ x. not (isTemplate (x .tag))) dictionaryRows blankRow rows-primitive k (f .0));
           most = m;
           short = omega (arith, row-inside k r .1);
         }

@@ -16,7 +16,8 @@ use Rattle.basics.proofs.Order.{le-or-gt, equal-or-not}
 use Rattle.tlv.specs.Primitives.{Object}
 use Rattle.personalise.specs.declared.Placement.{Placement}
 use Rattle.personalise.specs.declared.FirstBadItemNumber.the-variants.{At, Nothing}
-use Rattle.personalise.specs.Records.{recordContent, mostRecordContentBytes, hasBadPlacementOrOver253Bytes, firstBadNumberFrom, firstBadRecord}
+use Rattle.personalise.specs.Records.{recordContent, mostRecordContentBytes, hasBadPlacementOrOver253Bytes}
+use Rattle.personalise.specs.Records.{firstBadNumberFrom, firstBadRecord}
 use Rattle.personalise.specs.Inner.{recordHasOutOfRangePlacement, sizeCappedAt254, RecordContentsWithin253Bytes}
 
 -- neither of two tests passes
@@ -42,7 +43,9 @@ module _ (os : List Object) (ps : List Placement) (n k m : ℕ) (c : m ≡ lengt
   unfolding hasBadPlacementOrOver253Bytes
   bad-stray e = either-left _ _ (ap (λ (x : ℕ). recordHasOutOfRangePlacement ps n x k) (sym c) ∙ e)
 
-  pub bad-size : recordHasOutOfRangePlacement ps n m k ≡ false → (z : ℕ) → z ≡ sizeCappedAt254 (length (recordContent os ps k)) → hasBadPlacementOrOver253Bytes os ps n k ≡ ltb mostRecordContentBytes z
+  pub bad-size : recordHasOutOfRangePlacement ps n m k ≡ false → (z : ℕ)
+      → z ≡ sizeCappedAt254 (length (recordContent os ps k)) → hasBadPlacementOrOver253Bytes os ps n k
+      ≡ ltb mostRecordContentBytes z
   unfolding hasBadPlacementOrOver253Bytes
   bad-size e z q =
       either-false _ (ap (λ (x : ℕ). recordHasOutOfRangePlacement ps n x k) (sym c) ∙ e)
@@ -50,7 +53,8 @@ module _ (os : List Object) (ps : List Placement) (n k m : ℕ) (c : m ≡ lengt
 
 -- ---- the search
 
-pub first-start : (os : List Object) (ps : List Placement) (n : ℕ) → firstBadRecord os ps n ≡ firstBadNumberFrom (hasBadPlacementOrOver253Bytes os ps n) 0 (256 - 0)
+pub first-start : (os : List Object) (ps : List Placement) (n : ℕ)
+    → firstBadRecord os ps n ≡ firstBadNumberFrom (hasBadPlacementOrOver253Bytes os ps n) 0 (256 - 0)
 unfolding firstBadRecord
 first-start os ps n = refl
 
@@ -73,10 +77,12 @@ none-found : (f : ℕ → Bool) (m k : ℕ) → firstBadNumberFrom f k m ≡ Not
 unfolding firstBadNumberFrom
 none-found f zero k q i l h = absurd (omega arith)
 none-found f (suc m) k q i l h = elim (bool-cases (f k)) [
-  | inl y ↦ (let p = if-yes (At k) (firstBadNumberFrom f (suc k) m) y in let z : _≡_ {A = ℕ} 0 1 = cc in absurd (omega arith))
+  | inl y ↦ (let p = if-yes (At k) (firstBadNumberFrom f (suc k) m) y in let z : _≡_ {A = ℕ} 0 1 = cc in
+      absurd (omega arith))
   | inr n ↦ elim (equal-or-not i k) [
     | inl e ↦ ap f e ∙ n
-    | inr d ↦ none-found f m (suc k) (sym (if-no (At k) (firstBadNumberFrom f (suc k) m) n) ∙ q) i (omega arith) (omega arith)
+    | inr d ↦ none-found f m (suc k) (sym (if-no (At k) (firstBadNumberFrom f (suc k) m) n) ∙ q) i (omega arith)
+        (omega arith)
   ]
 ]
 
@@ -89,7 +95,8 @@ below : (f : ℕ → Bool) (m k i : ℕ) → firstBadNumberFrom f k m ≡ At i �
 unfolding firstBadNumberFrom
 below f zero k i q = let z : _≡_ {A = ℕ} 0 1 = cc in absurd (omega arith)
 below f (suc m) k i q = elim (bool-cases (f k)) [
-  | inl y ↦ (let p : At k ≡ At i = sym (if-yes (At k) (firstBadNumberFrom f (suc k) m) y) ∙ q in let z : k ≡ i = cc in omega arith)
+  | inl y ↦ (let p : At k ≡ At i = sym (if-yes (At k) (firstBadNumberFrom f (suc k) m) y) ∙ q in let z : k ≡ i = cc in
+      omega arith)
   | inr n ↦ (let h = below f m (suc k) i (sym (if-no (At k) (firstBadNumberFrom f (suc k) m) n) ∙ q) in omega arith)
 ]
 

@@ -17,7 +17,11 @@ over-nothing s at = rw add-zero (take-append-drop at s)
 
 -- nothing is written
 pub puts-nothing : (s : List ℕ) (at : ℕ) {v : List ℕ} → v ≡ [] → WritesBytesAt at s s at v
-puts-nothing s at e = record { next = sym (add-zero at) ∙ ap (λ (x : List ℕ). at + length x) (sym e); wrote = sym (over-nothing s at) ∙ ap (bytesWrittenOver s at) (sym e) }
+puts-nothing s at e = record {
+  next = sym (add-zero at) ∙ ap (λ (x : List ℕ). at + length x) (sym e);
+  wrote =
+      sym (over-nothing s at) ∙ ap (bytesWrittenOver s at) (sym e);
+}
 
 -- at the front
 pub over-front : (s v : List ℕ) → bytesWrittenOver s 0 v ≡ writtenOverFront v s
@@ -41,12 +45,21 @@ module _ (s : List ℕ) (at : ℕ) (v : List ℕ) (h : at + length v ≤ length 
   over-sets = sets-eq v s at h ∙ sym front-is
 
   -- concatenated
-  pub over-join : (w : List ℕ) → bytesWrittenOver (bytesWrittenOver s at v) (at + length v) w ≡ bytesWrittenOver s at (v ++ w)
+  pub over-join : (w : List ℕ) → bytesWrittenOver (bytesWrittenOver s at v) (at + length v) w ≡ bytesWrittenOver s at
+      (v ++ w)
   unfolding bytesWrittenOver
   over-join w =
       let n = at + length v in
       ap (λ (l : List ℕ). take n l ++ (w ++ drop (n + length w) l)) front-is
-      ∙ rw (take-at (take at s ++ v) (drop n s) n front-length, ← (drop-drop (length w) n ((take at s ++ v) ++ drop n s)), drop-at (take at s ++ v) (drop n s) n front-length, drop-drop, length-append, ← (add-assoc at (length v) (length w)))
+      ∙ rw (
+        take-at (take at s ++ v) (drop n s) n front-length,
+        ←
+            (drop-drop (length w) n ((take at s ++ v) ++ drop n s)),
+        drop-at (take at s ++ v) (drop n s) n front-length,
+        drop-drop,
+        length-append,
+        ← (add-assoc at (length v) (length w)),
+      )
       (simp append-assoc)
 
   -- by one function and then another
@@ -76,11 +89,17 @@ over-part s at v ys h p =
     rw (q, e, drop-drop (length v) at s)
 
 -- stores one by one, of bytes that are v
-pub sets-put : (s : List ℕ) (at : ℕ) (w : List ℕ) {v : List ℕ} → at + length w ≤ length s → v ≡ w → WritesBytesAt (at + length w) (sets s at w) s at v
-sets-put s at w h e = record { next = ap (λ (l : List ℕ). at + length l) (sym e); wrote = over-sets s at w h ∙ ap (bytesWrittenOver s at) (sym e) }
+pub sets-put : (s : List ℕ) (at : ℕ) (w : List ℕ) {v : List ℕ} → at + length w ≤ length s → v ≡ w
+    → WritesBytesAt (at + length w) (sets s at w) s at v
+sets-put s at w h e = record {
+  next = ap (λ (l : List ℕ). at + length l) (sym e);
+  wrote = over-sets s at w h ∙ ap
+      (bytesWrittenOver s at) (sym e);
+}
 
 -- two and three stores, as code makes them
-pub two-put : (s : List ℕ) (at x y : ℕ) {v : List ℕ} → at + 2 ≤ length s → v ≡ x ∷ y ∷ [] → WritesBytesAt (at + 2) (set (set s at x) (at + 1) y) s at v
+pub two-put : (s : List ℕ) (at x y : ℕ) {v : List ℕ} → at + 2 ≤ length s → v ≡ x ∷ y ∷ []
+    → WritesBytesAt (at + 2) (set (set s at x) (at + 1) y) s at v
 two-put s at x y h e = let n = add-one at in rw n (sets-put s at (x ∷ y ∷ []) h e)
 
 pub three-put : (s : List ℕ) (at x y z : ℕ) {v : List ℕ} → at + 3 ≤ length s → v ≡ x ∷ y ∷ z ∷ []

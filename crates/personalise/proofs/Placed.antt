@@ -8,14 +8,16 @@ use Prim.Native.Nat.{ℕ, suc, _+_, _<_, _≤_, min}
 use native.Mathlib.Omega.{arith}
 use lib.ListN.{length, getD, drop, length-drop}
 use borrow.Author.Tests.{eq-eqb, ne-eqb, le-leb, lt-leb}
-use Rattle.basics.proofs.Laws.{if-yes, if-no, either-left, either-false, both-yes, both-true, both-no-left, both-no-right}
+use Rattle.basics.proofs.Laws.{if-yes, if-no, either-left, either-false, both-yes, both-true, both-no-left}
+use Rattle.basics.proofs.Laws.{both-no-right}
 use Rattle.tlv.proofs.Laws.{tail, tail-is}
 use Rattle.personalise.specs.declared.Placement.{Placement}
 use Rattle.personalise.specs.Placements.{placement, placementsIn, countPlacementsWhere, anyPlacement}
 use Rattle.personalise.specs.Records.{isOutOfRangePlacementInto}
 use Rattle.personalise.proofs.Clauses.{inLayout}
 
-split : (s : List ℕ) → (length s ≡ 0 → ⊥) → placementsIn s ≡ placement (getD s 0 0) (getD s 1 0) ∷ placementsIn (drop 2 s)
+split : (s : List ℕ) → (length s ≡ 0 → ⊥) → placementsIn s ≡ placement (getD s 0 0) (getD s 1 0)
+    ∷ placementsIn (drop 2 s)
 unfolding placementsIn
 split [] n = absurd (n refl)
 split (r ∷ []) n = refl
@@ -38,7 +40,8 @@ count-end f [] z = refl
 count-end f (r ∷ s) z = absurd (omega arith)
 
 -- the placement at the front and the bytes after it, as the code makes them
-module _ (s : List ℕ) (h : length s ≡ 0 → ⊥) (p : Placement) (q : p ≡ placement (getD s 0 0) (getD s 1 0)) (n : ℕ) (w : n ≡ min 2 (length s)) where
+module _ (s : List ℕ) (h : length s ≡ 0 → ⊥) (p : Placement) (q : p ≡ placement (getD s 0 0) (getD s 1 0)) (n : ℕ)
+    (w : n ≡ min 2 (length s)) where
   apart : placementsIn s ≡ p ∷ placementsIn (tail s n)
   apart = split s h ∙ rw (q, tail-is s n, w, drop-min s)
 
@@ -54,11 +57,15 @@ module _ (s : List ℕ) (h : length s ≡ 0 → ⊥) (p : Placement) (q : p ≡ 
     unfolding anyPlacement
     any-on e = ap (anyPlacement f) apart ∙ either-false _ e
 
-    pub count-yes : (m : ℕ) → f p ≡ true → m + countPlacementsWhere f (placementsIn s) ≡ m + 1 + countPlacementsWhere f (placementsIn (tail s n))
+    pub count-yes : (m : ℕ) → f p ≡ true → m + countPlacementsWhere f (placementsIn s) ≡ m + 1 + countPlacementsWhere f
+        (placementsIn (tail s n))
     unfolding countPlacementsWhere
-    count-yes m e = let d : countPlacementsWhere f (placementsIn s) ≡ suc (countPlacementsWhere f (placementsIn (tail s n))) = ap (countPlacementsWhere f) apart ∙ if-yes _ _ e in omega arith
+    count-yes m e = let d : countPlacementsWhere f (placementsIn s)
+        ≡ suc (countPlacementsWhere f (placementsIn (tail s n))) = ap (countPlacementsWhere f) apart ∙ if-yes _ _ e in
+        omega arith
 
-    pub count-no : (m : ℕ) → f p ≡ false → m + countPlacementsWhere f (placementsIn s) ≡ m + countPlacementsWhere f (placementsIn (tail s n))
+    pub count-no : (m : ℕ) → f p ≡ false → m + countPlacementsWhere f (placementsIn s) ≡ m + countPlacementsWhere f
+        (placementsIn (tail s n))
     unfolding countPlacementsWhere
     count-no m e = ap (λ (x : ℕ). m + x) (ap (countPlacementsWhere f) apart ∙ if-no _ _ e)
 
@@ -84,7 +91,9 @@ module _ (n m k : ℕ) (p : Placement) where
     pub stray-object-past : m < p .object → isOutOfRangePlacementInto n m k p ≡ true
     stray-object-past h = outside (both-no-right _ _ (both-no-right _ _ (lt-leb (p .object) m h)))
 
-    pub stray-none : (p .into ≡ 0 → ⊥) → p .into ≤ n → (p .object ≡ 0 → ⊥) → p .object ≤ m → isOutOfRangePlacementInto n m k p ≡ false
+    pub stray-none : (p .into ≡ 0 → ⊥) → p .into ≤ n → (p .object ≡ 0 → ⊥) → p .object ≤ m
+        → isOutOfRangePlacementInto n m k p ≡ false
     stray-none a b o d =
         both-true _ (eq-eqb _ _ e)
-        ∙ ap not (both-yes _ _ (both-yes _ _ (le-leb 1 (p .into) (omega arith)) (le-leb _ _ b)) (both-yes _ _ (le-leb 1 (p .object) (omega arith)) (le-leb _ _ d)))
+        ∙ ap not (both-yes _ _ (both-yes _ _ (le-leb 1 (p .into) (omega arith)) (le-leb _ _ b))
+        (both-yes _ _ (le-leb 1 (p .object) (omega arith)) (le-leb _ _ d)))

@@ -19,7 +19,9 @@ use Rattle.afl.specs.Records.{aflEntries, aflLengthIsMultipleOf4, sumOverEntrie
 use Rattle.afl.proofs.Records.{entries-front, entries-short, entries-join, whole-of, part-of}
 use Rattle.personalise.specs.declared.FirstBadItemNumber.{FirstBadItemNumber}
 use Rattle.personalise.specs.declared.FirstBadItemNumber.the-variants.{At, Nothing}
-use Rattle.personalise.specs.Entries.{mostAflEntries, mostCardRecords, entriesOverlap, overlapsNoneBefore, validEntrySfi1To10NoOfflineAuth, validEntryAfterWithinCountLimits, firstBadOrTruncatedEntryAfter, firstBadEntry}
+use Rattle.personalise.specs.Entries.{mostAflEntries, mostCardRecords, entriesOverlap, overlapsNoneBefore}
+use Rattle.personalise.specs.Entries.{validEntrySfi1To10NoOfflineAuth, validEntryAfterWithinCountLimits}
+use Rattle.personalise.specs.Entries.{firstBadOrTruncatedEntryAfter, firstBadEntry}
 
 -- with an entry there are at most 128 records
 abbrev pub roomBehind : List AflEntry → AflEntry → Bool
@@ -55,13 +57,15 @@ module _ (s : List ℕ) (h : 4 ≤ length s) (f : AflEntry) (p : f ≡ firstAflE
   unfolding overlapsNoneBefore every
   apart-no e m = ap (λ (l : List AflEntry). overlapsNoneBefore l e) front ∙ both-no-left _ _ (ap not m)
 
-  pub apart-on : (e : AflEntry) → entriesOverlap f e ≡ false → overlapsNoneBefore (aflEntries s) e ≡ overlapsNoneBefore (aflEntries (tail s 4)) e
+  pub apart-on : (e : AflEntry) → entriesOverlap f e ≡ false → overlapsNoneBefore (aflEntries s) e ≡ overlapsNoneBefore
+      (aflEntries (tail s 4)) e
   unfolding overlapsNoneBefore every
   apart-on e m = ap (λ (l : List AflEntry). overlapsNoneBefore l e) front ∙ both-true _ (ap not m)
 
   pub total-on : (n m : ℕ) → m ≡ entryRecordCount f → n + aflRecordCount s ≡ n + m + aflRecordCount (tail s 4)
   unfolding sumOverEntries
-  total-on n m c = let e : aflRecordCount s ≡ entryRecordCount f + aflRecordCount (tail s 4) = ap (sumOverEntries entryRecordCount) front in omega arith
+  total-on n m c = let e : aflRecordCount s ≡ entryRecordCount f + aflRecordCount (tail s 4) =
+      ap (sumOverEntries entryRecordCount) front in omega arith
 
 pub total-end : (s : List ℕ) → length s < 4 → aflRecordCount s ≡ 0
 unfolding sumOverEntries
@@ -83,13 +87,15 @@ module _ (before : List AflEntry) (e : AflEntry) where
     unfolding validEntryAfterWithinCountLimits
     behind-apart k = both-no-right _ _ (both-no-right _ _ (both-no-left _ _ k))
 
-    pub behind-room : validEntrySfi1To10NoOfflineAuth e ≡ true → overlapsNoneBefore before e ≡ true → validEntryAfterWithinCountLimits before e ≡ roomBehind before e
+    pub behind-room : validEntrySfi1To10NoOfflineAuth e ≡ true → overlapsNoneBefore before e ≡ true
+        → validEntryAfterWithinCountLimits before e ≡ roomBehind before e
     unfolding validEntryAfterWithinCountLimits
     behind-room k a = both-true _ (lt-ltb (length before) mostAflEntries h) ∙ both-true _ k ∙ both-true _ a
 
 -- ---- the walk
 
-pub bad-start : (s : List ℕ) → firstBadEntry s ≡ firstBadOrTruncatedEntryAfter (aflEntries (take 0 s)) (aflEntries (drop 0 s)) (aflLengthIsMultipleOf4 s)
+pub bad-start : (s : List ℕ) → firstBadEntry s ≡ firstBadOrTruncatedEntryAfter (aflEntries (take 0 s))
+    (aflEntries (drop 0 s)) (aflLengthIsMultipleOf4 s)
 unfolding firstBadEntry aflEntries
 bad-start s = refl
 
@@ -116,10 +122,12 @@ module _ (s : List ℕ) (at : ℕ) (w : at % 4 ≡ 0) (l : at ≤ length s) wher
     one =
         let n : length (take 4 (drop at s)) ≡ 4 = let k = left in simp length-take (omega arith) in
         let m : length (drop 4 (take 4 (drop at s))) < 4 = rw (length-drop, n) (omega arith) in
-        entries-front (take 4 (drop at s)) (omega arith) ∙ rw (front-take (drop at s) left, entries-short (drop 4 (take 4 (drop at s))) m)
+        entries-front (take 4 (drop at s)) (omega arith) ∙ rw
+        (front-take (drop at s) left, entries-short (drop 4 (take 4 (drop at s))) m)
 
     before-more : aflEntries (take (at + 4) s) ≡ aflEntries (take at s) ++ (firstAflEntry (drop at s) ∷ [])
-    before-more = let e : length (take at s) % 4 ≡ 0 = rw took w in rw take-add (entries-join (take at s) (take 4 (drop at s)) e ∙ rw one)
+    before-more = let e : length (take at s) % 4 ≡ 0 = rw took w in
+        rw take-add (entries-join (take at s) (take 4 (drop at s)) e ∙ rw one)
 
     behind-more : aflEntries (drop at s) ≡ firstAflEntry (drop at s) ∷ aflEntries (drop (at + 4) s)
     behind-more = entries-front (drop at s) left ∙ rw (drop-drop 4 at s)
@@ -130,29 +138,37 @@ module _ (s : List ℕ) (at : ℕ) (w : at % 4 ≡ 0) (l : at ≤ length s) wher
       is-front = ap firstAflEntry (sym (tail-is s at)) ∙ sym p
 
       pub bad-here : validEntryAfterWithinCountLimits (aflEntries (take at s)) e ≡ false
-          → firstBadOrTruncatedEntryAfter (aflEntries (take at s)) (aflEntries (drop at s)) (aflLengthIsMultipleOf4 s) ≡ At (at / 4 + 1)
+          → firstBadOrTruncatedEntryAfter (aflEntries (take at s)) (aflEntries (drop at s)) (aflLengthIsMultipleOf4 s)
+          ≡ At (at / 4 + 1)
       unfolding firstBadOrTruncatedEntryAfter
       bad-here k = rw (behind-more, is-front) (if-no _ _ k ∙ rw before-count)
 
       pub bad-on : validEntryAfterWithinCountLimits (aflEntries (take at s)) e ≡ true
-          → firstBadOrTruncatedEntryAfter (aflEntries (take at s)) (aflEntries (drop at s)) (aflLengthIsMultipleOf4 s) ≡ firstBadOrTruncatedEntryAfter (aflEntries (take (at + 4) s)) (aflEntries (drop (at + 4) s)) (aflLengthIsMultipleOf4 s)
+          → firstBadOrTruncatedEntryAfter (aflEntries (take at s)) (aflEntries (drop at s)) (aflLengthIsMultipleOf4 s)
+          ≡ firstBadOrTruncatedEntryAfter (aflEntries (take (at + 4) s)) (aflEntries (drop (at + 4) s))
+          (aflLengthIsMultipleOf4 s)
       unfolding firstBadOrTruncatedEntryAfter
       bad-on k = rw (behind-more, before-more, is-front) (if-yes _ _ k)
 
   module _ (h : length s - at < 4) where
-    ends : firstBadOrTruncatedEntryAfter (aflEntries (take at s)) (aflEntries (drop at s)) (aflLengthIsMultipleOf4 s) ≡ badEnd (aflEntries (take at s)) (aflLengthIsMultipleOf4 s)
+    ends : firstBadOrTruncatedEntryAfter (aflEntries (take at s)) (aflEntries (drop at s)) (aflLengthIsMultipleOf4 s)
+        ≡ badEnd (aflEntries (take at s)) (aflLengthIsMultipleOf4 s)
     unfolding firstBadOrTruncatedEntryAfter
     ends = let m : length (drop at s) < 4 = simp length-drop h in rw (entries-short (drop at s) m)
 
-    pub bad-cut : at < length s → firstBadOrTruncatedEntryAfter (aflEntries (take at s)) (aflEntries (drop at s)) (aflLengthIsMultipleOf4 s) ≡ At (at / 4 + 1)
+    pub bad-cut : at < length s → firstBadOrTruncatedEntryAfter (aflEntries (take at s)) (aflEntries (drop at s))
+        (aflLengthIsMultipleOf4 s) ≡ At (at / 4 + 1)
     bad-cut m = ends ∙ if-no _ _ (both-no-left _ _ (part-of s (omega arith))) ∙ rw before-count
 
-    pub bad-none : at ≡ 0 → firstBadOrTruncatedEntryAfter (aflEntries (take at s)) (aflEntries (drop at s)) (aflLengthIsMultipleOf4 s) ≡ At 1
+    pub bad-none : at ≡ 0 → firstBadOrTruncatedEntryAfter (aflEntries (take at s)) (aflEntries (drop at s))
+        (aflLengthIsMultipleOf4 s) ≡ At 1
     bad-none z =
         let n : length (aflEntries (take at s)) ≡ 0 = before-count ∙ rw z in
         ends ∙ if-no _ _ (both-no-right _ _ (le-ltb 0 (length (aflEntries (take at s))) (omega arith))) ∙ rw n
 
-    pub bad-nothing : length s ≤ at → (at ≡ 0 → ⊥) → firstBadOrTruncatedEntryAfter (aflEntries (take at s)) (aflEntries (drop at s)) (aflLengthIsMultipleOf4 s) ≡ Nothing
+    pub bad-nothing : length s ≤ at → (at ≡ 0 → ⊥) → firstBadOrTruncatedEntryAfter (aflEntries (take at s))
+        (aflEntries (drop at s)) (aflLengthIsMultipleOf4 s) ≡ Nothing
     bad-nothing m z =
         let n = before-count in
-        ends ∙ if-yes _ _ (both-yes _ _ (whole-of s (omega arith)) (lt-ltb 0 (length (aflEntries (take at s))) (omega arith)))
+        ends ∙ if-yes _ _
+        (both-yes _ _ (whole-of s (omega arith)) (lt-ltb 0 (length (aflEntries (take at s))) (omega arith)))

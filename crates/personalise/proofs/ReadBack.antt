@@ -30,13 +30,17 @@ use Rattle.afl.specs.declared.CardRecord.{CardRecord}
 use Rattle.afl.specs.Entry.{entrySfi, entryRecordCount}
 use Rattle.afl.specs.Records.{consecutiveRecords, entryRecords, recordsOfEntries}
 use Rattle.reading.specs.declared.Awaited.{Awaited}
-use Rattle.reading.specs.Taking.{primitiveItem, primitiveItems, rowAllowsValueFromCard, StoringState, storingState, storeItem, storeAllItems}
-use Rattle.reading.specs.Answer.{ReadingOutcome, readingOutcome, template, bodyOfOneObject, parseResponseBody, templateBody, readingIfAllAllowed, templateBodyItems, readBodyItems, readParsedBody, readBody, isBodyToBeRead, isStatus9000, responseLengthIs2To258, readAnswer}
+use Rattle.reading.specs.Taking.{primitiveItem, primitiveItems, rowAllowsValueFromCard, StoringState, storingState}
+use Rattle.reading.specs.Taking.{storeItem, storeAllItems}
+use Rattle.reading.specs.Answer.{ReadingOutcome, readingOutcome, template, bodyOfOneObject, parseResponseBody}
+use Rattle.reading.specs.Answer.{templateBody, readingIfAllAllowed, templateBodyItems, readBodyItems, readParsedBody}
+use Rattle.reading.specs.Answer.{readBody, isBodyToBeRead, isStatus9000, responseLengthIs2To258, readAnswer}
 use Rattle.reading.proofs.Laws.{item-put, next-good}
 use Rattle.personalise.specs.Objects.{tagRecordTemplate, tagAndValueAllowedInRecord, lacksTag, tagsDistinct}
 use Rattle.personalise.specs.declared.Placement.{Placement}
 use Rattle.personalise.specs.Placements.{objectsInRecordFrom}
-use Rattle.personalise.specs.Records.{encodedObjects, recordContent, cardRecordsFrom as records, mostRecordContentBytes}
+use Rattle.personalise.specs.Records.{encodedObjects, recordContent, cardRecordsFrom as records}
+use Rattle.personalise.specs.Records.{mostRecordContentBytes}
 use Rattle.personalise.specs.Read.{putObjects, readRecordWith9000, readOnIfAccepted, readAllRecords}
 use Rattle.personalise.proofs.Clauses.{sfiInRange}
 use Rattle.personalise.proofs.Known.{known}
@@ -60,27 +64,35 @@ encoded (o ∷ os) = ap (λ (s : List ℕ). objectBytes (o .tag) (o .value) ++ s
 encodable : (os : List Object) → every tagAndValueAllowedInRecord os ≡ true → EncodableWithinLevels (leaves os) 3
 unfolding every leaves
 encodable [] e = tt
-encodable (o ∷ os) e = let k = known o (both-left _ _ e) in (k .tag, k .primitive, omega (arith, k .short), encodable os (both-right _ _ e))
+encodable (o ∷ os) e = let k = known o (both-left _ _ e) in
+    (k .tag, k .primitive, omega (arith, k .short), encodable os (both-right _ _ e))
 
 -- ---- taking the objects
 
 -- an object that may come and whose row is free is put
-take-one : (b : List ℕ) (o : Object) → tagAndValueAllowedInRecord o ≡ true → isRowAbsentOrEmpty dictionaryRows b (rowNumberOfTagOrZero (o .tag)) ≡ true
+take-one : (b : List ℕ) (o : Object) → tagAndValueAllowedInRecord o ≡ true
+    → isRowAbsentOrEmpty dictionaryRows b (rowNumberOfTagOrZero (o .tag)) ≡ true
     → storeItem inRecordResponse b (primitiveItem tagRecordTemplate (o .tag) (o .value)) ≡ storingState true (put b o)
 unfolding rowAllowsValueFromCard
 take-one b o s f =
     let k = known o s in
     let e = known-place o k in
-    item-put inRecordResponse b (primitiveItem tagRecordTemplate (o .tag) (o .value)) (findRow dictionaryRows (o .tag)) refl (k .place) (k .found)
-    (both-no-right _ _ (ap not (both-left _ _ (k .comes)))) (k .comes) (sym (ap (isRowAbsentOrEmpty dictionaryRows b) e) ∙ f)
+    item-put inRecordResponse b (primitiveItem tagRecordTemplate (o .tag) (o .value)) (findRow dictionaryRows (o .tag))
+    refl (k .place) (k .found)
+    (both-no-right _ _ (ap not (both-left _ _ (k .comes)))) (k .comes)
+    (sym (ap (isRowAbsentOrEmpty dictionaryRows b) e) ∙ f)
     ∙ ap (λ (i : ℕ). storingState true (putRow dictionaryRows b i (o .value))) (sym e)
 
-take-leaves : (b : List ℕ) (os : List Object) → every tagAndValueAllowedInRecord os ≡ true → tagsDistinct os ≡ true → length b ≡ storeSize → FreeIn b os
-    → storeAllItems inRecordResponse (storingState true b) (primitiveItems tagRecordTemplate (leaves os)) ≡ storingState true (putObjects b os)
+take-leaves : (b : List ℕ) (os : List Object) → every tagAndValueAllowedInRecord os ≡ true → tagsDistinct os ≡ true
+    → length b ≡ storeSize → FreeIn b os
+    → storeAllItems inRecordResponse (storingState true b) (primitiveItems tagRecordTemplate (leaves os))
+    ≡ storingState true (putObjects b os)
 unfolding primitiveItems storeAllItems putObjects every tagsDistinct leaves
 take-leaves b [] e d l f = refl
 take-leaves b (o ∷ os) e d l f =
-    ap (λ (w : StoringState). storeAllItems inRecordResponse w (primitiveItems tagRecordTemplate (leaves os))) (next-good inRecordResponse b (primitiveItem tagRecordTemplate (o .tag) (o .value)) refl ∙ take-one b o (both-left _ _ e) (f .0))
+    ap (λ (w : StoringState). storeAllItems inRecordResponse w (primitiveItems tagRecordTemplate (leaves os)))
+    (next-good inRecordResponse b (primitiveItem tagRecordTemplate (o .tag) (o .value)) refl ∙ take-one b o
+    (both-left _ _ e) (f .0))
     ∙ take-leaves (put b o) os (both-right _ _ e) (both-right _ _ d) (put-size b o (both-left _ _ e) l)
     (free-put b o os (both-left _ _ e) (both-right _ _ e) (both-left _ _ d) l (f .1))
 
@@ -94,7 +106,8 @@ template-is : isTemplate tagRecordTemplate ≡ true
 unfolding isTemplate tagFirstByte if
 template-is = refl
 
-module _ (os : List Object) (e : every tagAndValueAllowedInRecord os ≡ true) (h : length (encodedObjects os) ≤ mostRecordContentBytes) where
+module _ (os : List Object) (e : every tagAndValueAllowedInRecord os ≡ true)
+    (h : length (encodedObjects os) ≤ mostRecordContentBytes) where
   abbrev inner : List ℕ
   inner = encodedObjects os
 
@@ -109,7 +122,8 @@ module _ (os : List Object) (e : every tagAndValueAllowedInRecord os ≡ true) (
 
   value : headerValue whole (tlvHeader tagRecordTemplate from (length inner)) ≡ inner
   value =
-      ap (take (length inner)) (drop-append-add (tagBytes tagRecordTemplate) (lengthBytes (length inner) ++ inner) (length (lengthBytes (length inner)))
+      ap (take (length inner)) (drop-append-add (tagBytes tagRecordTemplate) (lengthBytes (length inner) ++ inner)
+      (length (lengthBytes (length inner)))
       ∙ drop-append-seam (lengthBytes (length inner)) inner) ∙ take-length inner
 
   body : parseResponseBody whole ≡ some (template tagRecordTemplate (leaves os))
@@ -118,13 +132,20 @@ module _ (os : List Object) (e : every tagAndValueAllowedInRecord os ≡ true) (
       ap (bodyOfOneObject whole) head
       ∙ if-yes _ _ (eq-eqb (from + length inner) (length whole) (omega (arith, object-length tagRecordTemplate inner)))
       ∙ if-yes _ _ template-is
-      ∙ ap (templateBody tagRecordTemplate) (ap (parseTree 3) (value ∙ sym (encoded os)) ∙ parse-encode (leaves os) 3 (encodable os e))
+      ∙ ap (templateBody tagRecordTemplate) (ap (parseTree 3) (value ∙ sym (encoded os)) ∙ parse-encode (leaves os) 3
+      (encodable os e))
 
   -- at most 256 bytes
   whole-most : length whole ≤ 256
-  whole-most = omega (arith, object-length tagRecordTemplate inner, ap length (tag-one tagRecordTemplate (omega arith)), length-most (length inner) (omega arith))
+  whole-most = omega (
+    arith,
+    object-length tagRecordTemplate inner,
+    ap length (tag-one tagRecordTemplate (omega arith)),
+    length-most (length inner) (omega arith),
+  )
 
-  module _ (b : List ℕ) (d : tagsDistinct os ≡ true) (l : length b ≡ storeSize) (f : FreeIn b os) (r : CardRecord) (sfi : r .sfi ≤ 10) where
+  module _ (b : List ℕ) (d : tagsDistinct os ≡ true) (l : length b ≡ storeSize) (f : FreeIn b os) (r : CardRecord)
+      (sfi : r .sfi ≤ 10) where
     abbrev awaited : Awaited
     awaited = Awaited.Record (record { number = r .sfi })
 
@@ -132,7 +153,8 @@ module _ (os : List Object) (e : every tagAndValueAllowedInRecord os ≡ true) (
     unfolding readBody templateBodyItems
     read-body =
         ap (readParsedBody awaited b) body
-        ∙ ap (readBodyItems awaited b (1 + objectCount (leaves os))) (if-yes (some (primitiveItems tagRecordTemplate (leaves os))) none refl)
+        ∙ ap (readBodyItems awaited b (1 + objectCount (leaves os)))
+        (if-yes (some (primitiveItems tagRecordTemplate (leaves os))) none refl)
         ∙ ap (readingIfAllAllowed b (1 + objectCount (leaves os))) (take-leaves b os e d l f) ∙ if-yes _ _ refl
 
     abbrev answer : List ℕ
@@ -143,15 +165,18 @@ module _ (os : List Object) (e : every tagAndValueAllowedInRecord os ≡ true) (
 
     good-length : responseLengthIs2To258 answer ≡ true
     unfolding responseLengthIs2To258
-    good-length = both-yes _ _ (le-leb 2 (length answer) (omega (arith, size))) (le-leb (length answer) 258 (omega (arith, size, whole-most)))
+    good-length = both-yes _ _ (le-leb 2 (length answer) (omega (arith, size)))
+        (le-leb (length answer) 258 (omega (arith, size, whole-most)))
 
     good-status : isStatus9000 answer ≡ true
     unfolding isStatus9000
     good-status =
         let x : length answer - 2 ≡ length whole + 0 = omega (arith, size) in
         let y : length answer - 1 ≡ length whole + 1 = omega (arith, size) in
-        both-yes _ _ (ap (λ (i : ℕ). eqb (getD answer i 0) 0x90) x ∙ ap (λ (i : ℕ). eqb i 0x90) (getD-append-add whole (0x90 ∷ 0x00 ∷ []) 0 0))
-        (ap (λ (i : ℕ). eqb (getD answer i 0) 0) y ∙ ap (λ (i : ℕ). eqb i 0) (getD-append-add whole (0x90 ∷ 0x00 ∷ []) 1 0))
+        both-yes _ _ (ap (λ (i : ℕ). eqb (getD answer i 0) 0x90) x ∙ ap (λ (i : ℕ). eqb i 0x90)
+        (getD-append-add whole (0x90 ∷ 0x00 ∷ []) 0 0))
+        (ap (λ (i : ℕ). eqb (getD answer i 0) 0) y ∙ ap (λ (i : ℕ). eqb i 0)
+        (getD-append-add whole (0x90 ∷ 0x00 ∷ []) 1 0))
 
     read-one : readRecordWith9000 b r whole ≡ readingOutcome reasonNone (1 + objectCount (leaves os)) (putObjects b os)
     unfolding readAnswer isBodyToBeRead
@@ -185,7 +210,8 @@ every-second g (a ∷ x) y e = every-second g x y (both-right _ _ e)
 distinct-first : (x y : List Object) → tagsDistinct (x ++ y) ≡ true → tagsDistinct x ≡ true
 unfolding tagsDistinct lacksTag
 distinct-first [] y e = refl
-distinct-first (o ∷ x) y e = both-yes _ _ (every-first (λ z. not (eqb (z .tag) (o .tag))) x y (both-left _ _ e)) (distinct-first x y (both-right _ _ e))
+distinct-first (o ∷ x) y e = both-yes _ _ (every-first (λ z. not (eqb (z .tag) (o .tag))) x y (both-left _ _ e))
+    (distinct-first x y (both-right _ _ e))
 
 distinct-second : (x y : List Object) → tagsDistinct (x ++ y) ≡ true → tagsDistinct y ≡ true
 unfolding tagsDistinct
@@ -205,13 +231,15 @@ pub files-of : (es : List AflEntry) → every sfiInRange es ≡ true → every r
 unfolding recordsOfEntries every
 files-of [] e = refl
 files-of (x ∷ es) e =
-    every-join read-sfi (entryRecords x) (recordsOfEntries es) (files-from (entrySfi x) (x .first) (entryRecordCount x) (leb-true (entrySfi x) 10 (both-right _ _ (both-left _ _ e))))
+    every-join read-sfi (entryRecords x) (recordsOfEntries es) (files-from (entrySfi x) (x .first) (entryRecordCount x)
+    (leb-true (entrySfi x) 10 (both-right _ _ (both-left _ _ e))))
     (files-of es (both-right _ _ e))
 
 pub read-all : (os : List Object) (ps : List Placement) (rs : List CardRecord) (k : ℕ) (b : List ℕ)
     → every read-sfi rs ≡ true
     → ((i : ℕ) → k ≤ i → i < k + length rs → length (recordContent os ps i) ≤ mostRecordContentBytes)
-    → every tagAndValueAllowedInRecord (ordered ps k (length rs) 1 os) ≡ true → tagsDistinct (ordered ps k (length rs) 1 os) ≡ true
+    → every tagAndValueAllowedInRecord (ordered ps k (length rs) 1 os) ≡ true
+    → tagsDistinct (ordered ps k (length rs) 1 os) ≡ true
     → length b ≡ storeSize → FreeIn b (ordered ps k (length rs) 1 os)
     → readAllRecords b rs (records os ps k (length rs)) ≡ some (putObjects b (ordered ps k (length rs) 1 os))
 unfolding readAllRecords records ordered every putObjects
@@ -220,8 +248,10 @@ read-all os ps (r ∷ rs) k b g h e d l f =
     let x = objectsInRecordFrom ps k 1 os in
     let y = ordered ps (suc k) (length rs) 1 os in
     let z = free-behind b x y e d l f in
-    let q = read-one x (every-first tagAndValueAllowedInRecord x y e) (h k (omega arith) (omega arith)) b (distinct-first x y d) l (free-first b x y f) r (leb-true (r .sfi) 10 (both-left _ _ g)) in
+    let q = read-one x (every-first tagAndValueAllowedInRecord x y e) (h k (omega arith) (omega arith)) b
+    (distinct-first x y d) l (free-first b x y f) r (leb-true (r .sfi) 10 (both-left _ _ g)) in
     ap (λ (o : ReadingOutcome). readOnIfAccepted o (λ c. readAllRecords c rs (records os ps (suc k) (length rs)))) q
     ∙ if-yes _ _ refl
-    ∙ read-all os ps rs (suc k) (putObjects b x) (both-right _ _ g) (λ i m n. h i (omega arith) (omega arith)) (every-second tagAndValueAllowedInRecord x y e) (distinct-second x y d) (z .0) (z .1)
+    ∙ read-all os ps rs (suc k) (putObjects b x) (both-right _ _ g) (λ i m n. h i (omega arith) (omega arith))
+    (every-second tagAndValueAllowedInRecord x y e) (distinct-second x y d) (z .0) (z .1)
     ∙ ap some (sym (put-join b x y))

@@ -9,7 +9,8 @@ use Prim.Native.Nat.{ℕ, zero, suc, _+_, _-_, _<_, _≤_}
 use native.Mathlib.Omega.{arith}
 use borrow.Author.Tests.{eq-eqb, ne-eqb, eqb-true, leb-true, le-leb}
 use Rattle.basics.specs.Choice.{both, every}
-use Rattle.basics.proofs.Laws.{bool-cases, both-yes, both-true, both-left, both-right, both-no-left, both-no-right, both-assoc}
+use Rattle.basics.proofs.Laws.{bool-cases, both-yes, both-true, both-left, both-right, both-no-left, both-no-right}
+use Rattle.basics.proofs.Laws.{both-assoc}
 use Rattle.basics.proofs.Order.{le-or-gt, equal-or-not}
 use Rattle.afl.specs.declared.AflEntry.{AflEntry}
 use Rattle.afl.specs.declared.CardRecord.{CardRecord}
@@ -40,7 +41,8 @@ regroup true false true d e = refl
 regroup true false false d e = refl
 regroup false b c d e = refl
 
-twice-join : (x y : List CardRecord) → noRecordTwice (x ++ y) ≡ both (noRecordTwice x) (both (every (λ r. lacksRecord r y) x) (noRecordTwice y))
+twice-join : (x y : List CardRecord) → noRecordTwice (x ++ y) ≡ both (noRecordTwice x)
+    (both (every (λ r. lacksRecord r y) x) (noRecordTwice y))
 unfolding noRecordTwice lacksRecord every both
 twice-join [] y = refl
 twice-join (r ∷ x) y =
@@ -56,7 +58,8 @@ one f n = record { sfi = f; number = n }
 lacks-above : (f g n m k : ℕ) → n < m → lacksRecord (one f n) (consecutiveRecords g m k) ≡ true
 unfolding lacksRecord consecutiveRecords every one
 lacks-above f g n m zero h = refl
-lacks-above f g n m (suc k) h = both-yes _ _ (ap not (both-no-right _ _ (ne-eqb n m (λ e. omega arith)))) (lacks-above f g n (m + 1) k (omega arith))
+lacks-above f g n m (suc k) h = both-yes _ _ (ap not (both-no-right _ _ (ne-eqb n m (λ e. omega arith))))
+    (lacks-above f g n (m + 1) k (omega arith))
 
 run-once : (f n k : ℕ) → noRecordTwice (consecutiveRecords f n k) ≡ true
 unfolding noRecordTwice consecutiveRecords one
@@ -72,15 +75,19 @@ lacks-other f g n m (suc k) h = both-yes _ _ (ap not (both-no-left _ _ (ne-eqb f
 lacks-below : (f g n m k : ℕ) → m + k ≤ n → lacksRecord (one f n) (consecutiveRecords g m k) ≡ true
 unfolding lacksRecord consecutiveRecords every one
 lacks-below f g n m zero h = refl
-lacks-below f g n m (suc k) h = both-yes _ _ (ap not (both-no-right _ _ (ne-eqb n m (λ e. omega arith)))) (lacks-below f g n (m + 1) k (omega arith))
+lacks-below f g n m (suc k) h = both-yes _ _ (ap not (both-no-right _ _ (ne-eqb n m (λ e. omega arith))))
+    (lacks-below f g n (m + 1) k (omega arith))
 
 -- what holds of each of them
-every-run : (P : CardRecord → Bool) (f n k : ℕ) → ((i : ℕ) → n ≤ i → i < n + k → P (one f i) ≡ true) → every P (consecutiveRecords f n k) ≡ true
+every-run : (P : CardRecord → Bool) (f n k : ℕ) → ((i : ℕ) → n ≤ i → i < n + k → P (one f i) ≡ true)
+    → every P (consecutiveRecords f n k) ≡ true
 unfolding consecutiveRecords every one
 every-run P f n zero h = refl
-every-run P f n (suc k) h = both-yes _ _ (h n (omega arith) (omega arith)) (every-run P f (n + 1) k (λ i a b. h i (omega arith) (omega arith)))
+every-run P f n (suc k) h = both-yes _ _ (h n (omega arith) (omega arith))
+    (every-run P f (n + 1) k (λ i a b. h i (omega arith) (omega arith)))
 
-at-run : (P : CardRecord → Bool) (f n k : ℕ) → every P (consecutiveRecords f n k) ≡ true → (i : ℕ) → n ≤ i → i < n + k → P (one f i) ≡ true
+at-run : (P : CardRecord → Bool) (f n k : ℕ) → every P (consecutiveRecords f n k) ≡ true → (i : ℕ) → n ≤ i → i < n + k
+    → P (one f i) ≡ true
 unfolding consecutiveRecords every one
 at-run P f n zero e i a b = absurd (omega arith)
 at-run P f n (suc k) e i a b = elim (equal-or-not n i) [
@@ -105,18 +112,23 @@ module _ (e f : AflEntry) (p : e .first ≤ e .last) (q : f .first ≤ f .last) 
           | inr g ↦ lacks-above (entrySfi e) (entrySfi f) i (f .first) (entryRecordCount f) g
           | inl g ↦ elim (le-or-gt (f .first + entryRecordCount f) i) [
             | inl h ↦ lacks-below (entrySfi e) (entrySfi f) i (f .first) (entryRecordCount f) h
-            | inr h ↦ absurd (let y : entriesOverlap e f ≡ true = both-yes _ _ (eq-eqb _ _ s) (both-yes _ _ (le-leb (e .first) (f .last) (omega arith)) (le-leb (f .first) (e .last) (omega arith))) in
+            | inr h ↦ absurd (let y : entriesOverlap e f ≡ true = both-yes _ _ (eq-eqb _ _ s)
+                (both-yes _ _ (le-leb (e .first) (f .last) (omega arith)) (le-leb (f .first) (e .last) (omega arith)))
+                in
                 let z : _≡_ {A = ℕ} 0 1 = cc in omega arith)
           ]
         ]
       ])
 
   -- a record that both name
-  common : (i : ℕ) → entrySfi e ≡ entrySfi f → e .first ≤ i → i ≤ e .last → f .first ≤ i → i ≤ f .last → both-lack ≡ true → ⊥
+  common : (i : ℕ) → entrySfi e ≡ entrySfi f → e .first ≤ i → i ≤ e .last → f .first ≤ i → i ≤ f .last
+      → both-lack ≡ true → ⊥
   unfolding both-lack lacksRecord one
   common i s a b c d h =
-      let x = at-run (λ r. lacksRecord r (entryRecords f)) (entrySfi e) (e .first) (entryRecordCount e) h i a (omega arith) in
-      let y = at-run (λ r. not (sameRecord (one (entrySfi e) i) r)) (entrySfi f) (f .first) (entryRecordCount f) x i c (omega arith) in
+      let x = at-run (λ r. lacksRecord r (entryRecords f)) (entrySfi e) (e .first) (entryRecordCount e) h i a
+      (omega arith) in
+      let y = at-run (λ r. not (sameRecord (one (entrySfi e) i) r)) (entrySfi f) (f .first) (entryRecordCount f) x i c
+      (omega arith) in
       let z : sameRecord (one (entrySfi e) i) (one (entrySfi f) i) ≡ true = same i s in
       let w : _≡_ {A = ℕ} 0 1 = cc in omega arith
     where
@@ -127,14 +139,14 @@ module _ (e f : AflEntry) (p : e .first ≤ e .last) (q : f .first ≤ f .last) 
   meet-not m = elim (bool-cases both-lack) [
     | inr n ↦ n
     | inl y ↦ absurd (
-      let s : entrySfi e ≡ entrySfi f = eqb-true _ _ (both-left _ _ m) in
-      let a : e .first ≤ f .last = leb-true _ _ (both-left _ _ (both-right _ _ m)) in
-      let b : f .first ≤ e .last = leb-true _ _ (both-right _ _ (both-right _ _ m)) in
-      elim (le-or-gt (f .first) (e .first)) [
-        | inl g ↦ common (e .first) s (omega arith) p g a y
-        | inr g ↦ common (f .first) s (omega arith) b (omega arith) q y
-      ]
-    )
+        let s : entrySfi e ≡ entrySfi f = eqb-true _ _ (both-left _ _ m) in
+        let a : e .first ≤ f .last = leb-true _ _ (both-left _ _ (both-right _ _ m)) in
+        let b : f .first ≤ e .last = leb-true _ _ (both-right _ _ (both-right _ _ m)) in
+        elim (le-or-gt (f .first) (e .first)) [
+          | inl g ↦ common (e .first) s (omega arith) p g a y
+          | inr g ↦ common (f .first) s (omega arith) b (omega arith) q y
+        ]
+        )
   ]
 
   lack-is : both-lack ≡ not (entriesOverlap e f)
@@ -145,7 +157,8 @@ module _ (e f : AflEntry) (p : e .first ≤ e .last) (q : f .first ≤ f .last) 
 
 -- ---- all entries
 
-order-of : (e : AflEntry) (es : List AflEntry) → every recordsInOrder (e ∷ es) ≡ true → (e .first ≤ e .last) × (every recordsInOrder es ≡ true)
+order-of : (e : AflEntry) (es : List AflEntry) → every recordsInOrder (e ∷ es) ≡ true
+    → (e .first ≤ e .last) × (every recordsInOrder es ≡ true)
 unfolding every
 order-of e es k = (leb-true _ _ (both-left _ _ k), both-right _ _ k)
 
@@ -155,7 +168,8 @@ unfolding recordsOfEntries every lacksRecord both-lack both
 lack-all e [] p k = every-true (λ r. true) (λ r. refl) (entryRecords e)
 lack-all e (f ∷ es) p k =
     let o = order-of f es k in
-    every-same _ _ (λ r. every-append (λ s. not (sameRecord r s)) (entryRecords f) (recordsOfEntries es)) (entryRecords e)
+    every-same _ _ (λ r. every-append (λ s. not (sameRecord r s)) (entryRecords f) (recordsOfEntries es))
+    (entryRecords e)
     ∙ every-split (λ r. lacksRecord r (entryRecords f)) (λ r. lacksRecord r (recordsOfEntries es)) (entryRecords e)
     ∙ ap₂ both (lack-is e f p (o .0)) (lack-all e es p (o .1))
 

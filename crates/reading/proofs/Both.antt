@@ -35,10 +35,12 @@ module _ (a : Awaited) (s b : List ℕ) (r : Reading) (c : List ℕ) (p : Whole 
   agree d q e o z =
       let same : readAnswer a b s ≡ readAnswer a d s = ap (λ (x : List ℕ). readAnswer a x s) z in
       let number : verdictNumber (r .verdict) ≡ verdictNumber (q .verdict) = p .0 .reason
-          ∙ ap (λ (x : ReadingOutcome). x .reason) same ∙ sym (o .0 .reason) in
+      ∙ ap (λ (x : ReadingOutcome). x .reason) same ∙ sym (o .0 .reason) in
       let objects : r .objects ≡ q .objects = p .0 .objects ∙ ap (λ (x : ReadingOutcome). x .objects) same
-          ∙ sym (o .0 .objects) in
+      ∙ sym (o .0 .objects) in
       let verdict : r .verdict ≡ q .verdict = verdict-is (r .verdict) ∙ ap verdictOf number
-          ∙ sym (verdict-is (q .verdict)) in
-      record { readings = ap₂ readingOf verdict objects;
-          stores = p .0 .store ∙ ap (λ (x : ReadingOutcome). x .store) same ∙ sym (o .0 .store) }
+      ∙ sym (verdict-is (q .verdict)) in
+      record {
+        readings = ap₂ readingOf verdict objects;
+        stores = p .0 .store ∙ ap (λ (x : ReadingOutcome). x .store) same ∙ sym (o .0 .store);
+      }

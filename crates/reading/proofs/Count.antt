@@ -21,8 +21,10 @@ use Rattle.tlv.proofs.Tree.{parse-end, parse-leaf, parse-node, parse-count}
 use Rattle.reading.specs.declared.Awaited.{Awaited}
 use Rattle.reading.specs.declared.Reading.{Reading}
 use Rattle.reading.specs.Taking.{PrimitiveItem}
-use Rattle.reading.specs.Answer.{ReadingOutcome, ReadingAndStoreMatchOutcome, ResponseBody, template, templateBody, parseResponseBody}
-use Rattle.reading.specs.Answer.{bodyObjectCount, responseBodyItems, readBodyItems, readParsedBody, readBody, readAnswer}
+use Rattle.reading.specs.Answer.{ReadingOutcome, ReadingAndStoreMatchOutcome, ResponseBody, template}
+use Rattle.reading.specs.Answer.{templateBody, parseResponseBody}
+use Rattle.reading.specs.Answer.{bodyObjectCount, responseBodyItems, readBodyItems, readParsedBody, readBody}
+use Rattle.reading.specs.Answer.{readAnswer}
 use Rattle.reading.specs.Count.{objectSpansAllBytes, treeObjectCount, objectCountInBody, objectCountInAnswer}
 use Rattle.reading.proofs.Parts.{body-broken, body-behind, body-template, body-primitive}
 
@@ -65,7 +67,7 @@ module _ (s : List ℕ) where
       alone = elim (bool-cases (h .template)) [
         | inl t ↦
             of-tree _ (parse-node 4 s h (next-object s h e) t (λ z. omega arith)
-                ∙ ap (prependNode (h .tag) (parseTree 3 (headerValue s h))) none-behind)
+            ∙ ap (prependNode (h .tag) (parseTree 3 (headerValue s h))) none-behind)
             ∙ node-alone (h .tag) (parseTree 3 (headerValue s h)) ∙ sym (ap stepCount (body-template s h e z t))
         | inr t ↦
             of-tree _ (parse-leaf 4 s h (next-object s h e) t ∙ ap (prependLeaf (h .tag) (headerValue s h)) none-behind)

@@ -17,10 +17,13 @@ use Rattle.dictionary.specs.Form.{isNumeric, digitsMatchForm, lengthAndDigitsFi
 use Rattle.store.specs.Place.{rowOffset, rowPlaceBytes, valueInPlace, rowValue, putRow, objectValueIn}
 use Rattle.reading.specs.declared.Awaited.{Awaited}
 use Rattle.reading.specs.declared.Awaited.the-variants.{Gpo, Record, Cryptogram}
-use Rattle.reading.specs.Taking.{primitiveItems, allowedInTemplate, rowAllowsValueFromCard, rowAllowsValueAndAbsentOrEmpty, storeItem}
+use Rattle.reading.specs.Taking.{primitiveItems, allowedInTemplate, rowAllowsValueFromCard}
+use Rattle.reading.specs.Taking.{rowAllowsValueAndAbsentOrEmpty, storeItem}
 use Rattle.reading.specs.Taking.{storeNextItem, storeAllItems}
-use Rattle.reading.specs.Answer.{ReadingOutcome, parseResponseBody, gpoItemsUnder80, iadItemIfAny, cryptogramItemsUnder80, primitiveBodyItems}
-use Rattle.reading.specs.Answer.{templateBodyItems, readBody, isBodyToBeRead, isStatus9000, responseLengthIs2To258, readAnswer}
+use Rattle.reading.specs.Answer.{ReadingOutcome, parseResponseBody, gpoItemsUnder80, iadItemIfAny}
+use Rattle.reading.specs.Answer.{cryptogramItemsUnder80, primitiveBodyItems}
+use Rattle.reading.specs.Answer.{templateBodyItems, readBody, isBodyToBeRead, isStatus9000}
+use Rattle.reading.specs.Answer.{responseLengthIs2To258, readAnswer}
 
 -- the reason's number and the object count
 abbrev said : ReadingOutcome → List ℕ
@@ -50,7 +53,8 @@ lengths = refl
 -- 90 00, 90 01 and 91 00 after no body, for the last file that is read and the first that is not
 statuses : map (answer (sfi 10)) ((0x90 ∷ 0x00 ∷ []) ∷ (0x90 ∷ 0x01 ∷ []) ∷ (0x91 ∷ 0x00 ∷ []) ∷ []) ≡ (2 ∷ 0 ∷ []) ∷
     (1 ∷ 0 ∷ []) ∷ (1 ∷ 0 ∷ []) ∷ []
-unfolding readAnswer responseLengthIs2To258 isStatus9000 isBodyToBeRead readBody parseResponseBody headerOf tagAt tagSize if both
+unfolding readAnswer responseLengthIs2To258 isStatus9000 isBodyToBeRead readBody parseResponseBody headerOf tagAt
+    tagSize if both
 statuses = refl
 
 unread : map (answer (sfi 11)) ((0x90 ∷ 0x00 ∷ []) ∷ (0x90 ∷ 0x01 ∷ []) ∷ (0x70 ∷ 0x00 ∷ 0x90 ∷ 0x00 ∷ []) ∷ []) ≡
@@ -62,26 +66,33 @@ unread = refl
 gpo : map (λ n. body Gpo (under80 n)) (5 ∷ 6 ∷ 7 ∷ 250 ∷ 251 ∷ 254 ∷ [])
     ≡ (2 ∷ 1 ∷ []) ∷ (0 ∷ 1 ∷ []) ∷ (2 ∷ 1 ∷ []) ∷ (0 ∷ 1 ∷ []) ∷ (2 ∷ 1 ∷ []) ∷ (2 ∷ 1 ∷ []) ∷ []
 unfolding readBody parseResponseBody headerOf tagAt tagSize lengthAt lengthAfter81 tagFirstByte isTemplate isPrivate
-    appendBigEndianBytes if both primitiveBodyItems gpoItemsUnder80 storeAllItems storeNextItem storeItem dictionaryRows rowFoundShifted findRow rowAllowsValueAndAbsentOrEmpty
-    rowAllowsValueFromCard allowedInTemplate lengthAndDigitsFitRow digitsMatchForm rowOffset rowPlaceBytes valueInPlace rowValue putRow objectValueIn
+    appendBigEndianBytes if both primitiveBodyItems gpoItemsUnder80 storeAllItems storeNextItem storeItem dictionaryRows
+    rowFoundShifted findRow rowAllowsValueAndAbsentOrEmpty
+    rowAllowsValueFromCard allowedInTemplate lengthAndDigitsFitRow digitsMatchForm rowOffset rowPlaceBytes valueInPlace
+    rowValue putRow objectValueIn
 gpo = refl
 
 -- a cryptogram under 80: 11 to 43 bytes
 cryptograms : map (λ n. body Cryptogram (under80 n)) (10 ∷ 11 ∷ 12 ∷ 43 ∷ 44 ∷ [])
     ≡ (2 ∷ 1 ∷ []) ∷ (0 ∷ 1 ∷ []) ∷ (0 ∷ 1 ∷ []) ∷ (0 ∷ 1 ∷ []) ∷ (2 ∷ 1 ∷ []) ∷ []
-unfolding readBody parseResponseBody headerOf tagAt tagSize tagSizeFromSecondByte lengthAt lengthAfter81 tagFirstByte isTemplate
-    isPrivate appendBigEndianBytes if both primitiveBodyItems cryptogramItemsUnder80 iadItemIfAny storeAllItems storeNextItem storeItem dictionaryRows
-    rowFoundShifted findRow rowAllowsValueAndAbsentOrEmpty rowAllowsValueFromCard allowedInTemplate lengthAndDigitsFitRow digitsMatchForm rowOffset rowPlaceBytes valueInPlace
+unfolding readBody parseResponseBody headerOf tagAt tagSize tagSizeFromSecondByte lengthAt lengthAfter81 tagFirstByte
+    isTemplate
+    isPrivate appendBigEndianBytes if both primitiveBodyItems cryptogramItemsUnder80 iadItemIfAny storeAllItems
+    storeNextItem storeItem dictionaryRows
+    rowFoundShifted findRow rowAllowsValueAndAbsentOrEmpty rowAllowsValueFromCard allowedInTemplate
+    lengthAndDigitsFitRow digitsMatchForm rowOffset rowPlaceBytes valueInPlace
     rowValue putRow objectValueIn
 cryptograms = refl
 
 -- four levels of templates, and five
 levels : map (body (sfi 1))
     ((0x70 ∷ 0x06 ∷ 0xE1 ∷ 0x04 ∷ 0xE1 ∷ 0x02 ∷ 0xE1 ∷ 0x00 ∷ []) ∷
-        (0x70 ∷ 0x08 ∷ 0xE1 ∷ 0x06 ∷ 0xE1 ∷ 0x04 ∷ 0xE1 ∷ 0x02 ∷ 0xE1 ∷ 0x00 ∷ []) ∷ [])
+    (0x70 ∷ 0x08 ∷ 0xE1 ∷ 0x06 ∷ 0xE1 ∷ 0x04 ∷ 0xE1 ∷ 0x02 ∷ 0xE1 ∷ 0x00 ∷ []) ∷ [])
     ≡ (0 ∷ 4 ∷ []) ∷ (2 ∷ 0 ∷ []) ∷ []
-unfolding readBody parseResponseBody headerOf tagAt tagSize lengthAt tagFirstByte isTemplate isPrivate appendBigEndianBytes if both
-    parseTree recurseWithFuelFromLength recurseWithFuel nextInTemplate prependNode objectCount templateBodyItems primitiveItems storeAllItems
+unfolding readBody parseResponseBody headerOf tagAt tagSize lengthAt tagFirstByte isTemplate isPrivate
+    appendBigEndianBytes if both
+    parseTree recurseWithFuelFromLength recurseWithFuel nextInTemplate prependNode objectCount templateBodyItems
+    primitiveItems storeAllItems
 levels = refl
 
 -- a wrong outer tag keeps the count, and so does an object that is not allowed; a second object, or a byte after,
@@ -97,17 +108,22 @@ counts : map (body (sfi 1))
     ∷ (0x70 ∷ 0x04 ∷ 0x82 ∷ 0x02 ∷ 0x19 ∷ 0x80 ∷ [])
     ∷ [])
     ≡ (2 ∷ 1 ∷ []) ∷ (2 ∷ 2 ∷ []) ∷ (2 ∷ 1 ∷ []) ∷ (2 ∷ 1 ∷ []) ∷ (2 ∷ 0 ∷ []) ∷ (2 ∷ 0 ∷ []) ∷ (3 ∷ 2 ∷ []) ∷ []
-unfolding readBody parseResponseBody headerOf tagAt tagSize lengthAt tagFirstByte isTemplate isPrivate appendBigEndianBytes if both
-    parseTree recurseWithFuelFromLength recurseWithFuel nextInTemplate prependLeaf prependNode objectCount primitiveBodyItems templateBodyItems primitiveItems
-    storeAllItems storeNextItem storeItem dictionaryRows rowFoundShifted findRow rowAllowsValueAndAbsentOrEmpty rowAllowsValueFromCard allowedInTemplate
+unfolding readBody parseResponseBody headerOf tagAt tagSize lengthAt tagFirstByte isTemplate isPrivate
+    appendBigEndianBytes if both
+    parseTree recurseWithFuelFromLength recurseWithFuel nextInTemplate prependLeaf prependNode objectCount
+    primitiveBodyItems templateBodyItems primitiveItems
+    storeAllItems storeNextItem storeItem dictionaryRows rowFoundShifted findRow rowAllowsValueAndAbsentOrEmpty
+    rowAllowsValueFromCard allowedInTemplate
 counts = refl
 
 -- 70 for the other two answers, and 57 in place of 80
 others : map (body Gpo) ((0x70 ∷ 0x00 ∷ []) ∷ (0x57 ∷ 0x00 ∷ []) ∷ (0x77 ∷ 0x00 ∷ []) ∷ []) ++ map (body Cryptogram)
     ((0x70 ∷ 0x00 ∷ []) ∷ (0x57 ∷ 0x00 ∷ []) ∷ (0x77 ∷ 0x00 ∷ []) ∷ [])
     ≡ (2 ∷ 1 ∷ []) ∷ (2 ∷ 1 ∷ []) ∷ (0 ∷ 1 ∷ []) ∷ (2 ∷ 1 ∷ []) ∷ (2 ∷ 1 ∷ []) ∷ (0 ∷ 1 ∷ []) ∷ []
-unfolding readBody parseResponseBody headerOf tagAt tagSize lengthAt tagFirstByte isTemplate isPrivate appendBigEndianBytes if both
-    parseTree recurseWithFuelFromLength recurseWithFuel nextInTemplate objectCount primitiveBodyItems templateBodyItems primitiveItems storeAllItems
+unfolding readBody parseResponseBody headerOf tagAt tagSize lengthAt tagFirstByte isTemplate isPrivate
+    appendBigEndianBytes if both
+    parseTree recurseWithFuelFromLength recurseWithFuel nextInTemplate objectCount primitiveBodyItems templateBodyItems
+    primitiveItems storeAllItems
 others = refl
 
 -- ---- padding (document 02, Item 6)
@@ -124,9 +140,12 @@ padded : map (body (sfi 1))
     ∷ (0x70 ∷ 0x0A ∷ 0x00 ∷ 0xE1 ∷ 0x07 ∷ 0x00 ∷ 0xE1 ∷ 0x04 ∷ 0x00 ∷ 0xE1 ∷ 0x01 ∷ 0x00 ∷ [])
     ∷ [])
     ≡ (0 ∷ 1 ∷ []) ∷ (0 ∷ 2 ∷ []) ∷ (0 ∷ 2 ∷ []) ∷ (0 ∷ 3 ∷ []) ∷ (0 ∷ 3 ∷ []) ∷ (0 ∷ 4 ∷ []) ∷ (0 ∷ 4 ∷ []) ∷ []
-unfolding readBody parseResponseBody headerOf tagAt tagSize tagSizeFromSecondByte lengthAt tagFirstByte isTemplate isPrivate
-    appendBigEndianBytes if both parseTree recurseWithFuelFromLength recurseWithFuel nextInTemplate prependLeaf prependNode objectCount templateBodyItems primitiveItems
-    storeAllItems storeNextItem storeItem dictionaryRows rowFoundShifted findRow rowAllowsValueAndAbsentOrEmpty rowAllowsValueFromCard allowedInTemplate lengthAndDigitsFitRow
+unfolding readBody parseResponseBody headerOf tagAt tagSize tagSizeFromSecondByte lengthAt tagFirstByte isTemplate
+    isPrivate
+    appendBigEndianBytes if both parseTree recurseWithFuelFromLength recurseWithFuel nextInTemplate prependLeaf
+    prependNode objectCount templateBodyItems primitiveItems
+    storeAllItems storeNextItem storeItem dictionaryRows rowFoundShifted findRow rowAllowsValueAndAbsentOrEmpty
+    rowAllowsValueFromCard allowedInTemplate lengthAndDigitsFitRow
     digitsMatchForm isNumeric nibbles every rowOffset rowPlaceBytes valueInPlace rowValue putRow objectValueIn
 padded = refl
 
@@ -134,10 +153,13 @@ padded = refl
 same-store : readBody (sfi 1) (replicate storeSize 0)
     (0x70 ∷ 0x0D ∷ 0x00 ∷ 0x9F ∷ 0x08 ∷ 0x02 ∷ 0x00 ∷ 0x02 ∷ 0x00 ∷ 0x5F ∷ 0x25 ∷ 0x03 ∷ 0x24 ∷ 0x01 ∷ 0x01 ∷ [])
     ≡ readBody (sfi 1) (replicate storeSize 0)
-        (0x70 ∷ 0x0B ∷ 0x9F ∷ 0x08 ∷ 0x02 ∷ 0x00 ∷ 0x02 ∷ 0x5F ∷ 0x25 ∷ 0x03 ∷ 0x24 ∷ 0x01 ∷ 0x01 ∷ [])
-unfolding readBody parseResponseBody headerOf tagAt tagSize tagSizeFromSecondByte lengthAt tagFirstByte isTemplate isPrivate
-    appendBigEndianBytes if both parseTree recurseWithFuelFromLength recurseWithFuel nextInTemplate prependLeaf prependNode objectCount templateBodyItems primitiveItems
-    storeAllItems storeNextItem storeItem dictionaryRows rowFoundShifted findRow rowAllowsValueAndAbsentOrEmpty rowAllowsValueFromCard allowedInTemplate lengthAndDigitsFitRow
+    (0x70 ∷ 0x0B ∷ 0x9F ∷ 0x08 ∷ 0x02 ∷ 0x00 ∷ 0x02 ∷ 0x5F ∷ 0x25 ∷ 0x03 ∷ 0x24 ∷ 0x01 ∷ 0x01 ∷ [])
+unfolding readBody parseResponseBody headerOf tagAt tagSize tagSizeFromSecondByte lengthAt tagFirstByte isTemplate
+    isPrivate
+    appendBigEndianBytes if both parseTree recurseWithFuelFromLength recurseWithFuel nextInTemplate prependLeaf
+    prependNode objectCount templateBodyItems primitiveItems
+    storeAllItems storeNextItem storeItem dictionaryRows rowFoundShifted findRow rowAllowsValueAndAbsentOrEmpty
+    rowAllowsValueFromCard allowedInTemplate lengthAndDigitsFitRow
     digitsMatchForm isNumeric nibbles every rowOffset rowPlaceBytes valueInPlace rowValue putRow objectValueIn
 same-store = refl
 
@@ -155,16 +177,20 @@ unpadded : map (body (sfi 1))
     ∷ (0x70 ∷ 0x03 ∷ 0x00 ∷ 0x95 ∷ 0x01 ∷ [])
     ∷ [])
     ≡ replicate 9 (2 ∷ 0 ∷ [])
-unfolding readBody parseResponseBody headerOf tagAt tagSize tagSizeFromSecondByte lengthAt tagFirstByte isTemplate isPrivate
-    appendBigEndianBytes if both parseTree recurseWithFuelFromLength recurseWithFuel nextInTemplate prependLeaf prependNode
+unfolding readBody parseResponseBody headerOf tagAt tagSize tagSizeFromSecondByte lengthAt tagFirstByte isTemplate
+    isPrivate
+    appendBigEndianBytes if both parseTree recurseWithFuelFromLength recurseWithFuel nextInTemplate prependLeaf
+    prependNode
 unpadded = refl
 
 -- a wrong outer tag over padding, and an object that is not allowed after it, keep the count
 padded-counts : map (body (sfi 1)) ((0x61 ∷ 0x02 ∷ 0x00 ∷ 0x00 ∷ []) ∷ (0x70 ∷ 0x04 ∷ 0x00 ∷ 0x95 ∷ 0x01 ∷ 0x00 ∷ []) ∷
     [])
     ≡ (2 ∷ 1 ∷ []) ∷ (3 ∷ 2 ∷ []) ∷ []
-unfolding readBody parseResponseBody headerOf tagAt tagSize lengthAt tagFirstByte isTemplate isPrivate appendBigEndianBytes if both
-    parseTree recurseWithFuelFromLength recurseWithFuel nextInTemplate prependLeaf prependNode objectCount templateBodyItems primitiveItems storeAllItems storeNextItem
+unfolding readBody parseResponseBody headerOf tagAt tagSize lengthAt tagFirstByte isTemplate isPrivate
+    appendBigEndianBytes if both
+    parseTree recurseWithFuelFromLength recurseWithFuel nextInTemplate prependLeaf prependNode objectCount
+    templateBodyItems primitiveItems storeAllItems storeNextItem
     storeItem dictionaryRows rowFoundShifted findRow rowAllowsValueAndAbsentOrEmpty rowAllowsValueFromCard
 padded-counts = refl
 
@@ -175,14 +201,18 @@ padded-others : body Gpo
     ∷ body Gpo (0x80 ∷ 0x07 ∷ 0x00 ∷ 0x80 ∷ 0x08 ∷ 0x01 ∷ 0x01 ∷ 0x00 ∷ 0x00 ∷ [])
     ∷ body Gpo (0x80 ∷ 0x06 ∷ 0x00 ∷ 0x80 ∷ 0x08 ∷ 0x01 ∷ 0x01 ∷ 0x00 ∷ [])
     ∷ body Cryptogram
-        (0x77 ∷ 0x18 ∷ 0x00 ∷ 0x9F ∷ 0x27 ∷ 0x01 ∷ 0x40 ∷ 0x00 ∷ 0x9F ∷ 0x36 ∷ 0x02 ∷ 0x00 ∷ 0x01 ∷ 0x00 ∷ 0x9F ∷ 0x26
-        ∷ 0x08 ∷ 0x01 ∷ 0x02 ∷ 0x03 ∷ 0x04 ∷ 0x05 ∷ 0x06 ∷ 0x07 ∷ 0x08 ∷ 0x00 ∷ [])
+    (0x77 ∷ 0x18 ∷ 0x00 ∷ 0x9F ∷ 0x27 ∷ 0x01 ∷ 0x40 ∷ 0x00 ∷ 0x9F ∷ 0x36 ∷ 0x02 ∷ 0x00 ∷ 0x01 ∷ 0x00 ∷ 0x9F ∷ 0x26
+    ∷ 0x08 ∷ 0x01 ∷ 0x02 ∷ 0x03 ∷ 0x04 ∷ 0x05 ∷ 0x06 ∷ 0x07 ∷ 0x08 ∷ 0x00 ∷ [])
     ∷ []
     ≡ (0 ∷ 3 ∷ []) ∷ (2 ∷ 1 ∷ []) ∷ (0 ∷ 1 ∷ []) ∷ (0 ∷ 4 ∷ []) ∷ []
-unfolding readBody parseResponseBody headerOf tagAt tagSize tagSizeFromSecondByte lengthAt tagFirstByte isTemplate isPrivate
-    appendBigEndianBytes if both parseTree recurseWithFuelFromLength recurseWithFuel nextInTemplate prependLeaf prependNode objectCount primitiveBodyItems gpoItemsUnder80
-    templateBodyItems primitiveItems storeAllItems storeNextItem storeItem dictionaryRows rowFoundShifted findRow rowAllowsValueAndAbsentOrEmpty rowAllowsValueFromCard
-    allowedInTemplate lengthAndDigitsFitRow digitsMatchForm rowOffset rowPlaceBytes valueInPlace rowValue putRow objectValueIn
+unfolding readBody parseResponseBody headerOf tagAt tagSize tagSizeFromSecondByte lengthAt tagFirstByte isTemplate
+    isPrivate
+    appendBigEndianBytes if both parseTree recurseWithFuelFromLength recurseWithFuel nextInTemplate prependLeaf
+    prependNode objectCount primitiveBodyItems gpoItemsUnder80
+    templateBodyItems primitiveItems storeAllItems storeNextItem storeItem dictionaryRows rowFoundShifted findRow
+    rowAllowsValueAndAbsentOrEmpty rowAllowsValueFromCard
+    allowedInTemplate lengthAndDigitsFitRow digitsMatchForm rowOffset rowPlaceBytes valueInPlace rowValue putRow
+    objectValueIn
 padded-others = refl
 
 -- ---- templates inside templates (document 02, Item 10, walks the same bytes without recursion)
@@ -204,10 +234,13 @@ nested : map (body (sfi 1))
     ∷ (0x70 ∷ 0x06 ∷ 0xE1 ∷ 0x04 ∷ 0x00 ∷ 0xE1 ∷ 0x00 ∷ 0x00 ∷ [])
     ∷ [])
     ≡ (0 ∷ 3 ∷ []) ∷ (0 ∷ 7 ∷ []) ∷ (2 ∷ 0 ∷ []) ∷ (0 ∷ 5 ∷ []) ∷ (0 ∷ 4 ∷ []) ∷ (3 ∷ 3 ∷ []) ∷ (2 ∷ 0 ∷ []) ∷
-        (0 ∷ 5 ∷ []) ∷ (2 ∷ 0 ∷ []) ∷ (3 ∷ 4 ∷ []) ∷ (0 ∷ 3 ∷ []) ∷ []
-unfolding readBody parseResponseBody headerOf tagAt tagSize tagSizeFromSecondByte lengthAt tagFirstByte isTemplate isPrivate
-    appendBigEndianBytes if both parseTree recurseWithFuelFromLength recurseWithFuel nextInTemplate prependLeaf prependNode objectCount templateBodyItems primitiveItems
-    storeAllItems storeNextItem storeItem dictionaryRows rowFoundShifted findRow rowAllowsValueAndAbsentOrEmpty rowAllowsValueFromCard allowedInTemplate lengthAndDigitsFitRow
+    (0 ∷ 5 ∷ []) ∷ (2 ∷ 0 ∷ []) ∷ (3 ∷ 4 ∷ []) ∷ (0 ∷ 3 ∷ []) ∷ []
+unfolding readBody parseResponseBody headerOf tagAt tagSize tagSizeFromSecondByte lengthAt tagFirstByte isTemplate
+    isPrivate
+    appendBigEndianBytes if both parseTree recurseWithFuelFromLength recurseWithFuel nextInTemplate prependLeaf
+    prependNode objectCount templateBodyItems primitiveItems
+    storeAllItems storeNextItem storeItem dictionaryRows rowFoundShifted findRow rowAllowsValueAndAbsentOrEmpty
+    rowAllowsValueFromCard allowedInTemplate lengthAndDigitsFitRow
     digitsMatchForm isNumeric nibbles every rowOffset rowPlaceBytes valueInPlace rowValue putRow objectValueIn
 nested = refl
 
@@ -223,9 +256,12 @@ nested-stores : map (left (sfi 1))
     ∷ (0x70 ∷ 0x0B ∷ 0x70 ∷ 0x09 ∷ 0x70 ∷ 0x07 ∷ 0x70 ∷ 0x05 ∷ 0x9F ∷ 0x08 ∷ 0x02 ∷ 0x00 ∷ 0x02 ∷ [])
     ∷ [])
     ≡ replicate 4 (left (sfi 1) (0x70 ∷ 0x05 ∷ 0x9F ∷ 0x08 ∷ 0x02 ∷ 0x00 ∷ 0x02 ∷ []))
-unfolding readBody parseResponseBody headerOf tagAt tagSize tagSizeFromSecondByte lengthAt tagFirstByte isTemplate isPrivate
-    appendBigEndianBytes if both parseTree recurseWithFuelFromLength recurseWithFuel nextInTemplate prependLeaf prependNode objectCount templateBodyItems primitiveItems
-    storeAllItems storeNextItem storeItem dictionaryRows rowFoundShifted findRow rowAllowsValueAndAbsentOrEmpty rowAllowsValueFromCard allowedInTemplate lengthAndDigitsFitRow
+unfolding readBody parseResponseBody headerOf tagAt tagSize tagSizeFromSecondByte lengthAt tagFirstByte isTemplate
+    isPrivate
+    appendBigEndianBytes if both parseTree recurseWithFuelFromLength recurseWithFuel nextInTemplate prependLeaf
+    prependNode objectCount templateBodyItems primitiveItems
+    storeAllItems storeNextItem storeItem dictionaryRows rowFoundShifted findRow rowAllowsValueAndAbsentOrEmpty
+    rowAllowsValueFromCard allowedInTemplate lengthAndDigitsFitRow
     digitsMatchForm isNumeric nibbles every rowOffset rowPlaceBytes valueInPlace rowValue putRow objectValueIn
 nested-stores = refl
 
@@ -235,27 +271,36 @@ nested-kept : map (left (sfi 1))
     ∷ (0x70 ∷ 0x07 ∷ 0x57 ∷ 0x00 ∷ 0x57 ∷ 0x01 ∷ 0xAA ∷ 0x57 ∷ 0x00 ∷ [])
     ∷ [])
     ≡ replicate 3 (replicate storeSize 0)
-unfolding readBody parseResponseBody headerOf tagAt tagSize tagSizeFromSecondByte lengthAt tagFirstByte isTemplate isPrivate
-    appendBigEndianBytes if both parseTree recurseWithFuelFromLength recurseWithFuel nextInTemplate prependLeaf prependNode objectCount templateBodyItems primitiveItems
-    storeAllItems storeNextItem storeItem dictionaryRows rowFoundShifted findRow rowAllowsValueAndAbsentOrEmpty rowAllowsValueFromCard allowedInTemplate lengthAndDigitsFitRow
+unfolding readBody parseResponseBody headerOf tagAt tagSize tagSizeFromSecondByte lengthAt tagFirstByte isTemplate
+    isPrivate
+    appendBigEndianBytes if both parseTree recurseWithFuelFromLength recurseWithFuel nextInTemplate prependLeaf
+    prependNode objectCount templateBodyItems primitiveItems
+    storeAllItems storeNextItem storeItem dictionaryRows rowFoundShifted findRow rowAllowsValueAndAbsentOrEmpty
+    rowAllowsValueFromCard allowedInTemplate lengthAndDigitsFitRow
     digitsMatchForm isNumeric nibbles every rowOffset rowPlaceBytes valueInPlace rowValue putRow objectValueIn
 nested-kept = refl
 
 -- GPO: 5F28 in a 70 that is in the 77, and 82 directly in the 77
 nested-gpo : body Gpo (0x77 ∷ 0x0B ∷ 0x70 ∷ 0x05 ∷ 0x5F ∷ 0x28 ∷ 0x02 ∷ 0x00 ∷ 0x56 ∷ 0x82 ∷ 0x02 ∷ 0x00 ∷ 0x80 ∷ []) ≡
     0 ∷ 4 ∷ []
-unfolding readBody parseResponseBody headerOf tagAt tagSize tagSizeFromSecondByte lengthAt tagFirstByte isTemplate isPrivate
-    appendBigEndianBytes if both parseTree recurseWithFuelFromLength recurseWithFuel nextInTemplate prependLeaf prependNode objectCount templateBodyItems primitiveItems
-    storeAllItems storeNextItem storeItem dictionaryRows rowFoundShifted findRow rowAllowsValueAndAbsentOrEmpty rowAllowsValueFromCard allowedInTemplate lengthAndDigitsFitRow
+unfolding readBody parseResponseBody headerOf tagAt tagSize tagSizeFromSecondByte lengthAt tagFirstByte isTemplate
+    isPrivate
+    appendBigEndianBytes if both parseTree recurseWithFuelFromLength recurseWithFuel nextInTemplate prependLeaf
+    prependNode objectCount templateBodyItems primitiveItems
+    storeAllItems storeNextItem storeItem dictionaryRows rowFoundShifted findRow rowAllowsValueAndAbsentOrEmpty
+    rowAllowsValueFromCard allowedInTemplate lengthAndDigitsFitRow
     digitsMatchForm isNumeric nibbles every rowOffset rowPlaceBytes valueInPlace rowValue putRow objectValueIn
 nested-gpo = refl
 
 nested-gpo-store : left Gpo (0x77 ∷ 0x0B ∷ 0x70 ∷ 0x05 ∷ 0x5F ∷ 0x28 ∷ 0x02 ∷ 0x00 ∷ 0x56 ∷ 0x82 ∷ 0x02 ∷ 0x00 ∷ 0x80 ∷
     [])
     ≡ readBody Gpo (left (sfi 1) (0x70 ∷ 0x05 ∷ 0x5F ∷ 0x28 ∷ 0x02 ∷ 0x00 ∷ 0x56 ∷ []))
-        (0x77 ∷ 0x04 ∷ 0x82 ∷ 0x02 ∷ 0x00 ∷ 0x80 ∷ []) .store
-unfolding readBody parseResponseBody headerOf tagAt tagSize tagSizeFromSecondByte lengthAt tagFirstByte isTemplate isPrivate
-    appendBigEndianBytes if both parseTree recurseWithFuelFromLength recurseWithFuel nextInTemplate prependLeaf prependNode objectCount templateBodyItems primitiveItems
-    storeAllItems storeNextItem storeItem dictionaryRows rowFoundShifted findRow rowAllowsValueAndAbsentOrEmpty rowAllowsValueFromCard allowedInTemplate lengthAndDigitsFitRow
+    (0x77 ∷ 0x04 ∷ 0x82 ∷ 0x02 ∷ 0x00 ∷ 0x80 ∷ []) .store
+unfolding readBody parseResponseBody headerOf tagAt tagSize tagSizeFromSecondByte lengthAt tagFirstByte isTemplate
+    isPrivate
+    appendBigEndianBytes if both parseTree recurseWithFuelFromLength recurseWithFuel nextInTemplate prependLeaf
+    prependNode objectCount templateBodyItems primitiveItems
+    storeAllItems storeNextItem storeItem dictionaryRows rowFoundShifted findRow rowAllowsValueAndAbsentOrEmpty
+    rowAllowsValueFromCard allowedInTemplate lengthAndDigitsFitRow
     digitsMatchForm isNumeric nibbles every rowOffset rowPlaceBytes valueInPlace rowValue putRow objectValueIn
 nested-gpo-store = refl

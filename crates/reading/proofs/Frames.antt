@@ -17,7 +17,8 @@ use Rattle.tlv.specs.Tree.{parseTree}
 use Rattle.reading.specs.declared.TemplateWalkResult.{TemplateWalkResult}
 use Rattle.reading.specs.declared.TemplateWalkResult.the-variants.{Whole, Broken}
 use Rattle.reading.specs.Taking.{PrimitiveItem}
-use Rattle.reading.specs.Items.{tally, unpackedFirstItems, TemplateWalkHasRoom, WalkListedItems, ListsTreeThen, WalkListsTree}
+use Rattle.reading.specs.Items.{tally, unpackedFirstItems, TemplateWalkHasRoom, WalkListedItems, ListsTreeThen}
+use Rattle.reading.specs.Items.{WalkListsTree}
 use Rattle.reading.proofs.Items.{part}
 use Rattle.reading.proofs.Runs.{Run, Next, has-listed, ended, bounds, small, deep, entered, node-same}
 
@@ -66,7 +67,7 @@ module _ (ends tags : List ℕ) (i e t : ℕ) where
       let p = getD-set-other ends i k e 0 (λ q. omega arith) in
       let q = getD-set-other tags i k t 0 (λ q. omega arith) in
       rw (p, q) (ap (λ (fs : List Frame). frame (part s a (getD ends k 0)) (getD tags k 0) ∷ fs)
-          (opened-set s k (getD ends k 0) (omega arith)))
+      (opened-set s k (getD ends k 0) (omega arith)))
 
   nested-set : (n k a : ℕ) → k ≤ i → Nested ends n k a → Nested (set ends i e) n k a
   unfolding Nested
@@ -78,7 +79,8 @@ module _ (ends tags : List ℕ) (i e t : ℕ) where
 -- ---- the invariant, and each iteration of the walk
 
 -- after n objects, k of them listed in l, at a place of the innermost template; All is what the whole walk promises
-pub record Reached (s : List ℕ) (e : ℕ) (All : TemplateWalkResult → List ℕ → Type 0) (ends around : List ℕ) (depth at n k : ℕ)
+pub record Reached (s : List ℕ) (e : ℕ) (All : TemplateWalkResult → List ℕ → Type 0) (ends around : List ℕ)
+    (depth at n k : ℕ)
     (l : List ℕ) : Type 0 where
   pub ends-four : length ends ≡ 4
   pub around-four : length around ≡ 4
@@ -88,9 +90,9 @@ pub record Reached (s : List ℕ) (e : ℕ) (All : TemplateWalkResult → List �
   pub fits : TemplateWalkHasRoom s at e n k l
   pub before : at ≤ getD ends depth 0
   pub same : (r : TemplateWalkResult) (l′ : List ℕ)
-    → Left s r l′ (frame (part s at (getD ends depth 0)) (getD around depth 0) ∷ opened s ends around depth
-        (getD ends depth 0)) n (unpackedFirstItems s k l)
-    → All r l′
+      → Left s r l′ (frame (part s at (getD ends depth 0)) (getD around depth 0) ∷ opened s ends around depth
+      (getD ends depth 0)) n (unpackedFirstItems s k l)
+      → All r l′
 
 -- the measure of the walk: what is left of the bytes, twice, and the open levels
 abbrev pub ahead : ℕ → ℕ → ℕ → ℕ
@@ -118,7 +120,8 @@ begin s a e tag l w t = record {
   same = λ r l′ h. h;
 }
 
-module _ {s : List ℕ} {e : ℕ} {All : TemplateWalkResult → List ℕ → Type 0} {ends around : List ℕ} {depth at n k : ℕ} {l : List ℕ}
+module _ {s : List ℕ} {e : ℕ} {All : TemplateWalkResult → List ℕ → Type 0} {ends around : List ℕ} {depth at n k : ℕ}
+    {l : List ℕ}
     (w : Reached s e All ends around depth at n k l) where
   -- the innermost open template: its end, its tag, and what is open around it
   abbrev stop : ℕ
@@ -166,8 +169,9 @@ module _ {s : List ℕ} {e : ℕ} {All : TemplateWalkResult → List ℕ → Typ
     unfolding opened Left
     done q =
         ended run (omega arith) (Whole (tally n k)) l
-        (subst (λ (d : ℕ). Left s (Whole (tally n k)) l (opened s ends around d stop) n (unpackedFirstItems s k l)) (sym q)
-            (has-listed (w .fits)))
+        (subst (λ (d : ℕ). Left s (Whole (tally n k)) l (opened s ends around d stop) n (unpackedFirstItems s k l))
+        (sym q)
+        (has-listed (w .fits)))
 
     module _ (q : depth ≡ 0 → ⊥) where
       abbrev next : ℕ
@@ -192,7 +196,8 @@ module _ {s : List ℕ} {e : ℕ} {All : TemplateWalkResult → List ℕ → Typ
         tags = w .tags;
         fits = w .fits;
         before = omega arith;
-        same = λ r l′ h. ended run (omega arith) r l′ (subst (λ (fs : List Frame). Left s r l′ fs n (unpackedFirstItems s k l))
+        same = λ r l′ h. ended run (omega arith) r l′
+            (subst (λ (fs : List Frame). Left s r l′ fs n (unpackedFirstItems s k l))
             (sym opened-out) h);
       }
 
@@ -236,7 +241,7 @@ module _ {s : List ℕ} {e : ℕ} {All : TemplateWalkResult → List ℕ → Typ
       unfolding Nested
       nested-in =
           nested-set ends around (depth + 1) beyond (h .tag) e (depth + 1) beyond (omega arith)
-              (rw (add-one depth) (bounds x .1 .0, w .nested))
+          (rw (add-one depth) (bounds x .1 .0, w .nested))
 
       opened-in : opened s ends′ around′ (depth + 1) beyond ≡ frame (part s beyond stop) inmost ∷ outside
       unfolding opened
@@ -259,9 +264,9 @@ module _ {s : List ℕ} {e : ℕ} {All : TemplateWalkResult → List ℕ → Typ
             same = λ r l′ g.
                 node-same x p (λ y. omega (arith, w .few)) r l′
                 (subst (λ (j : ℕ). ListsTreeThen (h .tag) (parseTree j (part s from beyond)) r
-                    (ListsTreeThen inmost (parseTree (3 - length outside) (part s beyond stop)) r (K r l′)) (n + 1)
-                    (unpackedFirstItems s k l)) d
+                (ListsTreeThen inmost (parseTree (3 - length outside) (part s beyond stop)) r (K r l′)) (n + 1)
+                (unpackedFirstItems s k l)) d
                 (subst (λ (fs : List Frame). Left s r l′ (frame (part s from beyond) (h .tag) ∷ fs) (n + 1)
-                    (unpackedFirstItems s k l)) opened-in
+                (unpackedFirstItems s k l)) opened-in
                 (rw (tag-is, end-is) at g)));
           }

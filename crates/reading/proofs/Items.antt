@@ -23,8 +23,10 @@ use Rattle.tlv.specs.Length.{lengthAt}
 use Rattle.tlv.specs.Object.{headerOf, headerWithLength, headerWithTag, headerValue, behindObject}
 use Rattle.tlv.proofs.Laws.{Bytes, contents-is, number-one, number-two, number-three, tag-fits, HeaderFits}
 use Rattle.reading.specs.Taking.{PrimitiveItem, primitiveItem}
-use Rattle.reading.specs.Items.{packedItem, packedItemTag, packedItemTemplateTag, packedItemValueStart, packedItemValueLength, packedItemValueIn, unpackedItem}
-use Rattle.reading.specs.Items.{mostListedItems, unpackedItems, ItemValueInside, AllItemValuesInside, unpackedFirstItems, TemplateWalkHasRoom}
+use Rattle.reading.specs.Items.{packedItem, packedItemTag, packedItemTemplateTag, packedItemValueStart}
+use Rattle.reading.specs.Items.{packedItemValueLength, packedItemValueIn, unpackedItem}
+use Rattle.reading.specs.Items.{mostListedItems, unpackedItems, ItemValueInside, AllItemValuesInside}
+use Rattle.reading.specs.Items.{unpackedFirstItems, TemplateWalkHasRoom}
 
 -- ---- packing
 
@@ -32,7 +34,8 @@ module _ (t a p n : ℕ) (around : a < 0x1000000) (some : 1 ≤ p) (place : p �
   abbrev packed : ℕ
   packed = packedItem t a p n
 
-  pub unpacked : (packedItemTag packed ≡ t) × ((packedItemTemplateTag packed ≡ a) × ((packedItemValueStart packed ≡ p) × (packedItemValueLength packed ≡ n)))
+  pub unpacked : (packedItemTag packed ≡ t)
+      × ((packedItemTemplateTag packed ≡ a) × ((packedItemValueStart packed ≡ p) × (packedItemValueLength packed ≡ n)))
   unpacked = (omega arith, (omega arith, (omega arith, omega arith)))
 
   pub item-packed : (s : List ℕ) → unpackedItem s packed ≡ primitiveItem a t (take n (drop p s))
@@ -61,7 +64,8 @@ items-length s (x ∷ xs) = ap suc (items-length s xs)
 pub items-count : (s : List ℕ) (k : ℕ) (l : List ℕ) → k ≤ length l → length (unpackedFirstItems s k l) ≡ k
 items-count s k l h = items-length s (take k l) ∙ length-take-le k l h
 
-pub inside-join : (s xs ys : List ℕ) → AllItemValuesInside s xs → AllItemValuesInside s ys → AllItemValuesInside s (xs ++ ys)
+pub inside-join : (s xs ys : List ℕ) → AllItemValuesInside s xs → AllItemValuesInside s ys
+    → AllItemValuesInside s (xs ++ ys)
 inside-join s [] ys h i = i
 inside-join s (x ∷ xs) ys h i = (h .0, inside-join s xs ys (h .1) i)
 
@@ -79,7 +83,8 @@ module _ (s l : List ℕ) (k x : ℕ) (h : k < length l) where
   unfolding unpackedItems
   items-more = ap (unpackedItems s) one-more ∙ items-join s (take k l) (x ∷ [])
 
-  pub inside-more : AllItemValuesInside s (take k l) → ItemValueInside s x → AllItemValuesInside s (take (k + 1) (set l k x))
+  pub inside-more : AllItemValuesInside s (take k l) → ItemValueInside s x
+      → AllItemValuesInside s (take (k + 1) (set l k x))
   inside-more i v = rw one-more (inside-join s (take k l) (x ∷ []) i (v, tt))
 
 -- ---- a part of the bytes, as the code makes it
@@ -144,7 +149,8 @@ module _ (s : List ℕ) (a e : ℕ) (ends : e ≤ length s) where
 
 -- ---- a tag of bytes is below 2^24
 
-small-number : (s : List ℕ) (k : ℕ) → Bytes s → k ≤ 3 → k ≤ length s → (k ≡ 0 → ⊥) → bigEndianNumber (take k s) < 0x1000000
+small-number : (s : List ℕ) (k : ℕ) → Bytes s → k ≤ 3 → k ≤ length s → (k ≡ 0 → ⊥)
+    → bigEndianNumber (take k s) < 0x1000000
 small-number s zero b h l n = absurd (n refl)
 small-number s (suc zero) b h l n = rw (number-one s) (omega (arith, b 0))
 small-number s (suc (suc zero)) b h l n = rw (number-two s l) (omega (arith, b 0, b 1))
@@ -164,7 +170,7 @@ small-tag s Untagged b e = tt
 small-tag s (Tagged t) b e =
     let f = tag-fits s t e in
     small-length s t (lengthAt (drop (t .size) s))
-        (rw (f .reads) (small-number s (t .size) b (f .few) (f .inside) (λ z. omega (arith, f .some))))
+    (rw (f .reads) (small-number s (t .size) b (f .few) (f .inside) (λ z. omega (arith, f .some))))
 
 pub tag-small : (s : List ℕ) (h : TlvHeader) → Bytes s → headerOf s ≡ Object h → h .tag < 0x1000000
 unfolding headerOf

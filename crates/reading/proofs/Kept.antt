@@ -23,9 +23,11 @@ use Rattle.store.specs.Place.{StoredValue, bytesOrEmptyIfAbsent, rowValue, isRo
 use Rattle.store.proofs.Laws.{Fits, put-length, put-other}
 use Rattle.store.proofs.Rows.{rows-length, fits-row}
 use Rattle.reading.specs.declared.Awaited.{Awaited}
-use Rattle.reading.specs.Taking.{PrimitiveItem, cardMaySet, rowAllowsValueFromCard, rowAllowsValueAndAbsentOrEmpty, StoringState, storingState}
+use Rattle.reading.specs.Taking.{PrimitiveItem, cardMaySet, rowAllowsValueFromCard}
+use Rattle.reading.specs.Taking.{rowAllowsValueAndAbsentOrEmpty, StoringState, storingState}
 use Rattle.reading.specs.Taking.{storeKnownItem, storeItemOfRowFound, storeItem, storeNextItem, storeAllItems}
-use Rattle.reading.specs.Answer.{ReadingOutcome, ResponseBody, responseBit, parseResponseBody, bodyObjectCount, responseBodyItems}
+use Rattle.reading.specs.Answer.{ReadingOutcome, ResponseBody, responseBit, parseResponseBody, bodyObjectCount}
+use Rattle.reading.specs.Answer.{responseBodyItems}
 use Rattle.reading.specs.Answer.{readBodyItems, readParsedBody, readBody, readAnswer}
 
 -- an object that is put into row k of the store b, in an answer
@@ -45,8 +47,14 @@ put-of answer b i k e a =
     let m = both-left _ _ a in
     let a₁ = both-right _ _ m in
     let a₂ = both-right _ _ a₁ in
-    record { row = omega (arith, rows-length); tag = f .1; fits = both-right _ _ a₂; card = both-left _ _ m;
-        brought = both-left _ _ a₁; free = both-right _ _ a }
+    record {
+      row = omega (arith, rows-length);
+      tag = f .1;
+      fits = both-right _ _ a₂;
+      card = both-left _ _ m;
+      brought = both-left _ _ a₁;
+      free = both-right _ _ a;
+    }
 
 -- the store keeps its size
 sized : (answer : ℕ) (b : List ℕ) (k : ℕ) (i : PrimitiveItem) → length b ≡ storeSize → Put answer b k i
@@ -63,7 +71,7 @@ All Q (i ∷ is) = Q i × All Q is
 -- the bytes bring
 module _ (P : List ℕ → Type 0) (Q : PrimitiveItem → Type 0) (answer : ℕ)
     (step : (b : List ℕ) (k : ℕ) (i : PrimitiveItem) → length b ≡ storeSize → Q i → Put answer b k i → P b → P
-        (putRow dictionaryRows b k (i .value))) where
+    (putRow dictionaryRows b k (i .value))) where
   abbrev Holds : List ℕ → Type 0
   Holds b = (length b ≡ storeSize) × P b
 
@@ -104,7 +112,7 @@ all-any (i ∷ is) = (tt, all-any is)
 
 module _ (P : List ℕ → Type 0) (a : Awaited)
     (step : (b : List ℕ) (k : ℕ) (i : PrimitiveItem) → length b ≡ storeSize → any i → Put
-        (responseBit a) b k i → P b → P (putRow dictionaryRows b k (i .value))) where
+    (responseBit a) b k i → P b → P (putRow dictionaryRows b k (i .value))) where
   abbrev Good : List ℕ → Type 0
   Good b = (length b ≡ storeSize) × P b
 
@@ -112,7 +120,7 @@ module _ (P : List ℕ → Type 0) (a : Awaited)
   parts-hold b n none h = h
   parts-hold b n (some is) h =
       if-ind (λ (o : ReadingOutcome). Good (o .store)) _ _ _
-          (λ g. all-holds P any (responseBit a) step (storingState true b) is (all-any is) h) (λ g. h)
+      (λ g. all-holds P any (responseBit a) step (storingState true b) is (all-any is) h) (λ g. h)
 
   tree-holds : (b : List ℕ) (x : Option ResponseBody) → Good b → Good (readParsedBody a b x .store)
   tree-holds b none h = h
@@ -123,8 +131,8 @@ module _ (P : List ℕ → Type 0) (a : Awaited)
   read-holds b s h =
       let Q : ReadingOutcome → Type 0 = λ o. Good (o .store) in
       if-ind Q _ _ _
-          (λ l. if-ind Q _ _ _ (λ t. if-ind Q _ _ _ (λ r. tree-holds b (parseResponseBody (take (length s - 2) s)) h)
-          (λ r. h)) (λ t. h)) (λ l. h)
+      (λ l. if-ind Q _ _ _ (λ t. if-ind Q _ _ _ (λ r. tree-holds b (parseResponseBody (take (length s - 2) s)) h)
+      (λ r. h)) (λ t. h)) (λ l. h)
 
 -- ---- rows only ever gain a value
 
@@ -138,8 +146,10 @@ pub record Grows (b c : List ℕ) : Type 0 where
 grows-on : (answer : ℕ) (b₀ b : List ℕ) (k : ℕ) (i : PrimitiveItem) → length b ≡ storeSize → Put answer b k i
     → Grows b₀ b → Grows b₀ (putRow dictionaryRows b k (i .value))
 grows-on answer b₀ b k i l p g =
-    record { size = put-length dictionaryRows b k (i .value) fit ∙ g .size;
-        kept = λ j n. untouched j n (equal-or-not j k) }
+    record {
+      size = put-length dictionaryRows b k (i .value) fit ∙ g .size;
+      kept = λ j n. untouched j n (equal-or-not j k);
+    }
   where
     fit : Fits dictionaryRows b k (i .value)
     fit = fits-row b k (i .value) l (p .row) (fits-length (rowAt k) (i .value) (p .fits) .1)
@@ -148,14 +158,16 @@ grows-on answer b₀ b k i l p g =
         → rowValue dictionaryRows (putRow dictionaryRows b k (i .value)) j ≡ rowValue dictionaryRows b₀ j
     untouched j n (inl e) =
         absurd (n (ap (λ (v : StoredValue). length (bytesOrEmptyIfAbsent v))
-            (sym (g .kept j n) ∙ ap (rowValue dictionaryRows b) e) ∙ eqb-true _ 0 (p .free)))
+        (sym (g .kept j n) ∙ ap (rowValue dictionaryRows b) e) ∙ eqb-true _ 0 (p .free)))
     untouched j n (inr e) = put-other dictionaryRows b k (i .value) fit j e ∙ g .kept j n
 
 -- an answer leaves every row that held bytes as it was
 pub read-grows : (a : Awaited) (b s : List ℕ) → length b ≡ storeSize → Grows b (readAnswer a b s .store)
 read-grows a b s l =
-    read-holds (Grows b) a (λ c k i m q p g. grows-on (responseBit a) b c k i m p g) b s (l,
-        record { size = refl; kept = λ k n. refl }) .1
+    read-holds (Grows b) a (λ c k i m q p g. grows-on (responseBit a) b c k i m p g) b s (
+      l,
+      record { size = refl; kept = λ k n. refl },
+    ) .1
 
 -- ---- rows that are not named
 
@@ -170,5 +182,5 @@ pub untouched : (answer k : ℕ) (w : StoringState) (is : List PrimitiveItem) �
 untouched answer k w is l q =
     all-holds (λ b. rowValue dictionaryRows b k ≡ rowValue dictionaryRows (w .store) k) (Other k) answer
     (λ b j i m o p e. put-other dictionaryRows b j (i .value)
-        (fits-row b j (i .value) m (p .row) (fits-length (rowAt j) (i .value) (p .fits) .1)) k
+    (fits-row b j (i .value) m (p .row) (fits-length (rowAt j) (i .value) (p .fits) .1)) k
     (λ z. o (ap (λ (n : ℕ). rowAt n .tag) z ∙ p .tag)) ∙ e) w is q (l, refl) .1

@@ -13,8 +13,10 @@ use Rattle.dictionary.specs.Rows.{Row, dictionaryRows, rowAt, findRow}
 use Rattle.dictionary.specs.Packing.{attributesOf, rowWithAttributesAndTagZero}
 use Rattle.dictionary.specs.Form.{lengthAndDigitsFitRow}
 use Rattle.store.specs.Place.{isRowAbsentOrEmpty, putRow}
-use Rattle.reading.specs.Taking.{PrimitiveItem, allowedInTemplate, cardMaySet, rowAllowsValueFromCard, rowAllowsValueAndAbsentOrEmpty}
-use Rattle.reading.specs.Taking.{StoringState, storingState, storeKnownItem, storeItemOfRowFound, storeItem, storeNextItem, storeAllItems}
+use Rattle.reading.specs.Taking.{PrimitiveItem, allowedInTemplate, cardMaySet, rowAllowsValueFromCard}
+use Rattle.reading.specs.Taking.{rowAllowsValueAndAbsentOrEmpty}
+use Rattle.reading.specs.Taking.{StoringState, storingState, storeKnownItem, storeItemOfRowFound, storeItem}
+use Rattle.reading.specs.Taking.{storeNextItem, storeAllItems}
 
 -- ---- one object
 
@@ -41,7 +43,8 @@ module _ (answer : ℕ) (b : List ℕ) (i : PrimitiveItem) (x : RowFound) (p : x
     -- an object that may come is put where no bytes are present yet
     pub item-put : both (isPrivate (i .tag)) (not (cardMaySet (rowAt k))) ≡ false
         → rowAllowsValueFromCard answer (rowAt k) (i .around) (i .value) ≡ true
-        → isRowAbsentOrEmpty dictionaryRows b k ≡ true → storeItem answer b i ≡ storingState true (putRow dictionaryRows b k (i .value))
+        → isRowAbsentOrEmpty dictionaryRows b k ≡ true
+        → storeItem answer b i ≡ storingState true (putRow dictionaryRows b k (i .value))
     unfolding rowAllowsValueAndAbsentOrEmpty
     item-put s a e = known ∙ if-no _ _ s ∙ if-yes _ _ (both-true _ a ∙ e)
 
@@ -55,13 +58,15 @@ module _ (answer : ℕ) (b : List ℕ) (i : PrimitiveItem) (x : RowFound) (p : x
 pub row-skipped : (t : ℕ) (x : Row) {r : Bool} {a : RowAttributes}
     → r ≡ both (isPrivate t) (not (cardMaySet (rowWithAttributesAndTagZero a))) → a ≡ attributesOf x
     → r ≡ both (isPrivate t) (not (cardMaySet x))
-row-skipped t x e f = e ∙ ap (λ (z : RowAttributes). both (isPrivate t) (not (cardMaySet (rowWithAttributesAndTagZero z)))) f
+row-skipped t x e f =
+    e ∙ ap (λ (z : RowAttributes). both (isPrivate t) (not (cardMaySet (rowWithAttributesAndTagZero z)))) f
 
 pub row-comes : (answer : ℕ) (x : Row) (around : ℕ) (v : List ℕ) {r : Bool} {a : RowAttributes}
     → r ≡ rowAllowsValueFromCard answer (rowWithAttributesAndTagZero a) around v → a ≡ attributesOf x
     → r ≡ rowAllowsValueFromCard answer x around v
 unfolding rowAllowsValueFromCard allowedInTemplate lengthAndDigitsFitRow
-row-comes answer x around v e f = e ∙ ap (λ (z : RowAttributes). rowAllowsValueFromCard answer (rowWithAttributesAndTagZero z) around v) f
+row-comes answer x around v e f =
+    e ∙ ap (λ (z : RowAttributes). rowAllowsValueFromCard answer (rowWithAttributesAndTagZero z) around v) f
 
 -- a value that may come fits its row
 pub may-come-fits : (answer : ℕ) (r : Row) (around : ℕ) (v : List ℕ) → rowAllowsValueFromCard answer r around v ≡ true

@@ -17,19 +17,25 @@ use Rattle.reading.specs.declared.Awaited.{Awaited}
 use Rattle.reading.specs.declared.Awaited.the-variants.{Gpo, Record, Cryptogram, Checksum}
 use Rattle.reading.specs.declared.Reading.{Reading}
 use Rattle.reading.specs.Taking.{primitiveItem, primitiveItems, StoringState, storingState}
-use Rattle.reading.specs.Answer.{ReadingOutcome, readingOutcome, ReadingAndStoreMatchOutcome, ResponseBody, primitive}
+use Rattle.reading.specs.Answer.{ReadingOutcome, readingOutcome, ReadingAndStoreMatchOutcome, ResponseBody}
+use Rattle.reading.specs.Answer.{primitive}
 use Rattle.reading.specs.Answer.{templateBody, bodyOfOneObject, parseResponseBody, responseTemplateTag}
-use Rattle.reading.specs.Answer.{gpoItemsUnder80, iadItemIfAny, cryptogramItemsUnder80, primitiveBodyItems, templateBodyItems}
+use Rattle.reading.specs.Answer.{gpoItemsUnder80, iadItemIfAny, cryptogramItemsUnder80, primitiveBodyItems}
+use Rattle.reading.specs.Answer.{templateBodyItems}
 use Rattle.reading.specs.Answer.{readingIfAllAllowed, readParsedBody, readBody}
 
 -- ---- a reading and its outcome
 
-pub regive : {r : Reading} {b : List ℕ} {o p : ReadingOutcome} → o ≡ p → ReadingAndStoreMatchOutcome r b o → ReadingAndStoreMatchOutcome r b p
-regive e g = record { reason = g .reason ∙ ap (λ (x : ReadingOutcome). x .reason) e;
-    objects = g .objects ∙ ap (λ (x : ReadingOutcome). x .objects) e;
-    store = g .store ∙ ap (λ (x : ReadingOutcome). x .store) e }
+pub regive : {r : Reading} {b : List ℕ} {o p : ReadingOutcome} → o ≡ p → ReadingAndStoreMatchOutcome r b o
+    → ReadingAndStoreMatchOutcome r b p
+regive e g = record {
+  reason = g .reason ∙ ap (λ (x : ReadingOutcome). x .reason) e;
+  objects = g .objects ∙ ap (λ (x : ReadingOutcome). x .objects) e;
+  store = g .store ∙ ap (λ (x : ReadingOutcome). x .store) e;
+}
 
-pub restore : {r : Reading} {b c : List ℕ} {o : ReadingOutcome} → b ≡ c → ReadingAndStoreMatchOutcome r c o → ReadingAndStoreMatchOutcome r b o
+pub restore : {r : Reading} {b c : List ℕ} {o : ReadingOutcome} → b ≡ c → ReadingAndStoreMatchOutcome r c o
+    → ReadingAndStoreMatchOutcome r b o
 restore e g = record { reason = g .reason; objects = g .objects; store = e ∙ g .store }
 
 -- ---- objects that were taken
@@ -72,7 +78,7 @@ module _ (v : List ℕ) where
 
   pub cryptogram-whole : 11 ≤ length v → length v ≤ 43
       → cryptogramItemsUnder80 v ≡ some (primitiveItem 0x77 0x9F27 (take 1 v) ∷ primitiveItem 0x77 0x9F36
-          (take 2 (drop 1 v)) ∷ primitiveItem 0x77 0x9F26 (take 8 (drop 3 v)) ∷ iadItemIfAny (drop 11 v))
+      (take 2 (drop 1 v)) ∷ primitiveItem 0x77 0x9F26 (take 8 (drop 3 v)) ∷ iadItemIfAny (drop 11 v))
   unfolding cryptogramItemsUnder80
   cryptogram-whole a b = if-yes _ _ (both-yes _ _ (le-leb _ _ a) (le-leb _ _ b))
 
@@ -112,7 +118,8 @@ module _ (t : ℕ) (v : List ℕ) where
 
 -- ---- a template
 
-pub template-wrong : (a : Awaited) (t : ℕ) (f : Forest) → (t ≡ responseTemplateTag a → ⊥) → templateBodyItems a t f ≡ none
+pub template-wrong : (a : Awaited) (t : ℕ) (f : Forest) → (t ≡ responseTemplateTag a → ⊥)
+    → templateBodyItems a t f ≡ none
 unfolding templateBodyItems
 template-wrong a t f h = if-no _ _ (ne-eqb _ _ h)
 

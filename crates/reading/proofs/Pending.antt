@@ -24,17 +24,22 @@ use Rattle.dictionary.specs.Rows.{dictionaryRows, rowAt, rowCount, findRow, sto
 use Rattle.dictionary.specs.Packing.{attributesOf, rowWithAttributesAndTagZero}
 use Rattle.dictionary.proofs.Fit.{fits-length}
 use Rattle.dictionary.proofs.Lent.{row-found}
-use Rattle.store.specs.Place.{StoredValue, bytesOrEmptyIfAbsent, rowOffset, rowLengthPlusOneOrZero, isRowAbsentOrEmpty, putRow}
+use Rattle.store.specs.Place.{StoredValue, bytesOrEmptyIfAbsent, rowOffset, rowLengthPlusOneOrZero, isRowAbsentOrEmpty}
+use Rattle.store.specs.Place.{putRow}
 use Rattle.store.proofs.Laws.{Fits, put-length, put-get, put-other, length-byte-at}
 use Rattle.store.proofs.Rows.{fits-row, free-yes, free-no}
 use Rattle.reading.specs.declared.ItemVerdict.{ItemVerdict}
 use Rattle.reading.specs.declared.ItemVerdict.the-variants.{Skipped, NotAllowed, ForRow}
-use Rattle.reading.specs.Taking.{PrimitiveItem, cardMaySet, rowAllowsValueFromCard, rowAllowsValueAndAbsentOrEmpty, StoringState, storingState}
+use Rattle.reading.specs.Taking.{PrimitiveItem, cardMaySet, rowAllowsValueFromCard}
+use Rattle.reading.specs.Taking.{rowAllowsValueAndAbsentOrEmpty, StoringState, storingState}
 use Rattle.reading.specs.Taking.{storeKnownItem, storeItemOfRowFound, storeItem, storeNextItem, storeAllItems}
-use Rattle.reading.specs.Items.{packedItemTag, packedItemTemplateTag, unpackedItem, packedItemValueIn, packedItemValueStart, packedItemValueLength, ItemValueInside}
+use Rattle.reading.specs.Items.{packedItemTag, packedItemTemplateTag, unpackedItem, packedItemValueIn}
+use Rattle.reading.specs.Items.{packedItemValueStart, packedItemValueLength, ItemValueInside}
 use Rattle.reading.specs.Items.{mostListedItems, unpackedItems, IsItemList, unpackedFirstItems}
-use Rattle.reading.specs.Pending.{judgeKnownItem, judgeItemOfRowFound, judgeItem, storeJudgedItem, packedPendingEntry, pendingEntryRow}
-use Rattle.reading.specs.Pending.{storeWithPending, markRowFilledIfNonEmpty, PendingEntryFitsRowAndBytes, AllPendingEntriesFitRowAndBytes, IsPendingList, PendingEntriesAndMarksForStore}
+use Rattle.reading.specs.Pending.{judgeKnownItem, judgeItemOfRowFound, judgeItem, storeJudgedItem}
+use Rattle.reading.specs.Pending.{packedPendingEntry, pendingEntryRow}
+use Rattle.reading.specs.Pending.{storeWithPending, markRowFilledIfNonEmpty, PendingEntryFitsRowAndBytes}
+use Rattle.reading.specs.Pending.{AllPendingEntriesFitRowAndBytes, IsPendingList, PendingEntriesAndMarksForStore}
 use Rattle.reading.proofs.Laws.{row-skipped, row-comes, may-come-fits, next-good, next-bad, took, took-all}
 use Rattle.reading.proofs.Items.{inside-at}
 
@@ -48,8 +53,9 @@ judged-known answer b i k = by-tests (both (isPrivate (i .tag)) (not (cardMaySet
   where
     by-tests : (p a : Bool)
         → if p (storingState true b)
-            (if (both a (isRowAbsentOrEmpty dictionaryRows b k)) (storingState true (putRow dictionaryRows b k (i .value)))
-            (storingState false b))
+        (if (both a (isRowAbsentOrEmpty dictionaryRows b k))
+        (storingState true (putRow dictionaryRows b k (i .value)))
+        (storingState false b))
         ≡ storeJudgedItem b i (if p Skipped (if a (ForRow k) NotAllowed))
     by-tests true a = refl
     by-tests false true = refl
@@ -80,8 +86,10 @@ row-fits answer i e = subst (ForFits i) e (go (findRow dictionaryRows (i .tag)) 
     go (At k) q =
         if-ind (ForFits i) _ _ _ (λ _. tt)
         (λ _. if-ind (ForFits i) _ _ _
-            (λ a. (row-found (i .tag) q,
-            fits-length (rowAt k) (i .value) (may-come-fits answer (rowAt k) (i .around) (i .value) a) .1)) (λ _. tt))
+        (λ a. (
+          row-found (i .tag) q,
+          fits-length (rowAt k) (i .value) (may-come-fits answer (rowAt k) (i .around) (i .value) a) .1,
+        )) (λ _. tt))
 
 -- ---- an object's number, as the code judges it: its tag, its row's attributes, the template around it and its value
 
@@ -113,7 +121,8 @@ module _ (answer : ℕ) (s : List ℕ) (n : ℕ) {tag : ℕ} (t : tag ≡ packed
     unfolding judgeKnownItem
     said-skipped y = sym (known ∙ if-yes _ _ (sym skips ∙ y))
 
-    module _ (left : z ≡ false) {around : ℕ} (d : around ≡ packedItemTemplateTag n) {v : List ℕ} (w : v ≡ packedItemValueIn s n) {c : Bool}
+    module _ (left : z ≡ false) {around : ℕ} (d : around ≡ packedItemTemplateTag n) {v : List ℕ}
+        (w : v ≡ packedItemValueIn s n) {c : Bool}
         (m : c ≡ rowAllowsValueFromCard answer (rowWithAttributesAndTagZero a) around v) where
       allows : c ≡ rowAllowsValueFromCard answer (rowAt k) (packedItemTemplateTag n) (packedItemValueIn s n)
       allows = row-comes answer (rowAt k) around v m u ∙ ap₂ (rowAllowsValueFromCard answer (rowAt k)) d w
@@ -129,24 +138,29 @@ module _ (answer : ℕ) (s : List ℕ) (n : ℕ) {tag : ℕ} (t : tag ≡ packed
 
 -- its number taken apart: its own row, and the object's place and length
 pub unpacked-pending : (k x : ℕ) → let y = packedPendingEntry k x in
-    (pendingEntryRow y ≡ k) × ((packedItemValueStart y ≡ packedItemValueStart x) × (packedItemValueLength y ≡ packedItemValueLength x))
+    (pendingEntryRow y ≡ k)
+    × ((packedItemValueStart y ≡ packedItemValueStart x) × (packedItemValueLength y ≡ packedItemValueLength x))
 unpacked-pending k x = (omega arith, (omega arith, omega arith))
 
 pub laid-more : (s b xs : List ℕ) (x : ℕ)
-    → storeWithPending s b (xs ++ (x ∷ [])) ≡ putRow dictionaryRows (storeWithPending s b xs) (pendingEntryRow x) (packedItemValueIn s x)
+    → storeWithPending s b (xs ++ (x ∷ [])) ≡ putRow dictionaryRows (storeWithPending s b xs) (pendingEntryRow x)
+    (packedItemValueIn s x)
 unfolding storeWithPending
 laid-more s b [] x = refl
 laid-more s b (y ∷ xs) x = laid-more s (putRow dictionaryRows b (pendingEntryRow y) (packedItemValueIn s y)) xs x
 
-fitting-more : (s xs : List ℕ) (x : ℕ) → AllPendingEntriesFitRowAndBytes s xs → PendingEntryFitsRowAndBytes s x → AllPendingEntriesFitRowAndBytes s (xs ++ (x ∷ []))
+fitting-more : (s xs : List ℕ) (x : ℕ) → AllPendingEntriesFitRowAndBytes s xs → PendingEntryFitsRowAndBytes s x
+    → AllPendingEntriesFitRowAndBytes s (xs ++ (x ∷ []))
 fitting-more s [] x h f = (f, tt)
 fitting-more s (y ∷ xs) x h f = (h .0, fitting-more s xs x (h .1) f)
 
 -- a value's bytes are as many as its length
 value-long : (s : List ℕ) (x : ℕ) → ItemValueInside s x → length (packedItemValueIn s x) ≡ packedItemValueLength x
-value-long s x h = length-take-le (packedItemValueLength x) (drop (packedItemValueStart x) s) (simp length-drop (omega arith))
+value-long s x h = length-take-le (packedItemValueLength x) (drop (packedItemValueStart x) s)
+    (simp length-drop (omega arith))
 
-pub value-most : (s : List ℕ) (x : ℕ) → PendingEntryFitsRowAndBytes s x → length (packedItemValueIn s x) ≤ rowAt (pendingEntryRow x) .greatest
+pub value-most : (s : List ℕ) (x : ℕ) → PendingEntryFitsRowAndBytes s x → length (packedItemValueIn s x)
+    ≤ rowAt (pendingEntryRow x) .greatest
 value-most s x f = rw (value-long s x (f .inside)) (f .most)
 
 put-fits : (s b : List ℕ) (x : ℕ) → length b ≡ storeSize → PendingEntryFitsRowAndBytes s x
@@ -160,16 +174,19 @@ unfolding storeWithPending
 pending-sized s b [] l h = l
 pending-sized s b (x ∷ xs) l h =
     pending-sized s (putRow dictionaryRows b (pendingEntryRow x) (packedItemValueIn s x)) xs
-        (put-length dictionaryRows b (pendingEntryRow x) (packedItemValueIn s x) (put-fits s b x l (h .0)) ∙ l) (h .1)
+    (put-length dictionaryRows b (pendingEntryRow x) (packedItemValueIn s x) (put-fits s b x l (h .0)) ∙ l) (h .1)
 
 -- ---- a value more, for a row k that is free: the object x
 
-module _ (s b xs f : List ℕ) (h : PendingEntriesAndMarksForStore s b xs f) (k x : ℕ) (row : k < rowCount) (inside : ItemValueInside s x)
-    (most : packedItemValueLength x ≤ rowAt k .greatest) (free : isRowAbsentOrEmpty dictionaryRows (storeWithPending s b xs) k ≡ true) where
+module _ (s b xs f : List ℕ) (h : PendingEntriesAndMarksForStore s b xs f) (k x : ℕ) (row : k < rowCount)
+    (inside : ItemValueInside s x)
+    (most : packedItemValueLength x ≤ rowAt k .greatest)
+    (free : isRowAbsentOrEmpty dictionaryRows (storeWithPending s b xs) k ≡ true) where
   abbrev number : ℕ
   number = packedPendingEntry k x
 
-  parts : (pendingEntryRow number ≡ k) × ((packedItemValueStart number ≡ packedItemValueStart x) × (packedItemValueLength number ≡ packedItemValueLength x))
+  parts : (pendingEntryRow number ≡ k) × ((packedItemValueStart number ≡ packedItemValueStart x)
+      × (packedItemValueLength number ≡ packedItemValueLength x))
   parts = unpacked-pending k x
 
   number-fits : PendingEntryFitsRowAndBytes s number
@@ -179,12 +196,14 @@ module _ (s b xs f : List ℕ) (h : PendingEntriesAndMarksForStore s b xs f) (k 
     inside = rw (parts .1 .0, parts .1 .1) inside;
   }
 
-  pub more-put : storeWithPending s b (xs ++ (number ∷ [])) ≡ putRow dictionaryRows (storeWithPending s b xs) k (packedItemValueIn s x)
+  pub more-put : storeWithPending s b (xs ++ (number ∷ [])) ≡ putRow dictionaryRows (storeWithPending s b xs) k
+      (packedItemValueIn s x)
   more-put = laid-more s b xs number
       ∙ ap₂ (putRow dictionaryRows (storeWithPending s b xs)) (parts .0) (rw (parts .1 .0, parts .1 .1))
 
   fits-here : Fits dictionaryRows (storeWithPending s b xs) k (packedItemValueIn s x)
-  fits-here = fits-row (storeWithPending s b xs) k (packedItemValueIn s x) (pending-sized s b xs (h .sized) (h .fitting)) row
+  fits-here = fits-row (storeWithPending s b xs) k (packedItemValueIn s x)
+      (pending-sized s b xs (h .sized) (h .fitting)) row
       (rw (value-long s x inside) most)
 
   -- what is free before: the store's place, and no mark
@@ -195,17 +214,20 @@ module _ (s b xs f : List ℕ) (h : PendingEntriesAndMarksForStore s b xs f) (k 
   module _ (f′ : List ℕ) (marks : length f′ ≡ rowCount) (mark : eqb (getD f′ k 0) 0 ≡ eqb (packedItemValueLength x) 0)
       (others : (j : ℕ) → (j ≡ k → ⊥) → getD f′ j 0 ≡ getD f j 0) where
     free-put : (j : ℕ) → j < rowCount → (j ≡ k) ⊎ (j ≡ k → ⊥)
-        → isRowAbsentOrEmpty dictionaryRows (putRow dictionaryRows (storeWithPending s b xs) k (packedItemValueIn s x)) j ≡ both
-            (isRowAbsentOrEmpty dictionaryRows b j) (eqb (getD f′ j 0) 0)
+        → isRowAbsentOrEmpty dictionaryRows (putRow dictionaryRows (storeWithPending s b xs) k (packedItemValueIn s x))
+        j ≡ both
+        (isRowAbsentOrEmpty dictionaryRows b j) (eqb (getD f′ j 0) 0)
     free-put j i (inl e) =
-        subst (λ (y : ℕ). isRowAbsentOrEmpty dictionaryRows (putRow dictionaryRows (storeWithPending s b xs) k (packedItemValueIn s x)) y ≡ both
-            (isRowAbsentOrEmpty dictionaryRows b y) (eqb (getD f′ y 0) 0)) (sym e)
+        subst
+        (λ (y : ℕ). isRowAbsentOrEmpty dictionaryRows
+        (putRow dictionaryRows (storeWithPending s b xs) k (packedItemValueIn s x)) y ≡ both
+        (isRowAbsentOrEmpty dictionaryRows b y) (eqb (getD f′ y 0) 0)) (sym e)
         (ap (λ (y : StoredValue). eqb (length (bytesOrEmptyIfAbsent y)) 0)
-            (put-get dictionaryRows (storeWithPending s b xs) k (packedItemValueIn s x) fits-here)
+        (put-get dictionaryRows (storeWithPending s b xs) k (packedItemValueIn s x) fits-here)
         ∙ ap (λ (n : ℕ). eqb n 0) (value-long s x inside) ∙ sym mark ∙ sym (both-true _ (was-free .0)))
     free-put j i (inr n) =
         ap (λ (y : StoredValue). eqb (length (bytesOrEmptyIfAbsent y)) 0)
-            (put-other dictionaryRows (storeWithPending s b xs) k (packedItemValueIn s x) fits-here j n) ∙ h .free j i
+        (put-other dictionaryRows (storeWithPending s b xs) k (packedItemValueIn s x) fits-here j n) ∙ h .free j i
         ∙ ap (λ (y : ℕ). both (isRowAbsentOrEmpty dictionaryRows b j) (eqb y 0)) (sym (others j n))
 
     values-put : PendingEntriesAndMarksForStore s b (xs ++ (number ∷ [])) f′
@@ -213,10 +235,12 @@ module _ (s b xs f : List ℕ) (h : PendingEntriesAndMarksForStore s b xs f) (k 
       fitting = fitting-more s xs number (h .fitting) number-fits;
       sized = h .sized;
       marks = marks;
-      free = λ j i. ap (λ (y : List ℕ). isRowAbsentOrEmpty dictionaryRows y j) more-put ∙ free-put j i (equal-or-not j k);
+      free = λ j i. ap (λ (y : List ℕ). isRowAbsentOrEmpty dictionaryRows y j) more-put ∙ free-put j i
+          (equal-or-not j k);
     }
 
-  pub values-more : PendingEntriesAndMarksForStore s b (xs ++ (number ∷ [])) (markRowFilledIfNonEmpty f k (packedItemValueLength x))
+  pub values-more : PendingEntriesAndMarksForStore s b (xs ++ (number ∷ []))
+      (markRowFilledIfNonEmpty f k (packedItemValueLength x))
   values-more = elim (equal-or-not (packedItemValueLength x) 0) [
     | inl z ↦
         subst (PendingEntriesAndMarksForStore s b (xs ++ (number ∷ []))) (sym (if-yes _ _ (eq-eqb _ _ z)))
@@ -235,13 +259,14 @@ module _ (b f : List ℕ) (k : ℕ) (row : k < rowCount) (sized : length b ≡ s
   marked n = sym (both-no-right _ _ (ne-eqb _ _ n))
 
   pub unmarked : getD f k 0 ≡ 0
-      → leb (rowLengthPlusOneOrZero dictionaryRows b k) 1 ≡ both (isRowAbsentOrEmpty dictionaryRows b k) (eqb (getD f k 0) 0)
+      → leb (rowLengthPlusOneOrZero dictionaryRows b k) 1 ≡ both (isRowAbsentOrEmpty dictionaryRows b k)
+      (eqb (getD f k 0) 0)
   unmarked z =
       let e = length-byte-at dictionaryRows b k in
       ap (λ (x : ℕ). leb x 1) e
-      ∙ elim (le-or-gt (getD b (rowOffset dictionaryRows k) 0) 1)
-      [ inl i ↦ le-leb _ _ i ∙ sym (both-yes _ _ (free-yes b k sized row i) (eq-eqb _ _ z))
-      | inr i ↦ lt-leb _ _ i ∙ sym (both-no-left _ _ (free-no b k sized row i))
+      ∙ elim (le-or-gt (getD b (rowOffset dictionaryRows k) 0) 1) [
+        | inl i ↦ le-leb _ _ i ∙ sym (both-yes _ _ (free-yes b k sized row i) (eq-eqb _ _ z))
+        | inr i ↦ lt-leb _ _ i ∙ sym (both-no-left _ _ (free-no b k sized row i))
       ]
 
 -- ---- the objects one after the other
@@ -282,7 +307,8 @@ judging-none answer s b l n e m = record {
     fitting = tt;
     sized = e;
     marks = refl;
-    free = λ k r. sym (ap (λ (x : ℕ). both (isRowAbsentOrEmpty dictionaryRows b k) (eqb x 0)) (getD-replicate rowCount k 0 0 r)
+    free = λ k r. sym (ap (λ (x : ℕ). both (isRowAbsentOrEmpty dictionaryRows b k) (eqb x 0))
+        (getD-replicate rowCount k 0 0 r)
         ∙ and-true (isRowAbsentOrEmpty dictionaryRows b k));
   };
   same = refl;
@@ -295,14 +321,17 @@ module _ {answer : ℕ} {s b l₀ : List ℕ} {n : ℕ} {l filled : List ℕ} {p
 
   -- at the end all are judged
   pub judged-all : n ≤ i
-      → (storeAllItems answer (storingState true b) (unpackedFirstItems s n l₀) ≡ storingState true (storeWithPending s b (take p l)))
+      → (storeAllItems answer (storingState true b) (unpackedFirstItems s n l₀) ≡ storingState true
+      (storeWithPending s b (take p l)))
       × IsPendingList s p l
   unfolding unpackedItems
   judged-all h =
-      let z : drop i (take n l₀) ≡ [] = drop-past (take n l₀) i (omega (arith, taken-length)) in
-      (w .same ∙ ap (λ (xs : List ℕ). storeAllItems answer (storingState true (storeWithPending s b (take p l))) (unpackedItems s xs)) z
-          ∙ took-all answer _,
-      record { room = w .room; few = omega (arith, w .few, w .more, g .few); fitting = w .values .fitting })
+      let z : drop i (take n l₀) ≡ [] = drop-past (take n l₀) i (omega (arith, taken-length)) in (
+        w .same ∙ ap (λ (xs : List ℕ). storeAllItems answer (storingState true (storeWithPending s b (take p l)))
+            (unpackedItems s xs)) z
+            ∙ took-all answer _,
+        record { room = w .room; few = omega (arith, w .few, w .more, g .few); fitting = w .values .fitting },
+      )
     where
       drop-past : (xs : List ℕ) (j : ℕ) → length xs ≤ j → drop j xs ≡ []
       drop-past [] zero h = refl
@@ -319,7 +348,8 @@ module _ {answer : ℕ} {s b l₀ : List ℕ} {n : ℕ} {l filled : List ℕ} {p
     x-is = w .rest i (omega arith) ∙ sym (getD-take n l₀ i 0 h)
 
     pub next-inside : ItemValueInside s x
-    next-inside = subst (ItemValueInside s) (sym x-is) (inside-at s (take n l₀) i (g .inside) (omega (arith, taken-length)))
+    next-inside = subst (ItemValueInside s) (sym x-is)
+        (inside-at s (take n l₀) i (g .inside) (omega (arith, taken-length)))
 
     abbrev left : List PrimitiveItem
     left = unpackedItems s (drop (i + 1) (take n l₀))
@@ -328,20 +358,20 @@ module _ {answer : ℕ} {s b l₀ : List ℕ} {n : ℕ} {l filled : List ℕ} {p
     unfolding unpackedItems
     next-items =
         let d : drop i (take n l₀) ≡ getD (take n l₀) i 0 ∷ drop (i + 1) (take n l₀) = rw (add-one i)
-            (drop-cons (take n l₀) i 0 (omega (arith, taken-length))) in
+        (drop-cons (take n l₀) i 0 (omega (arith, taken-length))) in
         ap (unpackedItems s) d
         ∙ ap (λ (y : ℕ). unpackedItem s y ∷ left) (sym x-is)
 
     -- by what is said of it
     next-taken : (v : ItemVerdict) → v ≡ judgeItem answer (unpackedItem s x)
         → storeAllItems answer (storingState true b) (unpackedFirstItems s n l₀) ≡ storeAllItems answer
-            (storeJudgedItem (storeWithPending s b (take p l)) (unpackedItem s x) v) left
+        (storeJudgedItem (storeWithPending s b (take p l)) (unpackedItem s x) v) left
     next-taken v e =
         w .same ∙ ap (storeAllItems answer (storingState true (storeWithPending s b (take p l)))) next-items
         ∙ took answer (storingState true (storeWithPending s b (take p l))) (unpackedItem s x) left
         (sym (next-good answer (storeWithPending s b (take p l)) (unpackedItem s x) refl
-            ∙ item-judged answer (storeWithPending s b (take p l)) (unpackedItem s x)
-            ∙ ap (storeJudgedItem (storeWithPending s b (take p l)) (unpackedItem s x)) (sym e)))
+        ∙ item-judged answer (storeWithPending s b (take p l)) (unpackedItem s x)
+        ∙ ap (storeJudgedItem (storeWithPending s b (take p l)) (unpackedItem s x)) (sym e)))
 
 -- an object that is next, and what is said of it
 pub record NextItem (answer : ℕ) (s b l₀ : List ℕ) (n : ℕ) (l filled : List ℕ) (p i : ℕ)
@@ -403,7 +433,8 @@ module _ {answer : ℕ} {s b l₀ : List ℕ} {n : ℕ} {l filled : List ℕ} {p
           ∙ all-bad answer laid behind (if-no _ _ (sym free-is ∙ d))
 
       pub judged-put : r ≡ true
-          → Judging answer s b l₀ n (set l p (packedPendingEntry k item)) (markRowFilledIfNonEmpty filled k (packedItemValueLength item)) (p + 1)
+          → Judging answer s b l₀ n (set l p (packedPendingEntry k item))
+          (markRowFilledIfNonEmpty filled k (packedItemValueLength item)) (p + 1)
           (i + 1)
       judged-put d =
           let y = packedPendingEntry k item in
@@ -411,7 +442,7 @@ module _ {answer : ℕ} {s b l₀ : List ℕ} {n : ℕ} {l filled : List ℕ} {p
           let m = row-is in
           let v = next-inside (z .list) w (z .more) in
           let t : take (p + 1) (set l p y) ≡ take p l ++ (y ∷ []) = rw (add-one p)
-              (take-suc-set l p y (omega (arith, w .room, pending-room))) in
+          (take-suc-set l p y (omega (arith, w .room, pending-room))) in
           record {
             room = length-set l p y ∙ w .room;
             few = omega (arith, w .few);
@@ -419,16 +450,18 @@ module _ {answer : ℕ} {s b l₀ : List ℕ} {n : ℕ} {l filled : List ℕ} {p
             rest = λ j a. getD-set-other l p j y 0 (λ c. omega (arith, w .few)) ∙ w .rest j (omega arith);
             values = rw t (values-more s b (take p l) filled (w .values) k item (m .0) v (m .1) f);
             same =
-              taken q
-              ∙ ap (λ (u : StoringState). storeAllItems answer u behind)
-              (if-yes _ _ f
-                  ∙ ap (storingState true)
-                  (sym (ap (storeWithPending s b) t ∙ more-put s b (take p l) filled (w .values) k item (m .0) v (m .1) f)));
+                taken q
+                ∙ ap (λ (u : StoringState). storeAllItems answer u behind)
+                (if-yes _ _ f
+                ∙ ap (storingState true)
+                (sym (ap (storeWithPending s b) t ∙ more-put s b (take p l) filled (w .values) k item (m .0) v (m .1)
+                f)));
           }
 
 -- ---- putting the pending values one after the other
 
-fitting-at : (s xs : List ℕ) (i : ℕ) → AllPendingEntriesFitRowAndBytes s xs → i < length xs → PendingEntryFitsRowAndBytes s (getD xs i 0)
+fitting-at : (s xs : List ℕ) (i : ℕ) → AllPendingEntriesFitRowAndBytes s xs → i < length xs
+    → PendingEntryFitsRowAndBytes s (getD xs i 0)
 fitting-at s [] i h l = absurd (omega arith)
 fitting-at s (x ∷ xs) zero h l = h .0
 fitting-at s (x ∷ xs) (suc i) h l = fitting-at s xs i (h .1) (omega arith)
@@ -437,15 +470,16 @@ pub after-none : (s b l : List ℕ) → b ≡ storeWithPending s b (take 0 l)
 unfolding storeWithPending
 after-none s b l = refl
 
-pub value-fits : (s l : List ℕ) (n : ℕ) → IsPendingList s n l → (i : ℕ) → i < n → PendingEntryFitsRowAndBytes s (getD l i 0)
+pub value-fits : (s l : List ℕ) (n : ℕ) → IsPendingList s n l → (i : ℕ) → i < n
+    → PendingEntryFitsRowAndBytes s (getD l i 0)
 value-fits s l n h i lt =
     subst (PendingEntryFitsRowAndBytes s) (getD-take n l i 0 lt)
     (fitting-at s (take n l) i (h .fitting) (omega (arith, length-take-le n l (omega (arith, h .room, h .few)))))
 
 pub after-one : (s b l : List ℕ) (n : ℕ) → IsPendingList s n l → (i : ℕ) → i < n
     → putRow dictionaryRows (storeWithPending s b (take i l)) (pendingEntryRow (getD l i 0))
-        (packedItemValueIn s (getD l i 0)) ≡ storeWithPending s b (take (i + 1) l)
+    (packedItemValueIn s (getD l i 0)) ≡ storeWithPending s b (take (i + 1) l)
 after-one s b l n h i lt =
     let e : take (i + 1) l ≡ take i l ++ (getD l i 0 ∷ []) = rw (add-one i)
-        (take-suc l i 0 (omega (arith, h .room, h .few))) in
+    (take-suc l i 0 (omega (arith, h .room, h .few))) in
     sym (ap (storeWithPending s b) e ∙ laid-more s b (take i l) (getD l i 0))

@@ -14,7 +14,8 @@ use Rattle.tlv.specs.declared.TlvHeader.{TlvHeader}
 use Rattle.tlv.specs.declared.ObjectFront.the-variants as front
 use Rattle.tlv.specs.declared.NextInTemplate.the-variants.{End, Inner, Malformed}
 use Rattle.tlv.specs.Object.{headerOf, headerValue, behindObject}
-use Rattle.tlv.specs.Tree.{Forest, end, leaf, node, objectCount, nextInTemplateOfFront, nextInTemplate, prependLeaf, prependNode, parseTree}
+use Rattle.tlv.specs.Tree.{Forest, end, leaf, node, objectCount, nextInTemplateOfFront, nextInTemplate, prependLeaf}
+use Rattle.tlv.specs.Tree.{prependNode, parseTree}
 use Rattle.tlv.proofs.Laws.{Bytes, HeaderFits, header-fits}
 use Rattle.tlv.proofs.NextObject.{next-empty, next-object}
 use Rattle.tlv.proofs.Tree.{parse-end, parse-malformed, parse-deep, parse-node, parse-leaf, parse-count, zeros-in-front}
@@ -22,7 +23,8 @@ use Rattle.reading.specs.declared.VisitTally.{VisitTally}
 use Rattle.reading.specs.declared.TemplateWalkResult.{TemplateWalkResult}
 use Rattle.reading.specs.declared.TemplateWalkResult.the-variants.{Whole, Broken}
 use Rattle.reading.specs.Taking.{PrimitiveItem, primitiveItem, primitiveItems}
-use Rattle.reading.specs.Items.{packedItem, tally, mostListedItems, unpackedFirstItems, TemplateWalkHasRoom, WalkListedItems, ListsTreeThen, WalkListsTree}
+use Rattle.reading.specs.Items.{packedItem, tally, mostListedItems, unpackedFirstItems, TemplateWalkHasRoom}
+use Rattle.reading.specs.Items.{WalkListedItems, ListsTreeThen, WalkListsTree}
 use Rattle.reading.proofs.Items.{part, part-empty, part-bytes, part-length, part-cons, object-inside, value-in}
 use Rattle.reading.proofs.Items.{value-part, behind-part, tag-small}
 use Rattle.reading.proofs.Items.{item-packed, inside-packed, items-more, items-listed, pass, enter, has-room}
@@ -32,67 +34,72 @@ pub whole-broken : (t : VisitTally) → Whole t ≡ Broken → ⊥
 whole-broken t e = let z : _≡_ {A = ℕ} 0 1 = cc in omega arith
 
 -- no object is next where none is at the front, unless padding is
-pub next-broken : (b : ℕ) (v : List ℕ) → (b ≡ 0 → ⊥) → headerOf (b ∷ v) ≡ front.Broken → nextInTemplate (b ∷ v) ≡ Malformed
+pub next-broken : (b : ℕ) (v : List ℕ) → (b ≡ 0 → ⊥) → headerOf (b ∷ v) ≡ front.Broken
+    → nextInTemplate (b ∷ v) ≡ Malformed
 unfolding nextInTemplate
 next-broken b v n e = if-no _ _ (ne-eqb b 0 n) ∙ ap nextInTemplateOfFront e
 
 -- ---- the ways that a run goes on, after n objects of which `is` are listed, with k after it
 
-module _ (around : ℕ) (r : TemplateWalkResult) (k : ℕ → List PrimitiveItem → Type 0) (n : ℕ) (is : List PrimitiveItem) where
-  on-leaf : (t : ℕ) (v : List ℕ) (x : Option Forest)
-      → ListsTreeThen around x r k (n + 1) (is ++ (primitiveItem around t v ∷ []))
-      → ListsTreeThen around (prependLeaf t v x) r k n is
-  unfolding prependLeaf objectCount primitiveItems
-  on-leaf t v none h = h
-  on-leaf t v (some f) h =
-      let e : n + 1 + objectCount f ≡ n + (1 + objectCount f) = omega arith in
-      subst (λ (m : ℕ). k m (is ++ (primitiveItem around t v ∷ primitiveItems around f))) e
-      (subst (k (n + 1 + objectCount f)) (append-assoc is (primitiveItem around t v ∷ []) (primitiveItems around f)) h)
+module _ (around : ℕ) (r : TemplateWalkResult) (k : ℕ → List PrimitiveItem → Type 0) (n : ℕ) (is : List PrimitiveItem)
+  where
+    on-leaf : (t : ℕ) (v : List ℕ) (x : Option Forest)
+        → ListsTreeThen around x r k (n + 1) (is ++ (primitiveItem around t v ∷ []))
+        → ListsTreeThen around (prependLeaf t v x) r k n is
+    unfolding prependLeaf objectCount primitiveItems
+    on-leaf t v none h = h
+    on-leaf t v (some f) h =
+        let e : n + 1 + objectCount f ≡ n + (1 + objectCount f) = omega arith in
+        subst (λ (m : ℕ). k m (is ++ (primitiveItem around t v ∷ primitiveItems around f))) e
+        (subst (k (n + 1 + objectCount f)) (append-assoc is (primitiveItem around t v ∷ []) (primitiveItems around f))
+        h)
 
-  on-node : (t : ℕ) (x y : Option Forest) → ListsTreeThen t x r (ListsTreeThen around y r k) (n + 1) is
-      → ListsTreeThen around (prependNode t x y) r k n is
-  unfolding prependNode objectCount primitiveItems
-  on-node t none y h = h
-  on-node t (some f) none h = h
-  on-node t (some f) (some g) h =
-      let e : n + 1 + objectCount f + objectCount g ≡ n + (1 + objectCount f + objectCount g) = omega arith in
-      subst (λ (m : ℕ). k m (is ++ (primitiveItems t f ++ primitiveItems around g))) e
-      (subst (k (n + 1 + objectCount f + objectCount g))
-          (append-assoc is (primitiveItems t f) (primitiveItems around g)) h)
+    on-node : (t : ℕ) (x y : Option Forest) → ListsTreeThen t x r (ListsTreeThen around y r k) (n + 1) is
+        → ListsTreeThen around (prependNode t x y) r k n is
+    unfolding prependNode objectCount primitiveItems
+    on-node t none y h = h
+    on-node t (some f) none h = h
+    on-node t (some f) (some g) h =
+        let e : n + 1 + objectCount f + objectCount g ≡ n + (1 + objectCount f + objectCount g) = omega arith in
+        subst (λ (m : ℕ). k m (is ++ (primitiveItems t f ++ primitiveItems around g))) e
+        (subst (k (n + 1 + objectCount f + objectCount g))
+        (append-assoc is (primitiveItems t f) (primitiveItems around g)) h)
 
-  module _ (l : ℕ) (v : List ℕ) where
-    abbrev Here : Type 0
-    Here = ListsTreeThen around (parseTree l v) r k n is
+    module _ (l : ℕ) (v : List ℕ) where
+      abbrev Here : Type 0
+      Here = ListsTreeThen around (parseTree l v) r k n is
 
-    by-parse : (x : Option Forest) → parseTree l v ≡ x → ListsTreeThen around x r k n is → Here
-    by-parse x e h = subst (λ (z : Option Forest). ListsTreeThen around z r k n is) (sym e) h
+      by-parse : (x : Option Forest) → parseTree l v ≡ x → ListsTreeThen around x r k n is → Here
+      by-parse x e h = subst (λ (z : Option Forest). ListsTreeThen around z r k n is) (sym e) h
 
-    pub then-end : nextInTemplate v ≡ End → k n is → Here
-    unfolding objectCount primitiveItems
-    then-end e h = let z : n ≡ n + 0 = omega arith in
-        by-parse (some end) (parse-end l v e)
-        (subst (λ (m : ℕ). k m (is ++ [])) z (subst (k n) (sym (append-nil is)) h))
+      pub then-end : nextInTemplate v ≡ End → k n is → Here
+      unfolding objectCount primitiveItems
+      then-end e h = let z : n ≡ n + 0 = omega arith in
+          by-parse (some end) (parse-end l v e)
+          (subst (λ (m : ℕ). k m (is ++ [])) z (subst (k n) (sym (append-nil is)) h))
 
-    pub then-malformed : nextInTemplate v ≡ Malformed → r ≡ Broken → Here
-    then-malformed e h = by-parse none (parse-malformed l v e) h
+      pub then-malformed : nextInTemplate v ≡ Malformed → r ≡ Broken → Here
+      then-malformed e h = by-parse none (parse-malformed l v e) h
 
-    pub then-padding : (w : List ℕ) → w ≡ 0 ∷ v → Here → ListsTreeThen around (parseTree l w) r k n is
-    then-padding w e h =
-        subst (λ (z : Option Forest). ListsTreeThen around z r k n is) (sym (ap (parseTree l) e ∙ zeros-in-front 1 l v)) h
+      pub then-padding : (w : List ℕ) → w ≡ 0 ∷ v → Here → ListsTreeThen around (parseTree l w) r k n is
+      then-padding w e h =
+          subst (λ (z : Option Forest). ListsTreeThen around z r k n is)
+          (sym (ap (parseTree l) e ∙ zeros-in-front 1 l v))
+          h
 
-    module _ (h : TlvHeader) (e : nextInTemplate v ≡ Inner h) where
-      pub then-deep : h .template ≡ true → l ≡ 0 → r ≡ Broken → Here
-      then-deep p z q = by-parse none (parse-deep l v h e p z) q
+      module _ (h : TlvHeader) (e : nextInTemplate v ≡ Inner h) where
+        pub then-deep : h .template ≡ true → l ≡ 0 → r ≡ Broken → Here
+        then-deep p z q = by-parse none (parse-deep l v h e p z) q
 
-      pub then-leaf : h .template ≡ false
-          → ListsTreeThen around (parseTree l (behindObject v h)) r k (n + 1)
-          (is ++ (primitiveItem around (h .tag) (headerValue v h) ∷ [])) → Here
-      then-leaf p g = by-parse _ (parse-leaf l v h e p) (on-leaf (h .tag) _ _ g)
+        pub then-leaf : h .template ≡ false
+            → ListsTreeThen around (parseTree l (behindObject v h)) r k (n + 1)
+            (is ++ (primitiveItem around (h .tag) (headerValue v h) ∷ [])) → Here
+        then-leaf p g = by-parse _ (parse-leaf l v h e p) (on-leaf (h .tag) _ _ g)
 
-      pub then-node : h .template ≡ true → (l ≡ 0 → ⊥)
-          → ListsTreeThen (h .tag) (parseTree (l - 1) (headerValue v h)) r
-              (ListsTreeThen around (parseTree l (behindObject v h)) r k) (n + 1) is → Here
-      then-node p z g = by-parse _ (parse-node l v h e p z) (on-node (h .tag) _ _ g)
+        pub then-node : h .template ≡ true → (l ≡ 0 → ⊥)
+            → ListsTreeThen (h .tag) (parseTree (l - 1) (headerValue v h)) r
+            (ListsTreeThen around (parseTree l (behindObject v h)) r k) (n + 1) is → Here
+        then-node p z g = by-parse _ (parse-node l v h e p z) (on-node (h .tag) _ _ g)
 
 -- ---- a run that was walked to its end, and what follows it
 
@@ -111,10 +118,11 @@ module _ (s : List ℕ) (around : ℕ) (n : ℕ) (is : List PrimitiveItem) (l : 
     whole-run none r k h g = absurd (whole-broken u h)
     whole-run (some f) r k h g =
         let e : u ≡ tally (n + objectCount f) (length (is ++ primitiveItems around f)) = cc in
-        let i : unpackedFirstItems s (u .items) l ≡ is ++ primitiveItems around f = ap (λ (z : VisitTally). unpackedFirstItems s (z .items) l) e
-            ∙ h .are in
+        let i : unpackedFirstItems s (u .items) l ≡ is ++ primitiveItems around f =
+        ap (λ (z : VisitTally). unpackedFirstItems s (z .items) l) e
+        ∙ h .are in
         subst (λ (m : ℕ). k m (is ++ primitiveItems around f)) (ap (λ (z : VisitTally). z .objects) e)
-            (subst (k (u .objects)) i g)
+        (subst (k (u .objects)) i g)
 
 few-items : (around : ℕ) (f : Forest) → length (primitiveItems around f) ≤ objectCount f
 unfolding primitiveItems objectCount
@@ -128,7 +136,8 @@ few-items around (node t f r) =
 -- ---- where a walk stands: at a place of a template's contents, which end at `stop`, after n objects, k listed in l
 
 -- K is what follows the template, All what the whole walk promises
-pub record Run (s : List ℕ) (e stop levels around : ℕ) (K : TemplateWalkResult → List ℕ → ℕ → List PrimitiveItem → Type 0)
+pub record Run (s : List ℕ) (e stop levels around : ℕ) (K : TemplateWalkResult → List ℕ → ℕ → List PrimitiveItem
+    → Type 0)
     (All : TemplateWalkResult → List ℕ → Type 0)
     (at n k : ℕ) (l : List ℕ) : Type 0 where
   pub fits : TemplateWalkHasRoom s at e n k l
@@ -162,8 +171,9 @@ module _ {s : List ℕ} {e stop levels around : ℕ} {K : TemplateWalkResult →
 
   -- a walk that stands elsewhere in the same contents
   on : {at′ n′ k′ : ℕ} {l₁ : List ℕ} → TemplateWalkHasRoom s at′ e n′ k′ l₁ → at′ ≤ stop
-      → ((r : TemplateWalkResult) (l′ : List ℕ) → ListsTreeThen around (parseTree levels (part s at′ stop)) r (K r l′) n′
-          (unpackedFirstItems s k′ l₁) → All r l′)
+      → ((r : TemplateWalkResult) (l′ : List ℕ) → ListsTreeThen around (parseTree levels (part s at′ stop)) r (K r l′)
+      n′
+      (unpackedFirstItems s k′ l₁) → All r l′)
       → Run s e stop levels around K All at′ n′ k′ l₁
   on f b h = record { fits = f; before = b; inside = w .inside; tag = w .tag; same = h }
 
@@ -175,16 +185,17 @@ module _ {s : List ℕ} {e stop levels around : ℕ} {K : TemplateWalkResult →
     padding q =
         on (pass (w .fits) (at + 1) (omega (arith, w .inside)) (omega arith)) (omega arith)
         (λ r l′ h. w .same r l′
-            (then-padding around r (K r l′) n _ levels _ _ (rest-cons ∙ ap (λ (b : ℕ). b ∷ part s (at + 1) stop) q) h))
+        (then-padding around r (K r l′) n _ levels _ _ (rest-cons ∙ ap (λ (b : ℕ). b ∷ part s (at + 1) stop) q) h))
 
     pub failed : (getD s at 0 ≡ 0 → ⊥) → headerOf (part s at stop) ≡ front.Broken → (l′ : List ℕ) → All Broken l′
     failed q x l′ =
         w .same Broken l′
         (then-malformed around Broken (K Broken l′) n _ levels _
-            (ap nextInTemplate rest-cons ∙ next-broken _ _ q (ap headerOf (sym rest-cons) ∙ x)) refl)
+        (ap nextInTemplate rest-cons ∙ next-broken _ _ q (ap headerOf (sym rest-cons) ∙ x)) refl)
 
 -- the object that is next there, in bytes
-pub record Next (s : List ℕ) (e stop levels around : ℕ) (K : TemplateWalkResult → List ℕ → ℕ → List PrimitiveItem → Type 0)
+pub record Next (s : List ℕ) (e stop levels around : ℕ) (K : TemplateWalkResult → List ℕ → ℕ → List PrimitiveItem
+    → Type 0)
     (All : TemplateWalkResult → List ℕ → Type 0)
     (at n k : ℕ) (l : List ℕ) (w : Run s e stop levels around K All at n k l) (h : TlvHeader) : Type 0 where
   pub bytes : Bytes s
@@ -194,7 +205,7 @@ pub record Next (s : List ℕ) (e stop levels around : ℕ) (K : TemplateWalkRes
 module _ {s : List ℕ} {e stop levels around : ℕ} {K : TemplateWalkResult → List ℕ → ℕ → List PrimitiveItem → Type 0}
     {All : TemplateWalkResult → List ℕ → Type 0}
     {at n k : ℕ} {l : List ℕ} {w : Run s e stop levels around K All at n k l} {h : TlvHeader}
-        (x : Next s e stop levels around K All at n k l w h) where
+    (x : Next s e stop levels around K All at n k l w h) where
   -- what is left of the contents, and where the object's value starts and ends
   abbrev rest : List ℕ
   rest = part s at stop
@@ -239,15 +250,15 @@ module _ {s : List ℕ} {e stop levels around : ℕ} {K : TemplateWalkResult →
       let b = bounds in
       let f = number-fits in
       let v = item-packed (h .tag) around from (h .len) (f .1) (f .2) (f .3) (f .4) s
-          ∙ ap (primitiveItem around (h .tag)) (sym (value-in s at stop (stops w) h fits)) in
+      ∙ ap (primitiveItem around (h .tag)) (sym (value-in s at stop (stops w) h fits)) in
       let m = items-more s l k number (omega (arith, room, list-length))
-          ∙ ap (λ (i : PrimitiveItem). unpackedFirstItems s k l ++ (i ∷ [])) v in
+      ∙ ap (λ (i : PrimitiveItem). unpackedFirstItems s k l ++ (i ∷ [])) v in
       on w
       (list (w .fits) beyond (b .1 .1) (omega arith) number
-          (inside-packed (h .tag) around from (h .len) (f .1) (f .2) (f .3) (f .4) s (omega (arith, stops w))))
+      (inside-packed (h .tag) around from (h .len) (f .1) (f .2) (f .3) (f .4) s (omega (arith, stops w))))
       (b .1 .0)
       (λ r l′ g. w .same r l′
-          (then-leaf around r (K r l′) n _ levels rest h next p (rw (m, behind-part s at stop (stops w) h fits) at g)))
+      (then-leaf around r (K r l′) n _ levels rest h next p (rw (m, behind-part s at stop (stops w) h fits) at g)))
 
   -- a template, what it holds, and what follows it
   pub entered : TemplateWalkHasRoom s from e (n + 1) k l
@@ -261,12 +272,13 @@ module _ {s : List ℕ} {e stop levels around : ℕ} {K : TemplateWalkResult →
     tree = parseTree (levels - 1) (part s from beyond)
 
     pub node-same : (r : TemplateWalkResult) (l′ : List ℕ)
-        → ListsTreeThen (h .tag) tree r (ListsTreeThen around (parseTree levels (part s beyond stop)) r (K r l′)) (n + 1)
+        → ListsTreeThen (h .tag) tree r (ListsTreeThen around (parseTree levels (part s beyond stop)) r (K r l′))
+        (n + 1)
         (unpackedFirstItems s k l) → All r l′
     node-same r l′ g =
         w .same r l′
         (then-node around r (K r l′) n _ levels rest h next p q
-            (rw (value-part s at stop (stops w) h fits, behind-part s at stop (stops w) h fits) at g))
+        (rw (value-part s at stop (stops w) h fits, behind-part s at stop (stops w) h fits) at g))
 
     -- whose contents a walk has reported
     module _ (l₁ : List ℕ) where
@@ -300,4 +312,4 @@ module _ {s : List ℕ} {e stop levels around : ℕ} {K : TemplateWalkResult →
           → Run s e stop levels around K All beyond (u .objects) (u .items) l₁
       inner-whole u g =
           on w (inner-fits u tree refl g) (bounds .1 .0)
-              (λ r l′ y. node-same r l′ (whole-run s (h .tag) (n + 1) _ l₁ u tree r _ g y))
+          (λ r l′ y. node-same r l′ (whole-run s (h .tag) (n + 1) _ l₁ u tree r _ g y))

@@ -35,15 +35,20 @@ use Rattle.reading.specs.declared.TemplateWalkResult.the-variants as wal
 use Rattle.reading.specs.declared.ItemListing.{ItemListing}
 use Rattle.reading.specs.declared.ItemListing.the-variants.{Objects, Decided}
 use Rattle.reading.specs.Taking.{PrimitiveItem, primitiveItem, StoringState, storingState, storeAllItems}
-use Rattle.reading.specs.Items.{packedItem, unpackedItems, unpackedFirstItems, mostListedItems, IsItemList, tally, WalkListedItems, ListsTreeThen}
+use Rattle.reading.specs.Items.{packedItem, unpackedItems, unpackedFirstItems, mostListedItems, IsItemList, tally}
+use Rattle.reading.specs.Items.{WalkListedItems, ListsTreeThen}
 use Rattle.reading.specs.Pending.{storeWithPending}
-use Rattle.reading.specs.Answer.{verdictNumber, ReadingOutcome, readingOutcome, ReadingAndStoreMatchOutcome, primitive, template}
+use Rattle.reading.specs.Answer.{verdictNumber, ReadingOutcome, readingOutcome, ReadingAndStoreMatchOutcome}
+use Rattle.reading.specs.Answer.{primitive, template}
 use Rattle.reading.specs.Answer.{templateBody, bodyOfOneObject, parseResponseBody}
-use Rattle.reading.specs.Answer.{responseBit, primitiveBodyItems, readingIfAllAllowed, readBodyItems, readParsedBody, readBody}
+use Rattle.reading.specs.Answer.{responseBit, primitiveBodyItems, readingIfAllAllowed, readBodyItems}
+use Rattle.reading.specs.Answer.{readParsedBody, readBody}
 use Rattle.reading.specs.Answer.{isBodyToBeRead, isStatus9000, responseLengthIs2To258, readAnswer}
 use Rattle.reading.specs.Count.{objectCountInAnswer}
-use Rattle.reading.specs.Inner.{readingOf, readingBeginning, outerObjectOfFront, outerObject, readingOutcomeOfListing, ListingGivesReading}
-use Rattle.reading.specs.Inner.{ListingGivesPrimitiveBodyReading, readTemplate, valueOfHeader, ResponseIsTemplate, listingOfTemplate}
+use Rattle.reading.specs.Inner.{readingOf, readingBeginning, outerObjectOfFront, outerObject}
+use Rattle.reading.specs.Inner.{readingOutcomeOfListing, ListingGivesReading}
+use Rattle.reading.specs.Inner.{ListingGivesPrimitiveBodyReading, readTemplate, valueOfHeader, ResponseIsTemplate}
+use Rattle.reading.specs.Inner.{listingOfTemplate}
 use Rattle.reading.proofs.Parts.{regive, judged-yes, template-right, template-wrong}
 use Rattle.reading.proofs.Count.{answer-tree, answer-half}
 use Rattle.reading.proofs.Items.{drop-take, front-bytes, item-packed, inside-packed, items-more, inside-more}
@@ -84,9 +89,9 @@ module _ (a : Awaited) (s : List ℕ) where
       let P : ReadingBeginning → Type 0 = λ x. x ≡ begins.Body n → (n ≡ length s - 2) × (n ≤ 256) in
       if-ind P _ _ _
       (λ t. if-ind P _ _ _
-          (λ u. if-ind P _ _ _ (λ v e. let z : length s - 2 ≡ n = cc in let m : length s ≤ 258 = leb-true _ _
-          (both-right _ _ t) in (omega arith, omega arith)) (λ v e. none-here Accepted e))
-          (λ u e. none-here BadStatus e))
+      (λ u. if-ind P _ _ _ (λ v e. let z : length s - 2 ≡ n = cc in let m : length s ≤ 258 = leb-true _ _
+      (both-right _ _ t) in (omega arith, omega arith)) (λ v e. none-here Accepted e))
+      (λ u e. none-here BadStatus e))
       (λ t e. none-here Malformed e)
     where
       none-here : (v : ResponseVerdict) → begins.Decided v ≡ begins.Body n → (n ≡ length s - 2) × (n ≤ 256)
@@ -104,9 +109,9 @@ module _ (a : Awaited) (s : List ℕ) where
       where
         by-tests : (l t r : Bool)
             → if l (if t (if r (readBody a b (take (length s - 2) s)) (readingOutcome 0 0 b)) (readingOutcome 1 0 b))
-                (readingOutcome 2 0 b)
+            (readingOutcome 2 0 b)
             ≡ begun (if l (if t (if r (begins.Body (length s - 2)) (begins.Decided Accepted))
-                (begins.Decided BadStatus)) (begins.Decided Malformed))
+            (begins.Decided BadStatus)) (begins.Decided Malformed))
         by-tests true true true = refl
         by-tests true true false = refl
         by-tests true false r = refl
@@ -136,8 +141,10 @@ module _ (s : List ℕ) where
       go : (x : ObjectFront) → headerOf s ≡ x → Fits (outerObjectOfFront s x)
       go Broken e = tt
       go (Object h) e =
-          if-ind Fits _ _ _ (λ t. let f : (headerOf s ≡ Object h) × (h .start + h .len ≡ length s) = (e,
-              eqb-true _ _ t) in if-ind Fits _ _ _ (λ u. f) (λ u. f)) (λ t. tt)
+          if-ind Fits _ _ _ (λ t. let f : (headerOf s ≡ Object h) × (h .start + h .len ≡ length s) = (
+            e,
+            eqb-true _ _ t,
+          ) in if-ind Fits _ _ _ (λ u. f) (λ u. f)) (λ t. tt)
 
   pub outer-fits : {x y : OuterObject} → x ≡ outerObject s → x ≡ y → Fits y
   outer-fits p q = subst Fits (sym p ∙ q) fits-outer
@@ -155,8 +162,8 @@ module _ (s : List ℕ) where
       where
         by-tests : (h : TlvHeader) (t u : Bool)
             → readParsedBody a b
-                (if t (if u (templateBody (h .tag) (parseTree 3 (headerValue s h)))
-                (some (primitive (h .tag) (headerValue s h)))) none)
+            (if t (if u (templateBody (h .tag) (parseTree 3 (headerValue s h)))
+            (some (primitive (h .tag) (headerValue s h)))) none)
             ≡ objectRead (if t (if u (outer.Template h) (outer.Primitive h)) outer.Broken)
         by-tests h true true = refl
         by-tests h true false = refl
@@ -214,13 +221,15 @@ module _ (a : Awaited) (s : List ℕ) (n : ℕ) (q : readingBeginning a s ≡ be
         }
 
     pub primitive-opened : (h : TlvHeader) → x ≡ outer.Primitive h → {y : ItemListing} (l : List ℕ)
-        → ListingGivesPrimitiveBodyReading a (primitiveBodyItems a (h .tag)) (h .start) (h .len) y l → ListingGivesReading a s (λ b. readAnswer a b s) y l
+        → ListingGivesPrimitiveBodyReading a (primitiveBodyItems a (h .tag)) (h .start) (h .len) y l
+        → ListingGivesReading a s (λ b. readAnswer a b s) y l
     primitive-opened h e l g =
         let f = outer-fits body p e in
         let w = g s (object-places h (f .0) .1 .0) in
         record {
           gives = λ b. answer-object (outer.Primitive h) p e b
-              ∙ ap (λ (v : List ℕ). readParsedBody a b (some (primitive (h .tag) v))) (value-here h (f .0)) ∙ w .gives b;
+              ∙ ap (λ (v : List ℕ). readParsedBody a b (some (primitive (h .tag) v))) (value-here h (f .0)) ∙ w .gives
+              b;
           fits = w .fits;
         }
 
@@ -237,7 +246,8 @@ module _ (a : Awaited) (t : ℕ) (s v l : List ℕ) where
   by-tree : (x : Option Forest) (w : TemplateWalkResult) → ListsTreeThen t x w (WalkListedItems s l w) 1 []
       → ListingGivesReading a s (λ b. readParsedBody a b (templateBody t x)) (listingOfTemplate a t w) l
   unfolding listingOfTemplate
-  by-tree none w g = subst (λ (z : TemplateWalkResult). ListingGivesReading a s (λ b. readParsedBody a b none) (listingOfTemplate a t z) l) (sym g)
+  by-tree none w g = subst (λ (z : TemplateWalkResult). ListingGivesReading a s (λ b. readParsedBody a b none)
+      (listingOfTemplate a t z) l) (sym g)
       (record { gives = λ b. refl; fits = tt })
   by-tree (some f) w g =
       let Q : ItemListing → Type 0 = λ y. ListingGivesReading a s (λ b. readParsedBody a b (some (template t f))) y l in
@@ -247,13 +257,16 @@ module _ (a : Awaited) (t : ℕ) (s v l : List ℕ) where
         gives = λ b.
             ap (readBodyItems a b (1 + objectCount f)) (template-right a t f (eqb-true _ _ e))
             ∙ ap (λ (is : List PrimitiveItem). readingIfAllAllowed b (1 + objectCount f)
-                (storeAllItems (responseBit a) (storingState true b) is)) (sym (g .are));
+            (storeAllItems (responseBit a) (storingState true b) is)) (sym (g .are));
         fits = g .items;
       })
-      (λ e. record { gives = λ b. ap (readBodyItems a b (1 + objectCount f)) (template-wrong a t f (eqb-false _ _ e));
-          fits = tt }))
+      (λ e. record {
+        gives = λ b. ap (readBodyItems a b (1 + objectCount f)) (template-wrong a t f (eqb-false _ _ e));
+        fits = tt;
+      }))
 
-  pub closed-listed : (w : TemplateWalkResult) {y : ItemListing} → ListsTreeThen t (parseTree 3 v) w (WalkListedItems s l w) 1 []
+  pub closed-listed : (w : TemplateWalkResult) {y : ItemListing}
+      → ListsTreeThen t (parseTree 3 v) w (WalkListedItems s l w) 1 []
       → y ≡ listingOfTemplate a t w → ListingGivesReading a s (readTemplate a t v) y l
   closed-listed w g d = rw d (by-tree (parseTree 3 v) w g)
 
@@ -261,11 +274,14 @@ module _ (a : Awaited) (t : ℕ) (s v l : List ℕ) where
 pub template-listed : (a : Awaited) (s : List ℕ) (h : TlvHeader) (l : List ℕ) → ResponseIsTemplate a s h
     → (w : TemplateWalkResult) {y : ItemListing}
     → ListsTreeThen (h .tag) (parseTree 3 (contents s (h .start) (h .len))) w (WalkListedItems s l w) 1 []
-        → y ≡ listingOfTemplate a (h .tag) w → ListingGivesReading a s (λ b. readAnswer a b s) y l
+    → y ≡ listingOfTemplate a (h .tag) w → ListingGivesReading a s (λ b. readAnswer a b s) y l
 template-listed a s h l i w g d =
     let c = closed-listed a (h .tag) s (contents s (h .start) (h .len)) l w g d in
-    record { gives = λ b. i .gives b ∙ ap (λ (v : List ℕ). readTemplate a (h .tag) v b)
-        (sym (contents-is s (h .start) (h .len))) ∙ c .gives b; fits = c .fits }
+    record {
+      gives = λ b. i .gives b ∙ ap (λ (v : List ℕ). readTemplate a (h .tag) v b)
+          (sym (contents-is s (h .start) (h .len))) ∙ c .gives b;
+      fits = c .fits;
+    }
 
 -- ---- the parts of a body under 80
 
@@ -284,7 +300,7 @@ no-parts s l e = record { list = record { room = e; few = omega arith; inside = 
 add-part : {s : List ℕ} {k : ℕ} {l : List ℕ} {is : List PrimitiveItem} → PartList s k l is → k < mostListedItems
     → (t p n : ℕ) → 1 ≤ p → p + n ≤ length s → p + n ≤ 256
     → n < 256 → (v : List ℕ) → take n (drop p s) ≡ v
-        → PartList s (k + 1) (set l k (packedItem t 0x77 p n)) (is ++ (primitiveItem 0x77 t v ∷ []))
+    → PartList s (k + 1) (set l k (packedItem t 0x77 p n)) (is ++ (primitiveItem 0x77 t v ∷ []))
 add-part {s} {k} {l} {is} w h t p n i j m c v e =
     let x = packedItem t 0x77 p n in
     let q : p ≤ 256 = omega arith in
@@ -296,9 +312,9 @@ add-part {s} {k} {l} {is} w h t p n i j m c v e =
         inside = inside-more s l k x d (w .list .inside) (inside-packed t 0x77 p n (omega arith) i q c s j);
       };
       are =
-        items-more s l k x d
-        ∙ ap₂ (λ (js : List PrimitiveItem) (y : PrimitiveItem). js ++ (y ∷ [])) (w .are)
-        (item-packed t 0x77 p n (omega arith) i q c s ∙ ap (primitiveItem 0x77 t) e);
+          items-more s l k x d
+          ∙ ap₂ (λ (js : List PrimitiveItem) (y : PrimitiveItem). js ++ (y ∷ [])) (w .are)
+          (item-packed t 0x77 p n (omega arith) i q c s ∙ ap (primitiveItem 0x77 t) e);
     }
 
 -- parts of a value of n bytes that starts at a place: at its front, within it, and the rest of it
@@ -314,7 +330,7 @@ module _ (s : List ℕ) (start n : ℕ) where
         → PartList s 1 (set l 0 (packedItem t 0x77 start j)) (primitiveItem 0x77 t (take j value) ∷ [])
     front-part l e t j h =
         add-part (no-parts s l e) (omega arith) t start j (omega arith) (omega arith) (omega arith) (omega arith)
-            (take j value)
+        (take j value)
         (sym (take-take j n (drop start s) h))
 
     module _ {k : ℕ} {l : List ℕ} {is : List PrimitiveItem} (w : PartList s k l is) (t m : ℕ)
@@ -343,23 +359,26 @@ module _ (a : Awaited) (f : List ℕ → Option (List PrimitiveItem)) (start n :
 
   pub parts-some : (k : ℕ) (is : List ℕ → List PrimitiveItem) → ((v : List ℕ) → length v ≡ n → f v ≡ some (is v))
       → ((s : List ℕ) → start + n ≤ length s → PartList s k l (is (value s start n)))
-          → ListingGivesPrimitiveBodyReading a f start n (Objects (tally 1 k)) l
+      → ListingGivesPrimitiveBodyReading a f start n (Objects (tally 1 k)) l
   parts-some k is h g s i =
       let w = g s i in
       record {
         gives = λ b.
             ap (readBodyItems a b 1) (h (value s start n) (value-size s start n i))
-            ∙ ap (λ (js : List PrimitiveItem). readingIfAllAllowed b 1 (storeAllItems (responseBit a) (storingState true b) js))
-                (sym (w .are));
+            ∙ ap (λ (js : List PrimitiveItem). readingIfAllAllowed b 1
+            (storeAllItems (responseBit a) (storingState true b) js))
+            (sym (w .are));
         fits = w .list;
       }
 
 -- the parts of the answer c, where c is awaited
-pub parts-for : {a c : Awaited} {f : List ℕ → Option (List PrimitiveItem)} (t start n : ℕ) {y : ItemListing} {l : List ℕ}
+pub parts-for : {a c : Awaited} {f : List ℕ → Option (List PrimitiveItem)} (t start n : ℕ) {y : ItemListing}
+    {l : List ℕ}
     → a ≡ c
     → ((v : List ℕ) → primitiveBodyItems c t v ≡ f v) → ListingGivesPrimitiveBodyReading c f start n y l
-        → ListingGivesPrimitiveBodyReading a (primitiveBodyItems a t) start n y l
-parts-for {a} {c} {f} t start n {y} {l} e h g = subst (λ (z : Awaited). ListingGivesPrimitiveBodyReading z (primitiveBodyItems z t) start n y l)
+    → ListingGivesPrimitiveBodyReading a (primitiveBodyItems a t) start n y l
+parts-for {a} {c} {f} t start n {y} {l} e h g =
+    subst (λ (z : Awaited). ListingGivesPrimitiveBodyReading z (primitiveBodyItems z t) start n y l)
     (sym e) here
   where
     here : ListingGivesPrimitiveBodyReading c (primitiveBodyItems c t) start n y l
@@ -401,7 +420,8 @@ module _ (a : Awaited) (s b l l′ : List ℕ) {x : ItemListing} where
 
 -- ---- the whole reading
 
-module _ (a : Awaited) (s b : List ℕ) {x : ItemListing} {l : List ℕ} (w : ListingGivesReading a s (λ b. readAnswer a b s) x l)
+module _ (a : Awaited) (s b : List ℕ) {x : ItemListing} {l : List ℕ}
+    (w : ListingGivesReading a s (λ b. readAnswer a b s) x l)
     {r : Reading} {c : List ℕ}
     (g : ReadingAndStoreMatchOutcome r c (readingOutcomeOfListing a s b x l)) where
   pub answer-given : ReadingAndStoreMatchOutcome r c (readAnswer a b s)

@@ -20,14 +20,19 @@ use Rattle.session_record.specs.declared.AwaitedResponse.{AwaitedResponse}
 use Rattle.session_record.specs.declared.Phase.{Phase}
 use Rattle.session_record.specs.declared.Session.{Session}
 use Rattle.session_record.specs.declared.CallResult.{CallResult}
-use Rattle.session_record.specs.Session.{storeBytes, SessionStage, fresh, running, ended, sessionStageOf, isRunning, isEnded}
-use Rattle.session_record.specs.Ranges.{inFreshRanges, inGpoRanges, inRecordRanges, inCryptogramRanges, inChecksumRanges, inEndedRanges, inPhaseRanges}
+use Rattle.session_record.specs.Session.{storeBytes, SessionStage, fresh, running, ended, sessionStageOf, isRunning}
+use Rattle.session_record.specs.Session.{isEnded}
+use Rattle.session_record.specs.Ranges.{inFreshRanges, inGpoRanges, inRecordRanges, inCryptogramRanges}
+use Rattle.session_record.specs.Ranges.{inChecksumRanges, inEndedRanges, inPhaseRanges}
 use Rattle.session.specs.Answer.{gpoReason}
 use Rattle.session.specs.Calls.{Call, start, answer, link-failed, stop, CallMade, isRefusal, callResult, callRefused}
 use Rattle.session.proofs.Results.{isCommand, isOutcome}
 use Rattle.session_claim.specs.Calls.{callsAccepted, lastElement}
-use Rattle.session_claim.specs.Order.{aflInGpoResponse, aipInGpoResponse, cardBytes, aflAcceptedFromGpoAnswer, CommandKind, cryptogram, finalCommandKindForAip, finalCommandKindByGpoAnswer}
-use Rattle.session_claim.specs.Claim.{stageAfterAcceptedResult, stageAfterLastAcceptedCall, CallsAndSessionAfterInPublishedOrder}
+use Rattle.session_claim.specs.Order.{aflInGpoResponse, aipInGpoResponse, cardBytes, aflAcceptedFromGpoAnswer}
+use Rattle.session_claim.specs.Order.{CommandKind, cryptogram, finalCommandKindForAip}
+use Rattle.session_claim.specs.Order.{finalCommandKindByGpoAnswer}
+use Rattle.session_claim.specs.Claim.{stageAfterAcceptedResult, stageAfterLastAcceptedCall}
+use Rattle.session_claim.specs.Claim.{CallsAndSessionAfterInPublishedOrder}
 use Rattle.session_claim.specs.ReportedCvm.{choiceMadeIn}
 
 -- ---- the accepted AFL and the last command
@@ -62,7 +67,8 @@ no-aip : cryptogram ≡ finalCommandKindForAip (aipInGpoResponse [])
 unfolding finalCommandKindForAip aipInGpoResponse parseResponseBody headerOf tagAt tagSize tagFirstByte lengthAt if
 no-aip = refl
 
-call-afl : (s : Session) (c : Call) → wasAfl s c ≡ if (eqb (gpoReason (storeBytes s) (cardBytes c)) reasonNone) (aflInGpoResponse (cardBytes c)) none
+call-afl : (s : Session) (c : Call) → wasAfl s c ≡ if (eqb (gpoReason (storeBytes s) (cardBytes c)) reasonNone)
+    (aflInGpoResponse (cardBytes c)) none
 call-afl s (start bytes buf) = no-afl _
 call-afl s (answer card buf) = refl
 call-afl s (link-failed buf) = no-afl _
@@ -123,11 +129,14 @@ last-passed (m ∷ []) a = a .0
 last-passed (m ∷ k ∷ ms) a = last-passed (k ∷ ms) (a .1)
 
 -- a test of a stage that agrees with one of the phase and one of what was returned
-module _ (t : SessionStage → Bool) (f : Phase → Bool) (g : CallResult → Bool) (of : (p : Phase) → f p ≡ t (sessionStageOf p)) (by : (a : CallResult) → isRefusal a ≡ false → t (stageAfterAcceptedResult a) ≡ g a) where
-  tested : (p : Phase) (o : Option CallMade) (z : Bool) → Passed o → t fresh ≡ z → (n : Option CallMade → Bool) → n none ≡ z → ((m : CallMade) → n (some m) ≡ g (callResult m))
-      → sessionStageOf p ≡ stageAfterLastAcceptedCall o → f p ≡ n o
-  tested p none z h e n i j q = of p ∙ ap t q ∙ e ∙ sym i
-  tested p (some m) z h e n i j q = of p ∙ ap t q ∙ by (callResult m) h ∙ sym (j m)
+module _ (t : SessionStage → Bool) (f : Phase → Bool) (g : CallResult → Bool) (of : (p : Phase)
+    → f p ≡ t (sessionStageOf p)) (by : (a : CallResult) → isRefusal a ≡ false → t (stageAfterAcceptedResult a) ≡ g a)
+  where
+    tested : (p : Phase) (o : Option CallMade) (z : Bool) → Passed o → t fresh ≡ z → (n : Option CallMade → Bool)
+        → n none ≡ z → ((m : CallMade) → n (some m) ≡ g (callResult m))
+        → sessionStageOf p ≡ stageAfterLastAcceptedCall o → f p ≡ n o
+    tested p none z h e n i j q = of p ∙ ap t q ∙ e ∙ sym i
+    tested p (some m) z h e n i j q = of p ∙ ap t q ∙ by (callResult m) h ∙ sym (j m)
 
 abbrev isFreshStage : SessionStage → Bool
 isFreshStage SessionStage.fresh = true
@@ -183,9 +192,12 @@ pub record WasStage (ms : List CallMade) (s : Session) : Type 0 where
 pub stage-agrees : (ms : List CallMade) (s : Session) → CallsAndSessionAfterInPublishedOrder ms s → WasStage ms s
 stage-agrees ms s c =
     record {
-      fresh = tested isFreshStage wasFresh (λ a. false) fresh-of fresh-by (s .phase) o true passed refl wasNone refl (λ m. refl) (c .stage);
-      running = tested isRunningStage isRunning isCommand running-of running-by (s .phase) o false passed refl wasCommand refl (λ m. refl) (c .stage);
-      ended = tested isEndedStage isEnded isOutcome ended-of ended-by (s .phase) o false passed refl wasOutcome refl (λ m. refl) (c .stage);
+      fresh = tested isFreshStage wasFresh (λ a. false) fresh-of fresh-by (s .phase) o true passed refl wasNone refl
+          (λ m. refl) (c .stage);
+      running = tested isRunningStage isRunning isCommand running-of running-by (s .phase) o false passed refl
+          wasCommand refl (λ m. refl) (c .stage);
+      ended = tested isEndedStage isEnded isOutcome ended-of ended-by (s .phase) o false passed refl wasOutcome refl
+          (λ m. refl) (c .stage);
     }
   where
     o : Option CallMade

@@ -13,10 +13,12 @@ use Rattle.session_record.specs.declared.Session.{Session}
 use Rattle.session_record.specs.Ranges.{sessionRecordInRanges}
 use Rattle.session_record.specs.declared.AwaitedResponse.{AwaitedResponse}
 use Rattle.session_record.specs.Session.{storeBytes, endingForReason}
-use Rattle.session.specs.Steps.{end, heldCvm, Step, CallEffect, refusedStep, stepOfEffect, leastBuffer, stepIfAdmitted, effectIfRunning}
+use Rattle.session.specs.Steps.{end, heldCvm, Step, CallEffect, refusedStep, stepOfEffect, leastBuffer, stepIfAdmitted}
+use Rattle.session.specs.Steps.{effectIfRunning}
 use Rattle.session.specs.Start.{startEffect}
 use Rattle.session.specs.Answer.{nextOnResponse}
-use Rattle.session.specs.Calls.{Call, start, answer, link-failed, stop, callStep, CallMade, callMade, playCalls, finalSession}
+use Rattle.session.specs.Calls.{Call, start, answer, link-failed, stop, callStep, CallMade, callMade, playCalls}
+use Rattle.session.specs.Calls.{finalSession}
 use Rattle.session_claim.proofs.Trace.{call-keeps}
 
 -- the refusal for the buffer's size, then the step
@@ -25,7 +27,8 @@ sized s buf x = if (ltb (length buf) leastBuffer) (refusedStep s refusalBufferTo
 
 -- link failed and stop
 abbrev pub abortCall : Session → ℕ → CallEffect
-abortCall s reason = effectIfRunning (s .phase) (λ (w : AwaitedResponse). end (endingForReason reason) (heldCvm w) (storeBytes s))
+abortCall s reason = effectIfRunning (s .phase) (λ (w : AwaitedResponse). end (endingForReason reason) (heldCvm w)
+    (storeBytes s))
 
 abbrev pub stepIn : Session → Call → Step
 stepIn s (start bytes buf) = sized s buf (startEffect (s .phase) (storeBytes s) bytes)
@@ -60,9 +63,11 @@ pub play-in : (s : Session) → sessionRecordInRanges s ≡ true → (cs : List 
 unfolding playCalls playIn
 play-in s e [] = refl
 play-in s e (c ∷ cs) =
-    ap (λ (st : Step). callMade s c st ∷ playCalls (st .reply .session) cs) (step-in s e c) ∙ ap (λ (ms : List CallMade). callMade s c (stepIn s c) ∷ ms) (play-in _ (after s e c) cs)
+    ap (λ (st : Step). callMade s c st ∷ playCalls (st .reply .session) cs) (step-in s e c) ∙ ap
+    (λ (ms : List CallMade). callMade s c (stepIn s c) ∷ ms) (play-in _ (after s e c) cs)
 
 pub final-in : (s : Session) → sessionRecordInRanges s ≡ true → (cs : List Call) → finalSession s cs ≡ finalIn s cs
 unfolding finalSession finalIn
 final-in s e [] = refl
-final-in s e (c ∷ cs) = ap (λ (st : Step). finalSession (st .reply .session) cs) (step-in s e c) ∙ final-in _ (after s e c) cs
+final-in s e (c ∷ cs) = ap (λ (st : Step). finalSession (st .reply .session) cs) (step-in s e c) ∙ final-in _
+    (after s e c) cs

@@ -22,14 +22,17 @@ use Rattle.session_record.specs.declared.Session.{Session}
 use Rattle.session_record.specs.Session.{storeBytes}
 use Rattle.session_record.specs.Ranges.{storedAfl}
 use Rattle.analysis.specs.Action.{transactionLimit}
-use Rattle.session.specs.Steps.{NextAction, endForReason, reasonOfNext, readResponseThen, Step, stepOfNext, stepOfEffect, stepIfAdmitted, effectIfRunning, abortStep}
+use Rattle.session.specs.Steps.{NextAction, endForReason, reasonOfNext, readResponseThen, Step, stepOfNext}
+use Rattle.session.specs.Steps.{stepOfEffect, stepIfAdmitted, effectIfRunning, abortStep}
 use Rattle.session.specs.Start.{startStep}
-use Rattle.session.specs.Answer.{requestKthRecordIfFound, nextAfterGpoRead, nextOnGpoResponse, gpoReason, nextOnResponse, answerStep}
+use Rattle.session.specs.Answer.{requestKthRecordIfFound, nextAfterGpoRead, nextOnGpoResponse, gpoReason}
+use Rattle.session.specs.Answer.{nextOnResponse, answerStep}
 use Rattle.basics.specs.Reason.{reasonAflInvalid, reasonLink, reasonStopped}
 use Rattle.step_laws.proofs.Ways as ways
 use Rattle.step_laws.proofs.Ways.{GpoWay, AnswerWay, answer-way, StartWay, start-way, BrokenWay, broken-way}
 use Rattle.session_claim.specs.Calls.{isAnswer, callsAccepted}
-use Rattle.session.specs.Calls.{Call, start, answer, link-failed, stop, callStep, CallMade, callMade, playCalls, isRefusal}
+use Rattle.session.specs.Calls.{Call, start, answer, link-failed, stop, callStep, CallMade, callMade, playCalls}
+use Rattle.session.specs.Calls.{isRefusal}
 use Rattle.session.proofs.Results.{isCommand}
 use Rattle.session_claim.specs.Order.{firstAnswer}
 use Rattle.session_record.specs.Session.{isRunning}
@@ -43,7 +46,8 @@ hands st = isCommand (st .reply .answer)
 abbrev Ruled : ℕ → List ℕ → NextAction → Type 0
 Ruled n buf x = hands (stepOfNext n buf x) ≡ eqb (reasonOfNext x) 0
 
-found-ruled : (n : ℕ) (b buf : List ℕ) (f : RecordFound) → Ruled n buf (requestKthRecordIfFound (transactionLimit b) 1 b (endForReason reasonAflInvalid b) f)
+found-ruled : (n : ℕ) (b buf : List ℕ) (f : RecordFound)
+    → Ruled n buf (requestKthRecordIfFound (transactionLimit b) 1 b (endForReason reasonAflInvalid b) f)
 found-ruled n b buf RecordFound.Nothing = refl
 found-ruled n b buf (RecordFound.At r) = refl
 
@@ -55,22 +59,26 @@ read-ruled n b buf =
     (λ m. if-ind (Ruled n buf) _ _ _ (λ a. refl) (λ a. found-ruled n b buf (kthRecordOfAcceptedAfl (storedAfl b) 1))))
 
 -- a command comes exactly where the rules give no reason
-pub hands-by-rules : (n : ℕ) (b card buf : List ℕ) → hands (stepOfNext n buf (nextOnGpoResponse b card)) ≡ eqb (gpoReason b card) 0
+pub hands-by-rules : (n : ℕ) (b card buf : List ℕ) → hands (stepOfNext n buf (nextOnGpoResponse b card))
+    ≡ eqb (gpoReason b card) 0
 unfolding nextOnGpoResponse readResponseThen
 hands-by-rules n b card buf =
     let o = reading.readAnswer Awaited.Gpo b card in
-    if-ind (Ruled n buf) (eqb (o .reason) 0) (nextAfterGpoRead (o .store)) (endForReason (o .reason) b) (λ e. read-ruled n (o .store) buf) (λ e. sym e)
+    if-ind (Ruled n buf) (eqb (o .reason) 0) (nextAfterGpoRead (o .store)) (endForReason (o .reason) b)
+    (λ e. read-ruled n (o .store) buf) (λ e. sym e)
 
 -- ---- the call answer, by the session's phase
 
 module _ (s : Session) (card buf : List ℕ) where
   -- on a session that waits on GPO it returns a command only where the rules give no reason
-  pub sent-by-rules : s .phase ≡ Phase.Waiting AwaitedResponse.Gpo → hands (answerStep s card buf) ≡ true → eqb (gpoReason (storeBytes s) card) 0 ≡ true
+  pub sent-by-rules : s .phase ≡ Phase.Waiting AwaitedResponse.Gpo → hands (answerStep s card buf) ≡ true
+      → eqb (gpoReason (storeBytes s) card) 0 ≡ true
   unfolding stepIfAdmitted
   sent-by-rules q =
       if-ind P _ _ _ (λ e h. no h)
       (λ e. if-ind P _ _ _ (λ r h. no h)
-      (λ r. subst (λ (p : Phase). P (stepOfEffect s buf (effectIfRunning p (nextOnResponse (storeBytes s) card)))) (sym q) (λ h. sym (hands-by-rules (s .count) (storeBytes s) card buf) ∙ h)))
+      (λ r. subst (λ (p : Phase). P (stepOfEffect s buf (effectIfRunning p (nextOnResponse (storeBytes s) card))))
+      (sym q) (λ h. sym (hands-by-rules (s .count) (storeBytes s) card buf) ∙ h)))
     where
       P : Step → Type 0
       P st = hands st ≡ true → eqb (gpoReason (storeBytes s) card) 0 ≡ true
@@ -83,7 +91,8 @@ module _ (s : Session) (card buf : List ℕ) where
       P : Step → Type 0
       P st = isRefusal (st .reply .answer) ≡ true
 
-      go : (p : Phase) → isRunning p ≡ false → P (stepOfEffect s buf (effectIfRunning p (nextOnResponse (storeBytes s) card)))
+      go : (p : Phase) → isRunning p ≡ false
+          → P (stepOfEffect s buf (effectIfRunning p (nextOnResponse (storeBytes s) card)))
       go Phase.Fresh e = refl
       go (Phase.Waiting w) e = no (sym e)
       go (Phase.Ended x) e = refl
@@ -159,7 +168,8 @@ module _ (s : Session) (e : early (s .phase) ≡ true) where
   stays (stop buf) = broken-stays (stop buf) reasonStopped buf
 
   -- an answer is taken on GPO alone
-  taken-waits : (c : Call) → isAnswer c ≡ true → isRefusal (callStep s c .reply .answer) ≡ false → s .phase ≡ Phase.Waiting AwaitedResponse.Gpo
+  taken-waits : (c : Call) → isAnswer c ≡ true → isRefusal (callStep s c .reply .answer) ≡ false
+      → s .phase ≡ Phase.Waiting AwaitedResponse.Gpo
   taken-waits (start bytes buf) a r = no a
   taken-waits (answer card buf) a r = waits (s .phase) e (go (bool-cases (isRunning (s .phase))))
     where
@@ -171,24 +181,30 @@ module _ (s : Session) (e : early (s .phase) ≡ true) where
 
   -- one call: it is the first answer taken, or that comes later
   one-call : (c : Call) (tk : List CallMade) (m : CallMade) → let st = callStep s c in
-      (early (st .reply .session .phase) ≡ true → firstAnswer tk ≡ some m → m .before .phase ≡ Phase.Waiting AwaitedResponse.Gpo)
-      → firstAnswer (if (isRefusal (st .reply .answer)) tk (callMade s c st ∷ tk)) ≡ some m → m .before .phase ≡ Phase.Waiting AwaitedResponse.Gpo
+      (early (st .reply .session .phase) ≡ true → firstAnswer tk ≡ some m
+      → m .before .phase ≡ Phase.Waiting AwaitedResponse.Gpo)
+      → firstAnswer (if (isRefusal (st .reply .answer)) tk (callMade s c st ∷ tk)) ≡ some m
+      → m .before .phase ≡ Phase.Waiting AwaitedResponse.Gpo
   unfolding firstAnswer
   one-call c tk m later f = elim (bool-cases (isRefusal (callStep s c .reply .answer))) [
     | inl r ↦ later (stays c (inl r)) (sym (ap firstAnswer (if-yes _ _ r)) ∙ f)
     | inr n ↦ elim (bool-cases (isAnswer c)) [
-      | inl a ↦ (let g : some (callMade s c (callStep s c)) ≡ some m = sym (ap firstAnswer (if-no _ _ n) ∙ if-yes _ _ a) ∙ f in
-          let h : callMade s c (callStep s c) ≡ m = cc in subst (λ (x : CallMade). x .before .phase ≡ Phase.Waiting AwaitedResponse.Gpo) h (taken-waits c a n))
+      | inl a ↦ (let g : some (callMade s c (callStep s c)) ≡ some m = sym (ap firstAnswer (if-no _ _ n) ∙ if-yes _ _ a)
+          ∙ f in
+          let h : callMade s c (callStep s c) ≡ m = cc in
+          subst (λ (x : CallMade). x .before .phase ≡ Phase.Waiting AwaitedResponse.Gpo) h (taken-waits c a n))
       | inr a ↦ later (stays c (inr a)) (sym (ap firstAnswer (if-no _ _ n) ∙ if-no _ _ a) ∙ f)
     ]
   ]
 
-first-in : (s : Session) (cs : List Call) (m : CallMade) → early (s .phase) ≡ true → firstAnswer (callsAccepted (playCalls s cs)) ≡ some m → m .before .phase ≡ Phase.Waiting AwaitedResponse.Gpo
+first-in : (s : Session) (cs : List Call) (m : CallMade) → early (s .phase) ≡ true
+    → firstAnswer (callsAccepted (playCalls s cs)) ≡ some m → m .before .phase ≡ Phase.Waiting AwaitedResponse.Gpo
 unfolding playCalls callsAccepted firstAnswer
 first-in s [] m e f = let z : _≡_ {A = ℕ} 0 1 = cc in absurd (omega arith)
 first-in s (c ∷ cs) m e f = one-call s e c _ m (first-in (callStep s c .reply .session) cs m) f
 
 -- from a fresh session on, the first answer taken comes while the answer to GPO is awaited
-pub first-on-gpo : (s : Session) (cs : List Call) (m : CallMade) → s .phase ≡ Phase.Fresh → firstAnswer (callsAccepted (playCalls s cs)) ≡ some m
+pub first-on-gpo : (s : Session) (cs : List Call) (m : CallMade) → s .phase ≡ Phase.Fresh
+    → firstAnswer (callsAccepted (playCalls s cs)) ≡ some m
     → m .before .phase ≡ Phase.Waiting AwaitedResponse.Gpo
 first-on-gpo s cs m q f = first-in s cs m (ap early q) f

@@ -21,7 +21,8 @@ use Rattle.session_record.specs.declared.Session.{Session}
 use Rattle.session_record.specs.Numbers.{reasonMatchesOutcome}
 use Rattle.session_record.specs.Session.{storeBytes}
 use Rattle.store.specs.Held.{hasObject, storedBytes, storedByte, storedLengthPlusOneOrZero}
-use Rattle.session_record.specs.Ranges.{absentOrLengthAndDigitsFitRow, emvMode, magStripeMode, emvOrMagStripeMode, storedAfl, storedAflRecordCount}
+use Rattle.session_record.specs.Ranges.{absentOrLengthAndDigitsFitRow, emvMode, magStripeMode, emvOrMagStripeMode}
+use Rattle.session_record.specs.Ranges.{storedAfl, storedAflRecordCount}
 use Rattle.session_record.specs.Ranges.{zeroTvr, mostCommands}
 
 -- the object of a row fits it: its length byte, and its value
@@ -102,16 +103,16 @@ pub record EndedClauses (e : Ending) (n : ℕ) : Type 0 where
 
 -- the clauses of a running session, by the response that is awaited
 abbrev pub WaitingClauses : AwaitedResponse → ℕ → List ℕ → Type 0
-WaitingClauses AwaitedResponse.Gpo            n b = GpoClauses n b
-WaitingClauses (AwaitedResponse.Record p)     n b = RecordClauses p n b
+WaitingClauses AwaitedResponse.Gpo n b = GpoClauses n b
+WaitingClauses (AwaitedResponse.Record p) n b = RecordClauses p n b
 WaitingClauses (AwaitedResponse.Cryptogram a) n b = CryptogramClauses a n b
-WaitingClauses (AwaitedResponse.Checksum c)   n b = ChecksumClauses c n b
+WaitingClauses (AwaitedResponse.Checksum c) n b = ChecksumClauses c n b
 
 -- the clauses of a phase
 abbrev pub PhaseClauses : Phase → ℕ → List ℕ → Type 0
-PhaseClauses Phase.Fresh       n b = FreshClauses n b
+PhaseClauses Phase.Fresh n b = FreshClauses n b
 PhaseClauses (Phase.Waiting w) n b = WaitingClauses w n b
-PhaseClauses (Phase.Ended e)   n b = EndedClauses e n
+PhaseClauses (Phase.Ended e) n b = EndedClauses e n
 
 -- every clause; the store's size is that of its type
 pub record RangesClauses (s : Session) : Type 0 where

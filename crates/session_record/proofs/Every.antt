@@ -25,7 +25,8 @@ module _ {A : Type 0} (f : A → Bool) (xs : List A) (d : A) (i : ℕ) where
   every-done h = rw (drop-of-length-le xs h)
 
 -- a test that passes at each entry passes on the whole list
-pub every-all : {A : Type 0} (f : A → Bool) (xs : List A) (d : A) → ((k : ℕ) → k < length xs → f (getD xs k d) ≡ true) → every f xs ≡ true
+pub every-all : {A : Type 0} (f : A → Bool) (xs : List A) (d : A) → ((k : ℕ) → k < length xs → f (getD xs k d) ≡ true)
+    → every f xs ≡ true
 unfolding every
 every-all f [] d h = refl
 every-all f (x ∷ xs) d h = both-yes _ _ (h 0 (omega arith)) (every-all f xs d (λ k l. h (suc k) (omega arith)))

@@ -13,7 +13,8 @@ use borrow.Author.Tests.{eq-eqb, ne-eqb, eqb-true, eqb-false, le-leb, leb-true, 
 use Rattle.basics.specs.Choice.{both, every}
 use Rattle.basics.proofs.Laws.{bool-cases, both-yes, both-left, both-right, either-left, either-right, either-false}
 use Rattle.basics.proofs.Table.{at}
-use Rattle.dictionary.specs.Rows.{Row, dictionaryRows, blankRow, rowAt, optionalAtStart, requiredAtStart, rowCount, storeSize}
+use Rattle.dictionary.specs.Rows.{Row, dictionaryRows, blankRow, rowAt, optionalAtStart, requiredAtStart, rowCount}
+use Rattle.dictionary.specs.Rows.{storeSize}
 use Rattle.analysis.specs.Action.{transactionLimit}
 use Rattle.session_record.specs.declared.AwaitedRecord.{AwaitedRecord}
 use Rattle.session_record.specs.declared.RequestedCryptogram.{RequestedCryptogram}
@@ -24,8 +25,16 @@ use Rattle.session_record.specs.declared.Phase.{Phase}
 use Rattle.session_record.specs.declared.Session.{Session}
 use Rattle.session_record.specs.Session.{storeBytes}
 use Rattle.store.specs.Held.{hasObject}
-use Rattle.session_record.specs.Ranges.{storedObjectAbsentOrFitsRow, allStoredObjectsFitRows, isPresentIfRequiredAtStart, allRequiredAtStartPresent, lastResponseObjectsAbsent, inRunningRanges, storedAflRecordCount, expiryPanAndCdol1NonEmpty, track2AndBitmapsNonEmpty, inFreshRanges, inGpoRanges, inRecordRanges, inCryptogramRanges, inChecksumRanges, mostCommands, inEndedRanges, inWaitingRanges, inPhaseRanges, sessionRecordInRanges}
-use Rattle.session_record.proofs.Clauses.{AllObjectsFit, RunningClauses, FreshClauses, GpoClauses, RecordClauses, CryptogramClauses, ChecksumClauses, EndedClauses, WaitingClauses, PhaseClauses, RangesClauses}
+use Rattle.session_record.specs.Ranges.{storedObjectAbsentOrFitsRow, allStoredObjectsFitRows}
+use Rattle.session_record.specs.Ranges.{isPresentIfRequiredAtStart, allRequiredAtStartPresent}
+use Rattle.session_record.specs.Ranges.{lastResponseObjectsAbsent, inRunningRanges, storedAflRecordCount}
+use Rattle.session_record.specs.Ranges.{expiryPanAndCdol1NonEmpty, track2AndBitmapsNonEmpty, inFreshRanges}
+use Rattle.session_record.specs.Ranges.{inGpoRanges, inRecordRanges, inCryptogramRanges, inChecksumRanges}
+use Rattle.session_record.specs.Ranges.{mostCommands, inEndedRanges, inWaitingRanges, inPhaseRanges}
+use Rattle.session_record.specs.Ranges.{sessionRecordInRanges}
+use Rattle.session_record.proofs.Clauses.{AllObjectsFit, RunningClauses, FreshClauses, GpoClauses, RecordClauses}
+use Rattle.session_record.proofs.Clauses.{CryptogramClauses, ChecksumClauses, EndedClauses, WaitingClauses}
+use Rattle.session_record.proofs.Clauses.{PhaseClauses, RangesClauses}
 use Rattle.session_record.proofs.Every.{every-all}
 use Rattle.store.proofs.Rows.{rows-length}
 use Rattle.session_record.proofs.Values.{absent-of, is-lacking, zeros-of, zeros-are, zero-results, results-zero}
@@ -51,19 +60,25 @@ must-bit : every (λ (r : Row). leb (r .must) requiredAtStart) dictionaryRows �
 unfolding dictionaryRows every both
 must-bit = refl
 
-pub all-brought : (b : List ℕ) → allRequiredAtStartPresent b ≡ true → (k : ℕ) → k < rowCount → rowAt k .must ≡ requiredAtStart → hasObject b (rowAt k .tag) ≡ true
+pub all-brought : (b : List ℕ) → allRequiredAtStartPresent b ≡ true → (k : ℕ) → k < rowCount
+    → rowAt k .must ≡ requiredAtStart → hasObject b (rowAt k .tag) ≡ true
 unfolding allRequiredAtStartPresent isPresentIfRequiredAtStart
 all-brought b e k h m =
-    sym (either-false _ (ne-eqb (rowAt k .must) 0 (λ z. omega arith))) ∙ at (isPresentIfRequiredAtStart b) dictionaryRows blankRow e k (omega (arith, rows-length))
+    sym (either-false _ (ne-eqb (rowAt k .must) 0 (λ z. omega arith))) ∙ at (isPresentIfRequiredAtStart b)
+    dictionaryRows blankRow e k (omega (arith, rows-length))
 
-pub brought-all : (b : List ℕ) → ((k : ℕ) → k < rowCount → rowAt k .must ≡ requiredAtStart → hasObject b (rowAt k .tag) ≡ true) → allRequiredAtStartPresent b ≡ true
+pub brought-all : (b : List ℕ) → ((k : ℕ) → k < rowCount → rowAt k .must ≡ requiredAtStart
+    → hasObject b (rowAt k .tag) ≡ true) → allRequiredAtStartPresent b ≡ true
 unfolding allRequiredAtStartPresent isPresentIfRequiredAtStart
-brought-all b f = every-all (isPresentIfRequiredAtStart b) dictionaryRows blankRow (λ k h. go k h (bool-cases (eqb (rowAt k .must) optionalAtStart)))
+brought-all b f = every-all (isPresentIfRequiredAtStart b) dictionaryRows blankRow
+    (λ k h. go k h (bool-cases (eqb (rowAt k .must) optionalAtStart)))
   where
-    go : (k : ℕ) → k < length dictionaryRows → (eqb (rowAt k .must) optionalAtStart ≡ true) ⊎ (eqb (rowAt k .must) optionalAtStart ≡ false) → isPresentIfRequiredAtStart b (rowAt k) ≡ true
+    go : (k : ℕ) → k < length dictionaryRows → (eqb (rowAt k .must) optionalAtStart ≡ true)
+        ⊎ (eqb (rowAt k .must) optionalAtStart ≡ false) → isPresentIfRequiredAtStart b (rowAt k) ≡ true
     go k h (inl y) = either-left _ _ y
     go k h (inr n) =
-        let l : rowAt k .must ≤ 1 = leb-true _ _ (at (λ (r : Row). leb (r .must) requiredAtStart) dictionaryRows blankRow must-bit k h) in
+        let l : rowAt k .must ≤ 1 = leb-true _ _ (at (λ (r : Row). leb (r .must) requiredAtStart) dictionaryRows
+        blankRow must-bit k h) in
         let z = eqb-false (rowAt k .must) optionalAtStart n in
         either-right _ _ (f k (omega (arith, rows-length)) (omega arith))
 
@@ -104,7 +119,11 @@ running-passes b r =
 pub fresh-clauses : (n : ℕ) (b : List ℕ) → length b ≡ storeSize → inFreshRanges n b ≡ true → FreshClauses n b
 unfolding inFreshRanges
 fresh-clauses n b l e =
-    record { count = eqb-true n 0 (both-left _ _ e); store = zeros-of b (both-right _ _ e) ∙ ap (λ (m : ℕ). replicate m 0) l }
+    record {
+      count = eqb-true n 0 (both-left _ _ e);
+      store = zeros-of b (both-right _ _ e) ∙ ap
+          (λ (m : ℕ). replicate m 0) l;
+    }
 
 pub fresh-passes : (n : ℕ) (b : List ℕ) → FreshClauses n b → inFreshRanges n b ≡ true
 unfolding inFreshRanges
@@ -134,7 +153,8 @@ gpo-passes n b c =
     (both-yes _ _ (results-zero b (c .zero-95))
     (eq-eqb n 1 (c .count)))))
 
-pub record-clauses : (p : AwaitedRecord) (n : ℕ) (b : List ℕ) → AllObjectsFit b → inRecordRanges p n b ≡ true → RecordClauses p n b
+pub record-clauses : (p : AwaitedRecord) (n : ℕ) (b : List ℕ) → AllObjectsFit b → inRecordRanges p n b ≡ true
+    → RecordClauses p n b
 unfolding inRecordRanges
 record-clauses p n b f e =
     let q = both-right _ _ e in
@@ -162,10 +182,12 @@ record-passes p n b c =
     (both-yes _ _ (results-zero b (c .zero-95))
     (both-yes _ _ (eq-eqb (p .limit) (transactionLimit b) (c .limit))
     (both-yes _ _ (c .afl)
-    (both-yes _ _ (both-yes _ _ (le-leb 1 (p .number) (c .first)) (le-leb (p .number) (storedAflRecordCount b) (c .last)))
+    (both-yes _ _
+    (both-yes _ _ (le-leb 1 (p .number) (c .first)) (le-leb (p .number) (storedAflRecordCount b) (c .last)))
     (eq-eqb n (1 + p .number) (c .count)))))))
 
-pub cryptogram-clauses : (a : RequestedCryptogram) (n : ℕ) (b : List ℕ) → inCryptogramRanges a n b ≡ true → CryptogramClauses a n b
+pub cryptogram-clauses : (a : RequestedCryptogram) (n : ℕ) (b : List ℕ) → inCryptogramRanges a n b ≡ true
+    → CryptogramClauses a n b
 unfolding inCryptogramRanges expiryPanAndCdol1NonEmpty every
 cryptogram-clauses a n b e =
     let p = both-right _ _ e in
@@ -186,18 +208,22 @@ cryptogram-clauses a n b e =
       count = eqb-true n (2 + storedAflRecordCount b) (both-right _ _ u);
     }
 
-pub cryptogram-passes : (a : RequestedCryptogram) (n : ℕ) (b : List ℕ) → CryptogramClauses a n b → inCryptogramRanges a n b ≡ true
+pub cryptogram-passes : (a : RequestedCryptogram) (n : ℕ) (b : List ℕ) → CryptogramClauses a n b
+    → inCryptogramRanges a n b ≡ true
 unfolding inCryptogramRanges expiryPanAndCdol1NonEmpty every
 cryptogram-passes a n b c =
     both-yes _ _ (running-passes b (c .runs))
     (both-yes _ _ (c .mode)
-    (both-yes _ _ (both-yes _ _ (lt-ltb 0 _ (c .some-5F24)) (both-yes _ _ (lt-ltb 0 _ (c .some-5A)) (both-yes _ _ (lt-ltb 0 _ (c .some-8C)) refl)))
+    (both-yes _ _
+    (both-yes _ _ (lt-ltb 0 _ (c .some-5F24))
+    (both-yes _ _ (lt-ltb 0 _ (c .some-5A)) (both-yes _ _ (lt-ltb 0 _ (c .some-8C)) refl)))
     (both-yes _ _ (c .verified)
     (both-yes _ _ (eq-eqb (a .limit) (transactionLimit b) (c .limit))
     (both-yes _ _ (c .afl)
     (eq-eqb n (2 + storedAflRecordCount b) (c .count)))))))
 
-pub checksum-clauses : (x : AwaitedChecksum) (n : ℕ) (b : List ℕ) → AllObjectsFit b → inChecksumRanges x n b ≡ true → ChecksumClauses x n b
+pub checksum-clauses : (x : AwaitedChecksum) (n : ℕ) (b : List ℕ) → AllObjectsFit b → inChecksumRanges x n b ≡ true
+    → ChecksumClauses x n b
 unfolding inChecksumRanges track2AndBitmapsNonEmpty every
 checksum-clauses x n b f e =
     let p = both-right _ _ e in
@@ -228,7 +254,10 @@ checksum-passes x n b c =
     both-yes _ _ (running-passes b (c .runs))
     (both-yes _ _ (c .mode)
     (both-yes _ _ (results-zero b (c .zero-95))
-    (both-yes _ _ (both-yes _ _ (lt-ltb 0 _ (c .some-9F6B)) (both-yes _ _ (lt-ltb 0 _ (c .some-9F65)) (both-yes _ _ (lt-ltb 0 _ (c .some-9F66)) (both-yes _ _ (lt-ltb 0 _ (c .some-9F67)) refl))))
+    (both-yes _ _
+    (both-yes _ _ (lt-ltb 0 _ (c .some-9F6B))
+    (both-yes _ _ (lt-ltb 0 _ (c .some-9F65))
+    (both-yes _ _ (lt-ltb 0 _ (c .some-9F66)) (both-yes _ _ (lt-ltb 0 _ (c .some-9F67)) refl))))
     (both-yes _ _ (eq-eqb (x .limit) (transactionLimit b) (c .limit))
     (both-yes _ _ (c .afl)
     (eq-eqb n (2 + storedAflRecordCount b) (c .count)))))))

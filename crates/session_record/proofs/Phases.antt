@@ -26,8 +26,11 @@ use Rattle.session_record.specs.Numbers.{reasonMatchesOutcome, outcomeOf
 use Rattle.basics.specs.Reason.{reasonNoSupportedMode}
 use Rattle.session_record.specs.Session.{storeBytes, freshSession, sessionInPhaseWithCount, endingOf}
 use Rattle.store.specs.Held.{hasObject}
-use Rattle.session_record.specs.Ranges.{emvMode, magStripeMode, emvOrMagStripeMode, storedAfl, mostCommands, sessionRecordInRanges}
-use Rattle.session_record.proofs.Clauses.{AllObjectsFit, FreshClauses, GpoClauses, RecordClauses, CryptogramClauses, ChecksumClauses, EndedClauses, WaitingClauses, PhaseClauses}
+use Rattle.session_record.specs.Ranges.{emvMode, magStripeMode, emvOrMagStripeMode, storedAfl, mostCommands}
+use Rattle.session_record.specs.Ranges.{sessionRecordInRanges}
+use Rattle.session_record.proofs.Clauses.{AllObjectsFit, FreshClauses, GpoClauses, RecordClauses}
+use Rattle.session_record.proofs.Clauses.{CryptogramClauses, ChecksumClauses, EndedClauses, WaitingClauses}
+use Rattle.session_record.proofs.Clauses.{PhaseClauses}
 use Rattle.session_record.proofs.Values.{bytes-there}
 use Rattle.session_record.proofs.Laws.{clauses, clauses-pass}
 use Rattle.session_record.proofs.Stored.{empty-fits}
@@ -58,13 +61,16 @@ module _ (s : Session) (e : sessionRecordInRanges s ≡ true) where
   pub on-gpo : s .phase ≡ Phase.Waiting AwaitedResponse.Gpo → GpoClauses (s .count) (storeBytes s)
   on-gpo q = on-waiting AwaitedResponse.Gpo q
 
-  pub on-record : (p : AwaitedRecord) → s .phase ≡ Phase.Waiting (AwaitedResponse.Record p) → RecordClauses p (s .count) (storeBytes s)
+  pub on-record : (p : AwaitedRecord) → s .phase ≡ Phase.Waiting (AwaitedResponse.Record p)
+      → RecordClauses p (s .count) (storeBytes s)
   on-record p q = on-waiting (AwaitedResponse.Record p) q
 
-  pub on-cryptogram : (a : RequestedCryptogram) → s .phase ≡ Phase.Waiting (AwaitedResponse.Cryptogram a) → CryptogramClauses a (s .count) (storeBytes s)
+  pub on-cryptogram : (a : RequestedCryptogram) → s .phase ≡ Phase.Waiting (AwaitedResponse.Cryptogram a)
+      → CryptogramClauses a (s .count) (storeBytes s)
   on-cryptogram a q = on-waiting (AwaitedResponse.Cryptogram a) q
 
-  pub on-checksum : (k : AwaitedChecksum) → s .phase ≡ Phase.Waiting (AwaitedResponse.Checksum k) → ChecksumClauses k (s .count) (storeBytes s)
+  pub on-checksum : (k : AwaitedChecksum) → s .phase ≡ Phase.Waiting (AwaitedResponse.Checksum k)
+      → ChecksumClauses k (s .count) (storeBytes s)
   on-checksum k q = on-waiting (AwaitedResponse.Checksum k) q
 
   pub on-ended : (x : Ending) → s .phase ≡ Phase.Ended x → EndedClauses x (s .count)
@@ -74,7 +80,8 @@ module _ (s : Session) (e : sessionRecordInRanges s ≡ true) where
   pub is-fresh : s .phase ≡ Phase.Fresh → s ≡ freshSession
   is-fresh q = let c = on-fresh q in built s Phase.Fresh 0 (replicate storeSize 0) q (c .count) (c .store)
     where
-      built : (s : Session) (p : Phase) (n : ℕ) (b : List ℕ) → s .phase ≡ p → s .count ≡ n → storeBytes s ≡ b → s ≡ record { phase = p; count = n; store = record { bytes = b } }
+      built : (s : Session) (p : Phase) (n : ℕ) (b : List ℕ) → s .phase ≡ p → s .count ≡ n → storeBytes s ≡ b
+          → s ≡ record { phase = p; count = n; store = record { bytes = b } }
       built s p n b x y z = simp (sym x, sym y, sym z)
 
 -- an AFL that meets the rules is there, and so is 82 with a bit set
@@ -114,20 +121,25 @@ count-most s e = phase-most (s .count) (storeBytes s) (s .phase) (clauses s e .p
 -- ---- records built anew
 
 pub fresh-keeps : sessionRecordInRanges freshSession ≡ true
-fresh-keeps = clauses-pass freshSession (record { size = refl; fits = empty-fits; phase = record { count = refl; store = refl } })
+fresh-keeps = clauses-pass freshSession
+    (record { size = refl; fits = empty-fits; phase = record { count = refl; store = refl } })
 
-pub waiting-keeps : (s : Session) (p : Phase) (n : ℕ) → length (storeBytes s) ≡ storeSize → AllObjectsFit (storeBytes s) → PhaseClauses p n (storeBytes s)
+pub waiting-keeps : (s : Session) (p : Phase) (n : ℕ) → length (storeBytes s) ≡ storeSize → AllObjectsFit (storeBytes s)
+    → PhaseClauses p n (storeBytes s)
     → sessionRecordInRanges (sessionInPhaseWithCount s p n) ≡ true
 waiting-keeps s p n l f c = clauses-pass (sessionInPhaseWithCount s p n) (record { size = l; fits = f; phase = c })
 
 module _ (s : Session) (o : Outcome) (n : ℕ) (g : reasonMatchesOutcome o n ≡ true) where
-  pub ended-keeps : length (storeBytes s) ≡ storeSize → AllObjectsFit (storeBytes s) → s .count ≤ mostCommands → sessionRecordInRanges (endedSession s (endingOf o n)) ≡ true
-  ended-keeps l f c = clauses-pass (endedSession s (endingOf o n)) (record { size = l; fits = f; phase = record { count = c; reason = g } })
+  pub ended-keeps : length (storeBytes s) ≡ storeSize → AllObjectsFit (storeBytes s) → s .count ≤ mostCommands
+      → sessionRecordInRanges (endedSession s (endingOf o n)) ≡ true
+  ended-keeps l f c = clauses-pass (endedSession s (endingOf o n))
+      (record { size = l; fits = f; phase = record { count = c; reason = g } })
 
   -- a record that is in its ranges keeps them when it ends
   pub ends-keeps : sessionRecordInRanges s ≡ true → sessionRecordInRanges (endedSession s (endingOf o n)) ≡ true
   ends-keeps e = ended-keeps (store-size s e) (store-fits s e) (count-most s e)
 
 -- and when it ends for a reason other than none
-pub fails-keeps : (s : Session) (n : ℕ) → 1 ≤ n → n ≤ reasonNoSupportedMode → sessionRecordInRanges s ≡ true → sessionRecordInRanges (endedSession s (endingOf (outcomeOfNonzeroReason n) n)) ≡ true
+pub fails-keeps : (s : Session) (n : ℕ) → 1 ≤ n → n ≤ reasonNoSupportedMode → sessionRecordInRanges s ≡ true
+    → sessionRecordInRanges (endedSession s (endingOf (outcomeOfNonzeroReason n) n)) ≡ true
 fails-keeps s n low high e = ends-keeps s (outcomeOfNonzeroReason n) n (outcome-goes n low high) e

@@ -12,7 +12,9 @@ use Rattle.session_record.specs.Numbers.{reasonMatchesOutcome, outcomeOf
 use Rattle.basics.specs.Reason.{reasonNone, reasonAboveLimit, reasonNoSupportedMode}
 
 -- a decision has no reason
-pub decided : (reasonMatchesOutcome Outcome.Approved reasonNone ≡ true) × (reasonMatchesOutcome Outcome.OnlineRequest reasonNone ≡ true) × (reasonMatchesOutcome Outcome.Declined reasonNone ≡ true)
+pub decided : (reasonMatchesOutcome Outcome.Approved reasonNone ≡ true)
+    × (reasonMatchesOutcome Outcome.OnlineRequest reasonNone ≡ true)
+    × (reasonMatchesOutcome Outcome.Declined reasonNone ≡ true)
 unfolding reasonMatchesOutcome
 decided = (refl, refl, refl)
 
@@ -25,7 +27,8 @@ unfolding outcomeOfNonzeroReason
 other-outcome n e = if-no _ _ (ne-eqb n reasonAboveLimit e)
 
 -- the outcome of a reason other than none goes with it
-pub outcome-goes : (n : ℕ) → 1 ≤ n → n ≤ reasonNoSupportedMode → reasonMatchesOutcome (outcomeOfNonzeroReason n) n ≡ true
+pub outcome-goes : (n : ℕ) → 1 ≤ n → n ≤ reasonNoSupportedMode → reasonMatchesOutcome (outcomeOfNonzeroReason n) n
+    ≡ true
 unfolding reasonMatchesOutcome
 outcome-goes n low high =
     elim (bool-cases (eqb n reasonAboveLimit)) [
@@ -35,7 +38,8 @@ outcome-goes n low high =
     ]
 
 -- an outcome that goes with a reason other than none is that one
-pub goes-only : (o : Outcome) (n : ℕ) → (n ≡ reasonNone → ⊥) → reasonMatchesOutcome o n ≡ true → o ≡ outcomeOfNonzeroReason n
+pub goes-only : (o : Outcome) (n : ℕ) → (n ≡ reasonNone → ⊥) → reasonMatchesOutcome o n ≡ true
+    → o ≡ outcomeOfNonzeroReason n
 unfolding reasonMatchesOutcome
 goes-only Outcome.Approved n z e = absurd (z (eqb-true n reasonNone e))
 goes-only Outcome.OnlineRequest n z e = absurd (z (eqb-true n reasonNone e))

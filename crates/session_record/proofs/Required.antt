@@ -23,26 +23,31 @@ abbrev pub thereAt : List ℕ → ℕ → Bool
 thereAt b k = isPresent (rowValue dictionaryRows b k)
 
 -- one more row: it is asked only where a start must bring its object
-more : (f : ℕ → Bool) (n : ℕ) (ns : List ℕ) (x t u : Bool) → t ≡ f n → u ≡ every f ns → both (either x t) u ≡ every f (if x ns (n ∷ ns))
+more : (f : ℕ → Bool) (n : ℕ) (ns : List ℕ) (x t u : Bool) → t ≡ f n → u ≡ every f ns
+    → both (either x t) u ≡ every f (if x ns (n ∷ ns))
 unfolding if both either every
 more f n ns true t u e h = h
 more f n ns false t u e h = ap₂ both e h
 
 -- the rows of a table whose first row has the number n
-from : (b : List ℕ) (n : ℕ) (table : List Row) → ((k : ℕ) → k < length table → hasObject b (rowIn table k .tag) ≡ thereAt b (n + k))
+from : (b : List ℕ) (n : ℕ) (table : List Row)
+    → ((k : ℕ) → k < length table → hasObject b (rowIn table k .tag) ≡ thereAt b (n + k))
     → every (isPresentIfRequiredAtStart b) table ≡ every (thereAt b) (rowNumbersRequiredAtStartFrom n table)
 unfolding every isPresentIfRequiredAtStart rowNumbersRequiredAtStartFrom
 from b n [] f = refl
 from b n (r ∷ rs) f =
-    more (thereAt b) n (rowNumbersRequiredAtStartFrom (suc n) rs) (eqb (r .must) optionalAtStart) (hasObject b (r .tag)) (every (isPresentIfRequiredAtStart b) rs)
+    more (thereAt b) n (rowNumbersRequiredAtStartFrom (suc n) rs) (eqb (r .must) optionalAtStart) (hasObject b (r .tag))
+    (every (isPresentIfRequiredAtStart b) rs)
     (f 0 (omega arith) ∙ ap (thereAt b) (add-zero n))
-    (from b (suc n) rs (λ k h. let e : n + suc k ≡ suc n + k = omega arith in f (suc k) (omega arith) ∙ ap (thereAt b) e))
+    (from b (suc n) rs (λ k h. let e : n + suc k ≡ suc n + k = omega arith in f (suc k) (omega arith) ∙ ap (thereAt b)
+    e))
 
 -- the dictionary's
 pub brought-rows : (b : List ℕ) → allRequiredAtStartPresent b ≡ every (thereAt b) rowNumbersRequiredAtStart
 unfolding allRequiredAtStartPresent
 brought-rows b =
-    from b 0 dictionaryRows (λ k h. held-is b _ k (row-found k (omega (arith, rows-length))) refl refl ∙ ap (thereAt b) (sym (zero-add k)))
+    from b 0 dictionaryRows (λ k h. held-is b _ k (row-found k (omega (arith, rows-length))) refl refl ∙ ap (thereAt b)
+    (sym (zero-add k)))
     ∙ ap (every (thereAt b)) required-numbers
 
 pub rows-many : length rowNumbersRequiredAtStart ≡ requiredAtStartCount

@@ -10,7 +10,8 @@ use Rattle.store.specs.Place.{rowSizeInStore}
 -- a row's place with the first value that a list has for its tag; empty where there is none
 abbrev pub placed : List (ℕ × List ℕ) → Row → List ℕ
 placed [] r = replicate (rowSizeInStore r) 0
-placed ((t, v) ∷ more) r = if (eqb t (r .tag)) (take (rowSizeInStore r) ((length v + 1) ∷ v ++ replicate (r .greatest) 0)) (placed more r)
+placed ((t, v) ∷ more) r = if (eqb t (r .tag))
+    (take (rowSizeInStore r) ((length v + 1) ∷ v ++ replicate (r .greatest) 0)) (placed more r)
 
 -- the places of some rows
 abbrev pub stores : List (ℕ × List ℕ) → List Row → List ℕ

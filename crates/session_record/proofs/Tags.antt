@@ -22,7 +22,8 @@ use Rattle.afl.specs.declared.AflExtent.{AflExtent}
 use Rattle.afl.specs.Records.{acceptsAfl, aflChecked}
 use Rattle.afl.proofs.Laws.{is-accepted, is-rejected}
 use Rattle.session_record.specs.Ranges.{storedAfl, storedAflRecordCount}
-use Rattle.store.specs.Held.{hasObject, lacksObject, storedBytes, hasNonEmptyObject, isZeroByte, isObjectZeroOrAbsent, lengthPlusOneOrZeroOfRowFound, storedLengthPlusOneOrZero}
+use Rattle.store.specs.Held.{hasObject, lacksObject, storedBytes, hasNonEmptyObject, isZeroByte, isObjectZeroOrAbsent}
+use Rattle.store.specs.Held.{lengthPlusOneOrZeroOfRowFound, storedLengthPlusOneOrZero}
 use Rattle.session_record.proofs.Tests.{some-not-none}
 
 -- every row is found by its tag
@@ -48,17 +49,21 @@ module _ (b : List ℕ) (t k : ℕ) (e : findRow dictionaryRows t ≡ At k) wher
   lacks-is p q = ap not (held-is p q)
 
   -- the answer x of a test of the row's value for zeros
-  pub zero-is : {v : List ℕ} {r x : Bool} → v ≡ bytesOrEmptyIfAbsent (rowValue dictionaryRows b k) → r ≡ every isZeroByte v → r ≡ x → isObjectZeroOrAbsent b t ≡ x
+  pub zero-is : {v : List ℕ} {r x : Bool} → v ≡ bytesOrEmptyIfAbsent (rowValue dictionaryRows b k)
+      → r ≡ every isZeroByte v → r ≡ x → isObjectZeroOrAbsent b t ≡ x
   zero-is p q h = sym (ap (every isZeroByte) (p ∙ bytes-are)) ∙ sym q ∙ h
 
   -- a part that is the row's value is empty, or not
-  pub size-is : {v : List ℕ} → v ≡ bytesOrEmptyIfAbsent (rowValue dictionaryRows b k) → not (eqb (length v) 0) ≡ hasNonEmptyObject b t
+  pub size-is : {v : List ℕ} → v ≡ bytesOrEmptyIfAbsent (rowValue dictionaryRows b k)
+      → not (eqb (length v) 0) ≡ hasNonEmptyObject b t
   size-is {v} p = some-not-none (length v) ∙ ap (λ (l : List ℕ). ltb 0 (length l)) (p ∙ bytes-are)
 
-  pub size-none : {v : List ℕ} → v ≡ bytesOrEmptyIfAbsent (rowValue dictionaryRows b k) → length v ≡ 0 → hasNonEmptyObject b t ≡ false
+  pub size-none : {v : List ℕ} → v ≡ bytesOrEmptyIfAbsent (rowValue dictionaryRows b k) → length v ≡ 0
+      → hasNonEmptyObject b t ≡ false
   size-none {v} p z = sym (size-is p) ∙ ap not (eq-eqb (length v) 0 z)
 
-  pub size-some : {v : List ℕ} → v ≡ bytesOrEmptyIfAbsent (rowValue dictionaryRows b k) → (length v ≡ 0 → ⊥) → hasNonEmptyObject b t ≡ true
+  pub size-some : {v : List ℕ} → v ≡ bytesOrEmptyIfAbsent (rowValue dictionaryRows b k) → (length v ≡ 0 → ⊥)
+      → hasNonEmptyObject b t ≡ true
   size-some {v} p z = sym (size-is p) ∙ ap not (ne-eqb (length v) 0 z)
 
 -- ---- the stored AFL, by what a check of the row's value reports
@@ -70,7 +75,8 @@ module _ (b : List ℕ) {v : List ℕ} (p : v ≡ bytesOrEmptyIfAbsent (rowValue
   pub located-no : aflChecked v ≡ AflCheck.Rejected → acceptsAfl (storedAfl b) ≡ false
   located-no e = is-rejected _ (ap aflChecked (sym located) ∙ e)
 
-  pub located-yes : {x : AflExtent} → aflChecked v ≡ AflCheck.Accepted x → (acceptsAfl (storedAfl b) ≡ true) × (x .records ≡ storedAflRecordCount b)
+  pub located-yes : {x : AflExtent} → aflChecked v ≡ AflCheck.Accepted x → (acceptsAfl (storedAfl b) ≡ true)
+      × (x .records ≡ storedAflRecordCount b)
   located-yes {x} e =
       let a = is-accepted _ x (ap aflChecked (sym located) ∙ e) in
       (a .0, ap (λ (y : AflExtent). y .records) (a .1))

@@ -61,13 +61,16 @@ module _ (b : List ℕ) (f : AllObjectsFit b) (t k : ℕ) (e : findRow dictionar
   pub value-fits : absentOrLengthAndDigitsFitRow (rowAt k) (objectValue b t) ≡ true
   value-fits =
       let w = found dictionaryRows t k e in
-      subst (λ (n : ℕ). absentOrLengthAndDigitsFitRow (rowAt k) (objectValue b n) ≡ true) (w .1) (f k (omega (arith, rows-length)) .value)
+      subst (λ (n : ℕ). absentOrLengthAndDigitsFitRow (rowAt k) (objectValue b n) ≡ true) (w .1)
+      (f k (omega (arith, rows-length)) .value)
 
   -- an object that is present has a length that its row allows
-  pub held-length : hasObject b t ≡ true → (rowAt k .least ≤ length (storedBytes b t)) × (length (storedBytes b t) ≤ rowAt k .greatest)
+  pub held-length : hasObject b t ≡ true → (rowAt k .least ≤ length (storedBytes b t))
+      × (length (storedBytes b t) ≤ rowAt k .greatest)
   held-length h = go (objectValue b t) h value-fits
     where
-      go : (x : StoredValue) → isPresent x ≡ true → absentOrLengthAndDigitsFitRow (rowAt k) x ≡ true → (rowAt k .least ≤ length (bytesOrEmptyIfAbsent x)) × (length (bytesOrEmptyIfAbsent x) ≤ rowAt k .greatest)
+      go : (x : StoredValue) → isPresent x ≡ true → absentOrLengthAndDigitsFitRow (rowAt k) x ≡ true
+          → (rowAt k .least ≤ length (bytesOrEmptyIfAbsent x)) × (length (bytesOrEmptyIfAbsent x) ≤ rowAt k .greatest)
       go absent p q = let z : _≡_ {A = ℕ} 0 1 = cc in absurd (omega arith)
       go (present v) p q = fits-length (rowAt k) v q
 
@@ -75,12 +78,14 @@ module _ (b : List ℕ) (f : AllObjectsFit b) (t k : ℕ) (e : findRow dictionar
   pub held-fits : hasObject b t ≡ true → lengthAndDigitsFitRow (rowAt k) (storedBytes b t) ≡ true
   held-fits h = go (objectValue b t) h value-fits
     where
-      go : (x : StoredValue) → isPresent x ≡ true → absentOrLengthAndDigitsFitRow (rowAt k) x ≡ true → lengthAndDigitsFitRow (rowAt k) (bytesOrEmptyIfAbsent x) ≡ true
+      go : (x : StoredValue) → isPresent x ≡ true → absentOrLengthAndDigitsFitRow (rowAt k) x ≡ true
+          → lengthAndDigitsFitRow (rowAt k) (bytesOrEmptyIfAbsent x) ≡ true
       go absent p q = cc
       go (present v) p q = q
 
 -- what a start must bring is present
-pub brought-there : (b : List ℕ) → RunningClauses b → (t k : ℕ) → findRow dictionaryRows t ≡ At k → rowAt k .must ≡ requiredAtStart → hasObject b t ≡ true
+pub brought-there : (b : List ℕ) → RunningClauses b → (t k : ℕ) → findRow dictionaryRows t ≡ At k
+    → rowAt k .must ≡ requiredAtStart → hasObject b t ≡ true
 brought-there b r t k e m =
     let w = found dictionaryRows t k e in
     subst (λ (n : ℕ). hasObject b n ≡ true) (w .1) (r .brought k (omega (arith, rows-length)) m)
@@ -98,7 +103,8 @@ pub results-five : (b : List ℕ) → AllObjectsFit b → hasObject b 0x95 ≡ t
 results-five b f h = omega (arith, held-length b f 0x95 rowTvr at-95 h, results-length, results-most)
 
 -- 95 that is present and zero
-pub zero-results : (b : List ℕ) → AllObjectsFit b → hasObject b 0x95 ≡ true → isObjectZeroOrAbsent b 0x95 ≡ true → objectValue b 0x95 ≡ present zeroTvr
+pub zero-results : (b : List ℕ) → AllObjectsFit b → hasObject b 0x95 ≡ true → isObjectZeroOrAbsent b 0x95 ≡ true
+    → objectValue b 0x95 ≡ present zeroTvr
 zero-results b f h z =
     present-of (objectValue b 0x95) h
     ∙ ap present (zeros-of (storedBytes b 0x95) z ∙ ap (λ (n : ℕ). replicate n 0) (results-five b f h))

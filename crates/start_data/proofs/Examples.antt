@@ -10,7 +10,8 @@ use Rattle.basics.specs.Choice.{if, both, either, every}
 use Rattle.basics.specs.Recursion.{recurseWithFuel, recurseWithFuelFromLength}
 use Rattle.basics.specs.Number.{appendBigEndianBytes, nibbles}
 use Rattle.basics.proofs.Laws.{if-no}
-use Rattle.tlv.specs.Tag.{tagSize, tagSizeFromSecondByte, tagSizeFromThirdByte, tagAt, tagFirstByte, isTemplate, isPrivate}
+use Rattle.tlv.specs.Tag.{tagSize, tagSizeFromSecondByte, tagSizeFromThirdByte, tagAt, tagFirstByte, isTemplate}
+use Rattle.tlv.specs.Tag.{isPrivate}
 use Rattle.tlv.specs.Length.{lengthAfter82, lengthAt}
 use Rattle.tlv.specs.Object.{headerOf}
 use Rattle.tlv.specs.Primitives.{prependObject, primitiveAtFront, primitiveObjects}
@@ -20,7 +21,8 @@ use Rattle.dictionary.specs.TerminalType.{listedTerminalType}
 use Rattle.store.specs.Place.{rowOffset, rowPlaceBytes, valueInPlace, rowValue, putRow, objectValueIn}
 use Rattle.session_record.specs.Ranges.{isPresentIfRequiredAtStart, allRequiredAtStartPresent}
 use Rattle.start_data.specs.declared.LoadResult.{LoadResult}
-use Rattle.start_data.specs.StartData.{isListedIfTerminalType, startMaySetObjectInRow, setStartObject, setStartObjects, LoadedStore, refusal, loadStartBytes, loadResultOf}
+use Rattle.start_data.specs.StartData.{isListedIfTerminalType, startMaySetObjectInRow, setStartObject}
+use Rattle.start_data.specs.StartData.{setStartObjects, LoadedStore, refusal, loadStartBytes, loadResultOf}
 
 -- ---- for every store
 
@@ -44,11 +46,15 @@ pub record Refused (b : List ℕ) : Type 0 where
   -- an unknown primitive object alone
   pub unknown : allRequiredAtStartPresent b ≡ false → loadStartBytes b (0x42 ∷ 0x01 ∷ 0x00 ∷ []) ≡ refusal 24
   -- an unknown primitive object of 1,024 bytes in all, and one of 1,025
-  pub longest : allRequiredAtStartPresent b ≡ false → loadStartBytes b (0x42 ∷ 0x82 ∷ 0x03 ∷ 0xFC ∷ replicate 1020 0) ≡ refusal 24
+  pub longest : allRequiredAtStartPresent b ≡ false → loadStartBytes b (0x42 ∷ 0x82 ∷ 0x03 ∷ 0xFC ∷ replicate 1020 0)
+      ≡ refusal 24
   pub too-long : loadStartBytes b (0x42 ∷ 0x82 ∷ 0x03 ∷ 0xFD ∷ replicate 1021 0) ≡ refusal 20
 
 pub refused : (b : List ℕ) → Refused b
-unfolding loadStartBytes primitiveObjects recurseWithFuelFromLength recurseWithFuel prependObject primitiveAtFront headerOf tagAt tagSize lengthAt lengthAfter82 tagFirstByte isTemplate isPrivate appendBigEndianBytes if both every dictionaryRows rowFoundShifted findRow startMaySetObjectInRow setStartObject setStartObjects lengthAndDigitsFitRow digitsMatchForm isNumeric nibbles
+unfolding loadStartBytes primitiveObjects recurseWithFuelFromLength recurseWithFuel prependObject primitiveAtFront
+    headerOf tagAt tagSize lengthAt lengthAfter82 tagFirstByte isTemplate isPrivate appendBigEndianBytes if both every
+    dictionaryRows rowFoundShifted findRow startMaySetObjectInRow setStartObject setStartObjects lengthAndDigitsFitRow
+    digitsMatchForm isNumeric nibbles
 refused b = record {
   template = refl;
   padding = refl;
@@ -78,7 +84,11 @@ taken : map loadEmpty
     ∷ (0x9F ∷ 0x38 ∷ 0x00 ∷ 0x9F ∷ 0x35 ∷ 0x01 ∷ 0x22 ∷ [])
     ∷ [])
     ≡ refusal 24 ∷ refusal 24 ∷ refusal 24 ∷ refusal 24 ∷ []
-unfolding loadStartBytes primitiveObjects recurseWithFuelFromLength recurseWithFuel prependObject primitiveAtFront headerOf tagAt tagSize tagSizeFromSecondByte lengthAt tagFirstByte isTemplate isPrivate appendBigEndianBytes if both either every dictionaryRows rowFoundShifted findRow startMaySetObjectInRow setStartObject setStartObjects lengthAndDigitsFitRow digitsMatchForm isNumeric nibbles isListedIfTerminalType listedTerminalType rowOffset rowPlaceBytes valueInPlace rowValue putRow objectValueIn allRequiredAtStartPresent isPresentIfRequiredAtStart
+unfolding loadStartBytes primitiveObjects recurseWithFuelFromLength recurseWithFuel prependObject primitiveAtFront
+    headerOf tagAt tagSize tagSizeFromSecondByte lengthAt tagFirstByte isTemplate isPrivate appendBigEndianBytes if both
+    either every dictionaryRows rowFoundShifted findRow startMaySetObjectInRow setStartObject setStartObjects
+    lengthAndDigitsFitRow digitsMatchForm isNumeric nibbles isListedIfTerminalType listedTerminalType rowOffset
+    rowPlaceBytes valueInPlace rowValue putRow objectValueIn allRequiredAtStartPresent isPresentIfRequiredAtStart
 taken = refl
 
 -- two and four bytes of 9F33; no byte and two of DF811B, five bytes of DF8125 and a digit that is none; three bytes of
@@ -102,7 +112,12 @@ stopped : map loadEmpty
     ∷ (0x9F ∷ 0x38 ∷ 0x00 ∷ 0x9F ∷ 0x38 ∷ 0x00 ∷ [])
     ∷ [])
     ≡ replicate 15 (refusal 23)
-unfolding loadStartBytes primitiveObjects recurseWithFuelFromLength recurseWithFuel prependObject primitiveAtFront headerOf tagAt tagSize tagSizeFromSecondByte tagSizeFromThirdByte lengthAt tagFirstByte isTemplate isPrivate appendBigEndianBytes if both either every dictionaryRows rowFoundShifted findRow startMaySetObjectInRow setStartObject setStartObjects lengthAndDigitsFitRow digitsMatchForm isNumeric nibbles isListedIfTerminalType listedTerminalType rowOffset rowPlaceBytes valueInPlace rowValue putRow objectValueIn allRequiredAtStartPresent isPresentIfRequiredAtStart
+unfolding loadStartBytes primitiveObjects recurseWithFuelFromLength recurseWithFuel prependObject primitiveAtFront
+    headerOf tagAt tagSize tagSizeFromSecondByte tagSizeFromThirdByte lengthAt tagFirstByte isTemplate isPrivate
+    appendBigEndianBytes if both either every dictionaryRows rowFoundShifted findRow startMaySetObjectInRow
+    setStartObject setStartObjects lengthAndDigitsFitRow digitsMatchForm isNumeric nibbles isListedIfTerminalType
+    listedTerminalType rowOffset rowPlaceBytes valueInPlace rowValue putRow objectValueIn allRequiredAtStartPresent
+    isPresentIfRequiredAtStart
 stopped = refl
 
 -- what a start must bring but the last four: 9A, 9C, 9F02, 9F09, 9F1A, 9F33, 9F35, 9F37, DF8120 to DF8124; then DF811B,
@@ -111,7 +126,8 @@ abbrev others : List ℕ
 others =
     0x9A ∷ 0x03 ∷ 0x25 ∷ 0x12 ∷ 0x31 ∷ 0x9C ∷ 0x01 ∷ 0x00 ∷ 0x9F ∷ 0x02 ∷ 0x06 ∷ 0 ∷ 0 ∷ 0 ∷ 0 ∷ 0x10 ∷ 0 ∷
     0x9F ∷ 0x09 ∷ 0x02 ∷ 0 ∷ 2 ∷ 0x9F ∷ 0x1A ∷ 0x02 ∷ 0x00 ∷ 0x56 ∷ 0x9F ∷ 0x35 ∷ 0x01 ∷ 0x22 ∷
-    0x9F ∷ 0x33 ∷ 0x03 ∷ 0xE0 ∷ 0x68 ∷ 0xC8 ∷ 0x9F ∷ 0x37 ∷ 0x04 ∷ 1 ∷ 2 ∷ 3 ∷ 4 ∷ 0xDF ∷ 0x81 ∷ 0x20 ∷ 0x05 ∷ 0 ∷ 0 ∷ 0 ∷ 0 ∷ 0 ∷
+    0x9F ∷ 0x33 ∷ 0x03 ∷ 0xE0 ∷ 0x68 ∷ 0xC8 ∷ 0x9F ∷ 0x37 ∷ 0x04 ∷ 1 ∷ 2 ∷ 3 ∷ 4 ∷ 0xDF ∷ 0x81 ∷ 0x20 ∷ 0x05 ∷ 0 ∷ 0 ∷ 0
+    ∷ 0 ∷ 0 ∷
     0xDF ∷ 0x81 ∷ 0x21 ∷ 0x05 ∷ 0 ∷ 0 ∷ 0 ∷ 0 ∷ 0 ∷ 0xDF ∷ 0x81 ∷ 0x22 ∷ 0x05 ∷ 0 ∷ 0 ∷ 0 ∷ 0 ∷ 0 ∷
     0xDF ∷ 0x81 ∷ 0x23 ∷ 0x06 ∷ 0 ∷ 0 ∷ 0 ∷ 0 ∷ 0 ∷ 0 ∷ 0xDF ∷ 0x81 ∷ 0x24 ∷ 0x06 ∷ 0 ∷ 0 ∷ 0 ∷ 0 ∷ 0 ∷ 0 ∷ []
 
@@ -128,13 +144,24 @@ abbrev number : List ℕ
 number = 0x9F ∷ 0x6A ∷ 0x04 ∷ 0 ∷ 0 ∷ 0x34 ∷ 0x56 ∷ []
 
 complete : loadResultOf (loadEmpty (others ++ configuration ++ onDeviceLimit ++ cvmLimit ++ number)) ≡ LoadResult.Loaded
-unfolding loadStartBytes primitiveObjects recurseWithFuelFromLength recurseWithFuel prependObject primitiveAtFront headerOf tagAt tagSize tagSizeFromSecondByte tagSizeFromThirdByte lengthAt tagFirstByte isTemplate isPrivate appendBigEndianBytes if both either every dictionaryRows rowFoundShifted findRow startMaySetObjectInRow setStartObject setStartObjects lengthAndDigitsFitRow digitsMatchForm isNumeric nibbles isListedIfTerminalType listedTerminalType rowOffset rowPlaceBytes valueInPlace rowValue putRow objectValueIn allRequiredAtStartPresent isPresentIfRequiredAtStart
+unfolding loadStartBytes primitiveObjects recurseWithFuelFromLength recurseWithFuel prependObject primitiveAtFront
+    headerOf tagAt tagSize tagSizeFromSecondByte tagSizeFromThirdByte lengthAt tagFirstByte isTemplate isPrivate
+    appendBigEndianBytes if both either every dictionaryRows rowFoundShifted findRow startMaySetObjectInRow
+    setStartObject setStartObjects lengthAndDigitsFitRow digitsMatchForm isNumeric nibbles isListedIfTerminalType
+    listedTerminalType rowOffset rowPlaceBytes valueInPlace rowValue putRow objectValueIn allRequiredAtStartPresent
+    isPresentIfRequiredAtStart
 complete = refl
 
 -- one of them is absent
 one-absent : map loadEmpty
-    ((others ++ configuration ++ onDeviceLimit ++ cvmLimit) ∷ (others ++ configuration ++ onDeviceLimit ++ number) ∷ (others ++ configuration ++ cvmLimit ++ number)
+    ((others ++ configuration ++ onDeviceLimit ++ cvmLimit) ∷ (others ++ configuration ++ onDeviceLimit ++ number)
+    ∷ (others ++ configuration ++ cvmLimit ++ number)
     ∷ (others ++ onDeviceLimit ++ cvmLimit ++ number) ∷ [])
     ≡ replicate 4 (refusal 24)
-unfolding loadStartBytes primitiveObjects recurseWithFuelFromLength recurseWithFuel prependObject primitiveAtFront headerOf tagAt tagSize tagSizeFromSecondByte tagSizeFromThirdByte lengthAt tagFirstByte isTemplate isPrivate appendBigEndianBytes if both either every dictionaryRows rowFoundShifted findRow startMaySetObjectInRow setStartObject setStartObjects lengthAndDigitsFitRow digitsMatchForm isNumeric nibbles isListedIfTerminalType listedTerminalType rowOffset rowPlaceBytes valueInPlace rowValue putRow objectValueIn allRequiredAtStartPresent isPresentIfRequiredAtStart
+unfolding loadStartBytes primitiveObjects recurseWithFuelFromLength recurseWithFuel prependObject primitiveAtFront
+    headerOf tagAt tagSize tagSizeFromSecondByte tagSizeFromThirdByte lengthAt tagFirstByte isTemplate isPrivate
+    appendBigEndianBytes if both either every dictionaryRows rowFoundShifted findRow startMaySetObjectInRow
+    setStartObject setStartObjects lengthAndDigitsFitRow digitsMatchForm isNumeric nibbles isListedIfTerminalType
+    listedTerminalType rowOffset rowPlaceBytes valueInPlace rowValue putRow objectValueIn allRequiredAtStartPresent
+    isPresentIfRequiredAtStart
 one-absent = refl

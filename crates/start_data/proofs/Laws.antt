@@ -19,7 +19,8 @@ use Rattle.basics.proofs.Table.{at}
 use Rattle.tlv.specs.Primitives.{Object, primitiveObjects}
 use Rattle.dictionary.specs.declared.RowFound.{RowFound}
 use Rattle.dictionary.specs.declared.RowFound.the-variants.{At, Unknown}
-use Rattle.dictionary.specs.Rows.{dictionaryRows, rowAt, blankRow, rowFoundShifted, findRow, rowCount, storeSize, setByStart, requiredAtStart}
+use Rattle.dictionary.specs.Rows.{dictionaryRows, rowAt, blankRow, rowFoundShifted, findRow, rowCount, storeSize}
+use Rattle.dictionary.specs.Rows.{setByStart, requiredAtStart}
 use Rattle.dictionary.specs.Named.{rowNumberOfTagOrZero}
 use Rattle.dictionary.specs.Form.{lengthAndDigitsFitRow}
 use Rattle.dictionary.specs.TerminalType.{listedTerminalType}
@@ -32,17 +33,22 @@ use Rattle.session_record.specs.declared.Refusal.{Refusal}
 use Rattle.store.specs.Held.{hasObject, storedByte}
 use Rattle.session_record.specs.Ranges.{isPresentIfRequiredAtStart, allRequiredAtStartPresent, allStoredObjectsFitRows}
 use Rattle.start_data.specs.declared.LoadResult.{LoadResult}
-use Rattle.start_data.specs.StartData.{isListedIfTerminalType, startMaySetObjectInRow, setObjectOfRowFound, setStartObject, continueSetting, setStartObjects, LoadedStore, refusal, loaded, loadedIfAllRequired, loadedAfterSetting, loadedFromObjects, mostStartBytes, loadStartBytes, LoadResultAndStoreMatchLoaded}
+use Rattle.start_data.specs.StartData.{isListedIfTerminalType, startMaySetObjectInRow, setObjectOfRowFound}
+use Rattle.start_data.specs.StartData.{setStartObject, continueSetting, setStartObjects, LoadedStore, refusal}
+use Rattle.start_data.specs.StartData.{loaded, loadedIfAllRequired, loadedAfterSetting, loadedFromObjects}
+use Rattle.start_data.specs.StartData.{mostStartBytes, loadStartBytes, LoadResultAndStoreMatchLoaded}
 use Rattle.start_data.proofs.Ways.{load-long}
 use Rattle.start_data.proofs.Fit.{put-fits}
 
 -- ---- the call's answer, read back
 
-pub was-taken : {r : LoadResult} {b c : List ℕ} (x : LoadedStore) → LoadResultAndStoreMatchLoaded r c b x → r ≡ LoadResult.Loaded → x ≡ loaded c
+pub was-taken : {r : LoadResult} {b c : List ℕ} (x : LoadedStore) → LoadResultAndStoreMatchLoaded r c b x
+    → r ≡ LoadResult.Loaded → x ≡ loaded c
 was-taken (refusal n) l e = let d = l .said in cc
 was-taken (loaded d) l e = ap loaded (sym (l .store))
 
-pub was-refused : {r : LoadResult} {b c : List ℕ} {q : Refusal} (x : LoadedStore) → LoadResultAndStoreMatchLoaded r c b x → r ≡ LoadResult.Refused q → (x ≡ refusal (q .number)) × (c ≡ b)
+pub was-refused : {r : LoadResult} {b c : List ℕ} {q : Refusal} (x : LoadedStore)
+    → LoadResultAndStoreMatchLoaded r c b x → r ≡ LoadResult.Refused q → (x ≡ refusal (q .number)) × (c ≡ b)
 was-refused {r} {b} {c} {q} (refusal n) l e =
     let d = l .said in
     let z : record { number = n } ≡ q = cc in
@@ -70,9 +76,11 @@ module _ (b s c : List ℕ) where
   set-by none e = never e
   set-by (some d) e = let w = required-by d e in (ap some (w .0), w .1)
 
-  run-by : length s ≤ mostStartBytes → (x : Option (List Object)) → primitiveObjects s ≡ x → loadedFromObjects b x ≡ loaded c → LoadedBy b s c
+  run-by : length s ≤ mostStartBytes → (x : Option (List Object)) → primitiveObjects s ≡ x
+      → loadedFromObjects b x ≡ loaded c → LoadedBy b s c
   run-by l none p e = never e
-  run-by l (some os) p e = let w = set-by (setStartObjects b os) e in record { short = l; objects = os; is-run = p; all-set = w .0; complete = w .1 }
+  run-by l (some os) p e = let w = set-by (setStartObjects b os) e in
+      record { short = l; objects = os; is-run = p; all-set = w .0; complete = w .1 }
 
   pub load-by : loadStartBytes b s ≡ loaded c → LoadedBy b s c
   unfolding loadStartBytes
@@ -94,21 +102,32 @@ pub record Put (b : List ℕ) (k : ℕ) (o : Object) : Type 0 where
   pub free : isPresent (rowValue dictionaryRows b k) ≡ false
   pub type : isListedIfTerminalType (o .tag) (o .value) ≡ true
 
-pub put-of : (b : List ℕ) (o : Object) (k : ℕ) → findRow dictionaryRows (o .tag) ≡ At k → startMaySetObjectInRow b k o ≡ true → Put b k o
+pub put-of : (b : List ℕ) (o : Object) (k : ℕ) → findRow dictionaryRows (o .tag) ≡ At k
+    → startMaySetObjectInRow b k o ≡ true → Put b k o
 unfolding startMaySetObjectInRow
 put-of b o k e s =
     let f = found dictionaryRows (o .tag) k e in
     let s₁ = both-right _ _ s in
     let s₂ = both-right _ _ s₁ in
-    record { row = omega (arith, rows-length); tag = f .1; start = both-left _ _ s; fits = both-left _ _ s₁; free = not-true _ (both-left _ _ s₂); type = both-right _ _ s₂ }
+    record {
+      row = omega (arith, rows-length);
+      tag = f .1;
+      start = both-left _ _ s;
+      fits = both-left _ _ s₁;
+      free =
+          not-true _ (both-left _ _ s₂);
+      type = both-right _ _ s₂;
+    }
 
 -- it fits its place
-pub put-place : (b : List ℕ) (k : ℕ) (o : Object) → length b ≡ storeSize → Put b k o → Fits dictionaryRows b k (o .value)
+pub put-place : (b : List ℕ) (k : ℕ) (o : Object) → length b ≡ storeSize → Put b k o
+    → Fits dictionaryRows b k (o .value)
 put-place b k o l p = fits-row b k (o .value) l (p .row) (fits-length (rowAt k) (o .value) (p .fits) .1)
 
 -- what holds of a store, and is kept by each put, holds of the store that is loaded
 module _ (P : List ℕ → Type 0)
-    (step : (b : List ℕ) (k : ℕ) (o : Object) → length b ≡ storeSize → Put b k o → P b → P (putRow dictionaryRows b k (o .value))) where
+    (step : (b : List ℕ) (k : ℕ) (o : Object) → length b ≡ storeSize → Put b k o → P b
+    → P (putRow dictionaryRows b k (o .value))) where
   abbrev Holds : List ℕ → Type 0
   Holds b = (length b ≡ storeSize) × P b
 
@@ -116,13 +135,18 @@ module _ (P : List ℕ → Type 0)
   OfSet none = Unit {0}
   OfSet (some c) = Holds c
 
-  found-holds : (b : List ℕ) (o : Object) → Holds b → (x : RowFound) → findRow dictionaryRows (o .tag) ≡ x → OfSet (setObjectOfRowFound b o x)
+  found-holds : (b : List ℕ) (o : Object) → Holds b → (x : RowFound) → findRow dictionaryRows (o .tag) ≡ x
+      → OfSet (setObjectOfRowFound b o x)
   found-holds b o h Unknown e = h
   found-holds b o h (At k) e =
       if-ind OfSet _ _ _
-      (λ s. let p = put-of b o k e s in (put-length dictionaryRows b k (o .value) (put-place b k o (h .0) p) ∙ h .0, step b k o (h .0) p (h .1))) (λ s. tt)
+      (λ s. let p = put-of b o k e s in (
+        put-length dictionaryRows b k (o .value) (put-place b k o (h .0) p) ∙ h .0,
+        step b k o (h .0) p (h .1),
+      )) (λ s. tt)
 
-  then-holds : (x : Option (List ℕ)) (k : List ℕ → Option (List ℕ)) → ((c : List ℕ) → Holds c → OfSet (k c)) → OfSet x → OfSet (continueSetting x k)
+  then-holds : (x : Option (List ℕ)) (k : List ℕ → Option (List ℕ)) → ((c : List ℕ) → Holds c → OfSet (k c)) → OfSet x
+      → OfSet (continueSetting x k)
   then-holds none k h i = tt
   then-holds (some c) k h i = h c i
 
@@ -136,7 +160,8 @@ module _ (P : List ℕ → Type 0)
   all-holds (o ∷ os) b h = then-holds (setStartObject b o) _ (all-holds os) (object-holds b o h)
 
   -- objects after which every such store refuses the rest
-  then-none : (x : Option (List ℕ)) (k : List ℕ → Option (List ℕ)) → ((c : List ℕ) → Holds c → k c ≡ none) → OfSet x → continueSetting x k ≡ none
+  then-none : (x : Option (List ℕ)) (k : List ℕ → Option (List ℕ)) → ((c : List ℕ) → Holds c → k c ≡ none) → OfSet x
+      → continueSetting x k ≡ none
   then-none none k h i = refl
   then-none (some c) k h i = h c i
 
@@ -146,7 +171,8 @@ module _ (P : List ℕ → Type 0)
   none-after rest n [] b h = n b h
   none-after rest n (o ∷ os) b h = then-none (setStartObject b o) _ (none-after rest n os) (object-holds b o h)
 
-  pub load-holds : (b s c : List ℕ) → loadStartBytes b s ≡ loaded c → length b ≡ storeSize → P b → (length c ≡ storeSize) × P c
+  pub load-holds : (b s c : List ℕ) → loadStartBytes b s ≡ loaded c → length b ≡ storeSize → P b
+      → (length c ≡ storeSize) × P c
   load-holds b s c e l h =
       let y = load-by b s c e in
       rw (y .all-set) at (all-holds (y .objects) b (l, h))
@@ -158,27 +184,36 @@ module _ (b s c : List ℕ) (e : loadStartBytes b s ≡ loaded c) (l : length b 
 
   -- where every stored object fitted, every one fits
   pub load-fits : allStoredObjectsFitRows b ≡ true → allStoredObjectsFitRows c ≡ true
-  load-fits f = load-holds (λ d. allStoredObjectsFitRows d ≡ true) (λ d k o m p g. put-fits d k (o .value) m (p .row) (p .fits) g) b s c e l f .1
+  load-fits f = load-holds (λ d. allStoredObjectsFitRows d ≡ true)
+      (λ d k o m p g. put-fits d k (o .value) m (p .row) (p .fits) g) b s c e l f .1
 
   -- a row that no put goes to
-  kept : (k : ℕ) → ((d : List ℕ) (j : ℕ) (o : Object) → Put d j o → rowValue dictionaryRows d k ≡ rowValue dictionaryRows b k → k ≡ j → ⊥) → rowValue dictionaryRows c k ≡ rowValue dictionaryRows b k
+  kept : (k : ℕ)
+      → ((d : List ℕ) (j : ℕ) (o : Object) → Put d j o → rowValue dictionaryRows d k ≡ rowValue dictionaryRows b k
+      → k ≡ j → ⊥) → rowValue dictionaryRows c k ≡ rowValue dictionaryRows b k
   kept k away =
       load-holds (λ d. rowValue dictionaryRows d k ≡ rowValue dictionaryRows b k)
-      (λ d j o m p g. put-other dictionaryRows d j (o .value) (put-place d j o m p) k (away d j o p g) ∙ g) b s c e l refl .1
+      (λ d j o m p g. put-other dictionaryRows d j (o .value) (put-place d j o m p) k (away d j o p g) ∙ g) b s c e l
+      refl .1
 
   -- rows that a start may not set are untouched
-  pub load-untouched : (k : ℕ) → hasBitOfWeight (rowAt k .setters) setByStart ≡ false → rowValue dictionaryRows c k ≡ rowValue dictionaryRows b k
+  pub load-untouched : (k : ℕ) → hasBitOfWeight (rowAt k .setters) setByStart ≡ false
+      → rowValue dictionaryRows c k ≡ rowValue dictionaryRows b k
   load-untouched k n =
-      kept k (λ d j o p g q. let r = p .start in let w = ap (λ (i : ℕ). hasBitOfWeight (rowAt i .setters) setByStart) q in let z : _≡_ {A = ℕ} 0 1 = cc in omega arith)
+      kept k (λ d j o p g q. let r = p .start in let w = ap (λ (i : ℕ). hasBitOfWeight (rowAt i .setters) setByStart) q
+      in let z : _≡_ {A = ℕ} 0 1 = cc in omega arith)
 
   -- the same by tag
-  pub load-untouched-of : (t k : ℕ) → findRow dictionaryRows t ≡ At k → hasBitOfWeight (rowAt k .setters) setByStart ≡ false → objectValue c t ≡ objectValue b t
+  pub load-untouched-of : (t k : ℕ) → findRow dictionaryRows t ≡ At k → hasBitOfWeight (rowAt k .setters) setByStart
+      ≡ false → objectValue c t ≡ objectValue b t
   load-untouched-of t k f n = by-row dictionaryRows c t k f ∙ load-untouched k n ∙ sym (by-row dictionaryRows b t k f)
 
   -- an object that was present, empty or not, is as it was
-  pub load-kept : (k : ℕ) → isPresent (rowValue dictionaryRows b k) ≡ true → rowValue dictionaryRows c k ≡ rowValue dictionaryRows b k
+  pub load-kept : (k : ℕ) → isPresent (rowValue dictionaryRows b k) ≡ true
+      → rowValue dictionaryRows c k ≡ rowValue dictionaryRows b k
   load-kept k h =
-      kept k (λ d j o p g q. let r = p .free in let w = ap (λ (i : ℕ). isPresent (rowValue dictionaryRows d i)) q in let v = ap isPresent g in let z : _≡_ {A = ℕ} 0 1 = cc in omega arith)
+      kept k (λ d j o p g q. let r = p .free in let w = ap (λ (i : ℕ). isPresent (rowValue dictionaryRows d i)) q in
+      let v = ap isPresent g in let z : _≡_ {A = ℕ} 0 1 = cc in omega arith)
 
 -- ---- the terminal's type, which has a row, and which a start must bring
 
@@ -198,36 +233,50 @@ type-must = refl
 
 -- where a store holds a terminal type, it is listed
 abbrev TypeListed : List ℕ → Type 0
-TypeListed b = isPresent (rowValue dictionaryRows b typeRow) ≡ true → listedTerminalType (getD (bytesOrEmptyIfAbsent (rowValue dictionaryRows b typeRow)) 0 0) ≡ true
+TypeListed b = isPresent (rowValue dictionaryRows b typeRow) ≡ true
+    → listedTerminalType (getD (bytesOrEmptyIfAbsent (rowValue dictionaryRows b typeRow)) 0 0) ≡ true
 
-is-listed : (t : ℕ) (v : List ℕ) → t ≡ 0x9F35 → isListedIfTerminalType t v ≡ true → listedTerminalType (getD v 0 0) ≡ true
+is-listed : (t : ℕ) (v : List ℕ) → t ≡ 0x9F35 → isListedIfTerminalType t v ≡ true → listedTerminalType (getD v 0 0)
+    ≡ true
 unfolding isListedIfTerminalType
 is-listed t v e h = sym (if-yes _ _ (eq-eqb t 0x9F35 e)) ∙ h
 
-type-kept : (b : List ℕ) (k : ℕ) (o : Object) → length b ≡ storeSize → Put b k o → TypeListed b → TypeListed (putRow dictionaryRows b k (o .value))
+type-kept : (b : List ℕ) (k : ℕ) (o : Object) → length b ≡ storeSize → Put b k o → TypeListed b
+    → TypeListed (putRow dictionaryRows b k (o .value))
 type-kept b k o l p h = go (equal-or-not typeRow k)
   where
     go : (typeRow ≡ k) ⊎ (typeRow ≡ k → ⊥) → TypeListed (putRow dictionaryRows b k (o .value))
     go (inl e) = λ t.
-        ap (λ (x : StoredValue). listedTerminalType (getD (bytesOrEmptyIfAbsent x) 0 0)) (ap (rowValue dictionaryRows (putRow dictionaryRows b k (o .value))) e ∙ put-get dictionaryRows b k (o .value) (put-place b k o l p))
+        ap (λ (x : StoredValue). listedTerminalType (getD (bytesOrEmptyIfAbsent x) 0 0))
+        (ap (rowValue dictionaryRows (putRow dictionaryRows b k (o .value))) e ∙ put-get dictionaryRows b k (o .value)
+        (put-place b k o l p))
         ∙ is-listed (o .tag) (o .value) (sym (ap (λ (i : ℕ). rowAt i .tag) e ∙ p .tag) ∙ type-tag) (p .type)
-    go (inr ne) = subst (λ (x : StoredValue). isPresent x ≡ true → listedTerminalType (getD (bytesOrEmptyIfAbsent x) 0 0) ≡ true) (sym (put-other dictionaryRows b k (o .value) (put-place b k o l p) typeRow ne)) h
+    go (inr ne) = subst (λ (x : StoredValue). isPresent x ≡ true
+        → listedTerminalType (getD (bytesOrEmptyIfAbsent x) 0 0) ≡ true)
+        (sym (put-other dictionaryRows b k (o .value) (put-place b k o l p) typeRow ne)) h
 
 -- a store that holds all that a start must bring holds a terminal type
 brought-type : (c : List ℕ) → allRequiredAtStartPresent c ≡ true → hasObject c 0x9F35 ≡ true
 unfolding allRequiredAtStartPresent isPresentIfRequiredAtStart
 brought-type c e =
-    sym (ap (hasObject c) type-tag) ∙ sym (either-false _ (ne-eqb (rowAt typeRow .must) 0 (λ z. omega (arith, type-must)))) ∙ at (isPresentIfRequiredAtStart c) dictionaryRows blankRow e typeRow (found dictionaryRows 0x9F35 typeRow type-found .0)
+    sym (ap (hasObject c) type-tag) ∙ sym
+    (either-false _ (ne-eqb (rowAt typeRow .must) 0 (λ z. omega (arith, type-must)))) ∙ at
+    (isPresentIfRequiredAtStart c) dictionaryRows blankRow e typeRow (found dictionaryRows 0x9F35 typeRow type-found .0)
 
 -- where the store held no terminal type, the one that is loaded is listed
-pub load-listed : (b s c : List ℕ) → loadStartBytes b s ≡ loaded c → length b ≡ storeSize → hasObject b 0x9F35 ≡ false → listedTerminalType (storedByte c 0x9F35 1) ≡ true
+pub load-listed : (b s c : List ℕ) → loadStartBytes b s ≡ loaded c → length b ≡ storeSize → hasObject b 0x9F35 ≡ false
+    → listedTerminalType (storedByte c 0x9F35 1) ≡ true
 load-listed b s c e l n =
-    let none-yet : isPresent (rowValue dictionaryRows b typeRow) ≡ false = ap isPresent (sym (by-row dictionaryRows b 0x9F35 typeRow type-found)) ∙ n in
-    let there : isPresent (rowValue dictionaryRows c typeRow) ≡ true = ap isPresent (sym (by-row dictionaryRows c 0x9F35 typeRow type-found)) ∙ brought-type c (load-brought b s c e) in
-    ap (λ (x : StoredValue). listedTerminalType (getD (bytesOrEmptyIfAbsent x) 0 0)) (by-row dictionaryRows c 0x9F35 typeRow type-found)
+    let none-yet : isPresent (rowValue dictionaryRows b typeRow) ≡ false =
+    ap isPresent (sym (by-row dictionaryRows b 0x9F35 typeRow type-found)) ∙ n in
+    let there : isPresent (rowValue dictionaryRows c typeRow) ≡ true =
+    ap isPresent (sym (by-row dictionaryRows c 0x9F35 typeRow type-found)) ∙ brought-type c (load-brought b s c e) in
+    ap (λ (x : StoredValue). listedTerminalType (getD (bytesOrEmptyIfAbsent x) 0 0))
+    (by-row dictionaryRows c 0x9F35 typeRow type-found)
     ∙ load-holds TypeListed type-kept b s c e l (λ t. cc) .1 there
 
 -- ---- every input over 1,024 bytes gives the same
 
-pub load-long-same : (b d s t : List ℕ) → mostStartBytes < length s → mostStartBytes < length t → loadStartBytes b s ≡ loadStartBytes d t
+pub load-long-same : (b d s t : List ℕ) → mostStartBytes < length s → mostStartBytes < length t
+    → loadStartBytes b s ≡ loadStartBytes d t
 load-long-same b d s t p q = load-long b s p ∙ sym (load-long d t q)

@@ -16,7 +16,9 @@ use Rattle.dictionary.specs.declared.RowFound.the-variants.{At, Unknown}
 use Rattle.dictionary.specs.Rows.{dictionaryRows, rowAt, findRow}
 use Rattle.dictionary.specs.Form.{lengthAndDigitsFitRow}
 use Rattle.store.specs.Place.{putRow}
-use Rattle.start_data.specs.StartData.{startMaySetObjectInRow, setObjectOfRowFound, setStartObject, continueSetting, setStartObjects, setParsedStartObjects, ReportsWhetherObjectsSet}
+use Rattle.start_data.specs.StartData.{startMaySetObjectInRow, setObjectOfRowFound, setStartObject}
+use Rattle.start_data.specs.StartData.{continueSetting, setStartObjects, setParsedStartObjects}
+use Rattle.start_data.specs.StartData.{ReportsWhetherObjectsSet}
 
 -- ---- one object
 
@@ -26,7 +28,8 @@ module _ (b : List ℕ) (o : Object) (x : RowFound) (p : x ≡ findRow dictionar
   set-unknown q = ap (setObjectOfRowFound b o) (sym p ∙ q)
 
   module _ (k : ℕ) (q : x ≡ At k) where
-    pub set-taken : startMaySetObjectInRow b k o ≡ true → setStartObject b o ≡ some (putRow dictionaryRows b k (o .value))
+    pub set-taken : startMaySetObjectInRow b k o ≡ true
+        → setStartObject b o ≡ some (putRow dictionaryRows b k (o .value))
     unfolding setStartObject
     set-taken s = ap (setObjectOfRowFound b o) (sym p ∙ q) ∙ if-yes _ _ s
 
@@ -35,7 +38,8 @@ module _ (b : List ℕ) (o : Object) (x : RowFound) (p : x ≡ findRow dictionar
     set-refused s = ap (setObjectOfRowFound b o) (sym p ∙ q) ∙ if-no _ _ s
 
 -- an object that may be set fits its row
-pub settable-fits : (b : List ℕ) (k : ℕ) (o : Object) → startMaySetObjectInRow b k o ≡ true → lengthAndDigitsFitRow (rowAt k) (o .value) ≡ true
+pub settable-fits : (b : List ℕ) (k : ℕ) (o : Object) → startMaySetObjectInRow b k o ≡ true
+    → lengthAndDigitsFitRow (rowAt k) (o .value) ≡ true
 unfolding startMaySetObjectInRow
 settable-fits b k o e = both-left _ _ (both-right _ _ e)
 
@@ -57,12 +61,14 @@ was-not c (some d) s f = cc
 
 -- ---- one after the other
 
-after : (b c : List ℕ) (o : Object) (x : Option (List Object)) → setStartObject b o ≡ some c → setParsedStartObjects b (prependObject o x) ≡ setParsedStartObjects c x
+after : (b c : List ℕ) (o : Object) (x : Option (List Object)) → setStartObject b o ≡ some c
+    → setParsedStartObjects b (prependObject o x) ≡ setParsedStartObjects c x
 unfolding setParsedStartObjects prependObject setStartObjects
 after b c o none e = refl
 after b c o (some os) e = ap (λ y. continueSetting y (λ d. setStartObjects d os)) e
 
-stopped : (b : List ℕ) (o : Object) (x : Option (List Object)) → setStartObject b o ≡ none → setParsedStartObjects b (prependObject o x) ≡ none
+stopped : (b : List ℕ) (o : Object) (x : Option (List Object)) → setStartObject b o ≡ none
+    → setParsedStartObjects b (prependObject o x) ≡ none
 unfolding setParsedStartObjects prependObject setStartObjects
 stopped b o none e = refl
 stopped b o (some os) e = ap (λ y. continueSetting y (λ d. setStartObjects d os)) e
@@ -75,13 +81,18 @@ module _ (s : List ℕ) where
   set-end b z = ap (setParsedStartObjects b) (primitives-end s z)
 
   module _ (n : length s ≡ 0 → ⊥) where
-    pub set-broken : (b : List ℕ) → primitiveAtFront s ≡ front.Broken → setParsedStartObjects b (primitiveObjects s) ≡ none
+    pub set-broken : (b : List ℕ) → primitiveAtFront s ≡ front.Broken → setParsedStartObjects b (primitiveObjects s)
+        ≡ none
     unfolding setParsedStartObjects
     set-broken b e = ap (setParsedStartObjects b) (primitives-broken s n e)
 
     module _ (h : TlvHeader) (e : primitiveAtFront s ≡ front.Object h) where
-      pub set-on : (b c : List ℕ) → setStartObject b (firstOf s h) ≡ some c → setParsedStartObjects b (primitiveObjects s) ≡ setParsedStartObjects c (primitiveObjects (restOf s h))
-      set-on b c f = ap (setParsedStartObjects b) (parts s n h e) ∙ after b c (firstOf s h) (primitiveObjects (restOf s h)) f
+      pub set-on : (b c : List ℕ) → setStartObject b (firstOf s h) ≡ some c
+          → setParsedStartObjects b (primitiveObjects s) ≡ setParsedStartObjects c (primitiveObjects (restOf s h))
+      set-on b c f = ap (setParsedStartObjects b) (parts s n h e) ∙ after b c (firstOf s h)
+          (primitiveObjects (restOf s h)) f
 
-      pub set-stopped : (b : List ℕ) → setStartObject b (firstOf s h) ≡ none → setParsedStartObjects b (primitiveObjects s) ≡ none
-      set-stopped b f = ap (setParsedStartObjects b) (parts s n h e) ∙ stopped b (firstOf s h) (primitiveObjects (restOf s h)) f
+      pub set-stopped : (b : List ℕ) → setStartObject b (firstOf s h) ≡ none
+          → setParsedStartObjects b (primitiveObjects s) ≡ none
+      set-stopped b f = ap (setParsedStartObjects b) (parts s n h e) ∙ stopped b (firstOf s h)
+          (primitiveObjects (restOf s h)) f

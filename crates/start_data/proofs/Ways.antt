@@ -13,7 +13,9 @@ use Rattle.session_record.specs.Ranges.{allRequiredAtStartPresent}
 use Rattle.basics.specs.Reason.{refusalBadStartBytes, refusalBadStartObject, refusalRequiredObjectAbsent}
 use Rattle.start_data.specs.declared.LoadResult.{LoadResult}
 use Rattle.tlv.specs.Primitives.{Object, primitiveObjects, arePrimitiveObjectsParsed}
-use Rattle.start_data.specs.StartData.{setParsedStartObjects, LoadedStore, refusal, loaded, loadedAfterSetting, loadedFromObjects, mostStartBytes, loadStartBytes, LoadResultAndStoreMatchLoaded}
+use Rattle.start_data.specs.StartData.{setParsedStartObjects, LoadedStore, refusal, loaded, loadedAfterSetting}
+use Rattle.start_data.specs.StartData.{loadedFromObjects, mostStartBytes, loadStartBytes}
+use Rattle.start_data.specs.StartData.{LoadResultAndStoreMatchLoaded}
 
 -- ---- the ways out
 
@@ -27,23 +29,28 @@ module _ (b s : List ℕ) where
     unfolding loadStartBytes
     short = if-yes _ _ (le-leb _ _ l)
 
-    pub load-broken : arePrimitiveObjectsParsed (primitiveObjects s) ≡ false → loadStartBytes b s ≡ refusal refusalBadStartBytes
+    pub load-broken : arePrimitiveObjectsParsed (primitiveObjects s) ≡ false
+        → loadStartBytes b s ≡ refusal refusalBadStartBytes
     load-broken e = short ∙ go (primitiveObjects s) e
       where
-        go : (x : Option (List Object)) → arePrimitiveObjectsParsed x ≡ false → loadedFromObjects b x ≡ refusal refusalBadStartBytes
+        go : (x : Option (List Object)) → arePrimitiveObjectsParsed x ≡ false
+            → loadedFromObjects b x ≡ refusal refusalBadStartBytes
         go none p = refl
         go (some os) p = cc
 
     -- the objects decide
-    objects : arePrimitiveObjectsParsed (primitiveObjects s) ≡ true → loadStartBytes b s ≡ loadedAfterSetting (setParsedStartObjects b (primitiveObjects s))
+    objects : arePrimitiveObjectsParsed (primitiveObjects s) ≡ true
+        → loadStartBytes b s ≡ loadedAfterSetting (setParsedStartObjects b (primitiveObjects s))
     unfolding setParsedStartObjects
     objects e = short ∙ go (primitiveObjects s) e
       where
-        go : (x : Option (List Object)) → arePrimitiveObjectsParsed x ≡ true → loadedFromObjects b x ≡ loadedAfterSetting (setParsedStartObjects b x)
+        go : (x : Option (List Object)) → arePrimitiveObjectsParsed x ≡ true
+            → loadedFromObjects b x ≡ loadedAfterSetting (setParsedStartObjects b x)
         go none p = cc
         go (some os) p = refl
 
-    pub load-object : arePrimitiveObjectsParsed (primitiveObjects s) ≡ true → setParsedStartObjects b (primitiveObjects s) ≡ none → loadStartBytes b s ≡ refusal refusalBadStartObject
+    pub load-object : arePrimitiveObjectsParsed (primitiveObjects s) ≡ true
+        → setParsedStartObjects b (primitiveObjects s) ≡ none → loadStartBytes b s ≡ refusal refusalBadStartObject
     load-object e f = objects e ∙ ap loadedAfterSetting f
 
     module _ (c : List ℕ) (f : setParsedStartObjects b (primitiveObjects s) ≡ some c) where
@@ -64,12 +71,14 @@ module _ (b s : List ℕ) where
 
 -- ---- the answer
 
-pub refuses : {r : LoadResult} {n : ℕ} (b : List ℕ) {x : LoadedStore} → r ≡ LoadResult.Refused (record { number = n }) → x ≡ refusal n → LoadResultAndStoreMatchLoaded r b b x
+pub refuses : {r : LoadResult} {n : ℕ} (b : List ℕ) {x : LoadedStore} → r ≡ LoadResult.Refused (record { number = n })
+    → x ≡ refusal n → LoadResultAndStoreMatchLoaded r b b x
 refuses {r} b e f = subst (LoadResultAndStoreMatchLoaded r b b) (sym f) (record { said = e; store = refl })
 
 pub loads : {b c : List ℕ} {x : LoadedStore} → x ≡ loaded c → LoadResultAndStoreMatchLoaded LoadResult.Loaded c b x
 loads {b} f = subst (LoadResultAndStoreMatchLoaded _ _ b) (sym f) (record { said = refl; store = refl })
 
 -- a store that is cleared again is as it came
-pub refuses-as : {r : LoadResult} {n : ℕ} (b c : List ℕ) {x : LoadedStore} → c ≡ b → r ≡ LoadResult.Refused (record { number = n }) → x ≡ refusal n → LoadResultAndStoreMatchLoaded r c b x
+pub refuses-as : {r : LoadResult} {n : ℕ} (b c : List ℕ) {x : LoadedStore} → c ≡ b
+    → r ≡ LoadResult.Refused (record { number = n }) → x ≡ refusal n → LoadResultAndStoreMatchLoaded r c b x
 refuses-as {r} b c {x} s e f = subst (λ (y : List ℕ). LoadResultAndStoreMatchLoaded r y b x) (sym s) (refuses b e f)

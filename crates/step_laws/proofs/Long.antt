@@ -25,7 +25,9 @@ use Rattle.start_data.proofs.Laws.{load-long-same}
 use Rattle.session.specs.Steps.{NextAction, end, readResponseThen, stepIfAdmitted, effectIfRunning, follow}
 use Rattle.session.specs.Start.{startEffectAfterLoading, startEffect, startStep}
 use Rattle.session.specs.MagStripe.{nextIfTrackTakesDigits, nextOnChecksumResponse}
-use Rattle.session.specs.Answer.{nextAfterGpoRead, nextOnGpoResponse, nextAfterRecordRead, nextOnResponseForRecordFound, nextOnRecordResponse, nextAfterCryptogramRead, nextOnCryptogramResponse, nextOnResponse, answerStep}
+use Rattle.session.specs.Answer.{nextAfterGpoRead, nextOnGpoResponse, nextAfterRecordRead, nextOnResponseForRecordFound}
+use Rattle.session.specs.Answer.{nextOnRecordResponse, nextAfterCryptogramRead, nextOnCryptogramResponse}
+use Rattle.session.specs.Answer.{nextOnResponse, answerStep}
 
 -- ---- start
 
@@ -45,24 +47,31 @@ unfolding reading.readAnswer reading.responseLengthIs2To258
 long-read a b x h = if-no _ _ (both-no-right _ _ (lt-leb (length x) 258 h))
 
 module _ (s : Session) (x y buf : List ℕ) (h : 258 < length x) (k : 258 < length y) where
-  same-read : (a : Awaited) (m : ℕ) (next : List ℕ → NextAction) → readResponseThen a m (storeBytes s) x next ≡ readResponseThen a m (storeBytes s) y next
+  same-read : (a : Awaited) (m : ℕ) (next : List ℕ → NextAction) → readResponseThen a m (storeBytes s) x next
+      ≡ readResponseThen a m (storeBytes s) y next
   unfolding readResponseThen
   same-read a m next =
-      ap (λ (o : reading.ReadingOutcome). if (eqb (o .reason) 0) (next (o .store)) (end (endingForReason (o .reason)) m (storeBytes s)))
+      ap (λ (o : reading.ReadingOutcome). if (eqb (o .reason) 0) (next (o .store))
+      (end (endingForReason (o .reason)) m (storeBytes s)))
       (long-read a (storeBytes s) x h ∙ sym (long-read a (storeBytes s) y k))
 
-  long-found : (p : AwaitedRecord) (f : RecordFound) → nextOnResponseForRecordFound p (storeBytes s) x f ≡ nextOnResponseForRecordFound p (storeBytes s) y f
+  long-found : (p : AwaitedRecord) (f : RecordFound) → nextOnResponseForRecordFound p (storeBytes s) x f
+      ≡ nextOnResponseForRecordFound p (storeBytes s) y f
   long-found p RecordFound.Nothing = refl
-  long-found p (RecordFound.At r) = same-read (Awaited.Record (record { number = r .sfi })) cvmNumberNotApplicable (nextAfterRecordRead p)
+  long-found p (RecordFound.At r) = same-read (Awaited.Record (record { number = r .sfi })) cvmNumberNotApplicable
+      (nextAfterRecordRead p)
 
   long-awaited : (w : AwaitedResponse) → nextOnResponse (storeBytes s) x w ≡ nextOnResponse (storeBytes s) y w
   unfolding nextOnGpoResponse nextOnRecordResponse nextOnCryptogramResponse nextOnChecksumResponse
   long-awaited AwaitedResponse.Gpo = same-read Awaited.Gpo cvmNumberNotApplicable nextAfterGpoRead
   long-awaited (AwaitedResponse.Record p) = long-found p (kthRecordOfAcceptedAfl (storedAfl (storeBytes s)) (p .number))
-  long-awaited (AwaitedResponse.Cryptogram a) = same-read Awaited.Cryptogram (cvmNumber (a .cvm)) (nextAfterCryptogramRead a)
-  long-awaited (AwaitedResponse.Checksum c) = same-read Awaited.Checksum cvmNumberNotApplicable (nextIfTrackTakesDigits (storeBytes s))
+  long-awaited (AwaitedResponse.Cryptogram a) = same-read Awaited.Cryptogram (cvmNumber (a .cvm))
+      (nextAfterCryptogramRead a)
+  long-awaited (AwaitedResponse.Checksum c) = same-read Awaited.Checksum cvmNumberNotApplicable
+      (nextIfTrackTakesDigits (storeBytes s))
 
-  long-in : (p : Phase) → effectIfRunning p (nextOnResponse (storeBytes s) x) ≡ effectIfRunning p (nextOnResponse (storeBytes s) y)
+  long-in : (p : Phase) → effectIfRunning p (nextOnResponse (storeBytes s) x) ≡ effectIfRunning p
+      (nextOnResponse (storeBytes s) y)
   long-in Phase.Fresh = refl
   long-in (Phase.Waiting w) = ap follow (long-awaited w)
   long-in (Phase.Ended e) = refl

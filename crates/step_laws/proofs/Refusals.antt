@@ -17,7 +17,8 @@ use Rattle.session_record.specs.declared.Session.{Session}
 use Rattle.session_record.specs.Session.{storeBytes, endingForReason}
 use Rattle.session_record.specs.Ranges.{zeroTvr, sessionRecordInRanges}
 use Rattle.start_data.specs.StartData.{LoadedStore, refusal, loaded, loadStartBytes}
-use Rattle.session.specs.Steps.{NextAction, end, heldCvm, storeWithTvr, Step, CallEffect, stepOfNext, refusedStep, stepOfEffect, leastBuffer, stepIfAdmitted, effectIfRunning, abortStep}
+use Rattle.session.specs.Steps.{NextAction, end, heldCvm, storeWithTvr, Step, CallEffect, stepOfNext, refusedStep}
+use Rattle.session.specs.Steps.{stepOfEffect, leastBuffer, stepIfAdmitted, effectIfRunning, abortStep}
 use Rattle.session.specs.Start.{requestGpo, startEffectAfterLoading, startEffect, startStep}
 use Rattle.session.specs.Answer.{nextOnResponse, answerStep}
 use Rattle.session.proofs.Laws.{admitted-in}
@@ -42,16 +43,19 @@ module _ (s : Session) (buf : List ℕ) (next : AwaitedResponse → NextAction) 
   running-goes (Phase.Waiting w) e = next-goes (s .count) buf (next w)
   running-goes (Phase.Ended x) e = no e
 
-  idle-refused : (p : Phase) → isRunning p ≡ false → stepOfEffect s buf (effectIfRunning p next) ≡ refusedStep s refusalWrongPhase buf
+  idle-refused : (p : Phase) → isRunning p ≡ false → stepOfEffect s buf (effectIfRunning p next)
+      ≡ refusedStep s refusalWrongPhase buf
   idle-refused Phase.Fresh e = refl
   idle-refused (Phase.Waiting w) e = no (sym e)
   idle-refused (Phase.Ended x) e = refl
 
   module _ (r : leastBuffer ≤ length buf) (i : sessionRecordInRanges s ≡ true) where
     call-goes : isRunning (s .phase) ≡ true → Goes (stepIfAdmitted s buf (effectIfRunning (s .phase) next))
-    call-goes e = ap (λ (st : Step). isRefusal (st .reply .answer)) (admitted-in s buf _ r i) ∙ running-goes (s .phase) e
+    call-goes e = ap (λ (st : Step). isRefusal (st .reply .answer)) (admitted-in s buf _ r i) ∙ running-goes (s .phase)
+        e
 
-    call-idle : isRunning (s .phase) ≡ false → stepIfAdmitted s buf (effectIfRunning (s .phase) next) ≡ refusedStep s refusalWrongPhase buf
+    call-idle : isRunning (s .phase) ≡ false → stepIfAdmitted s buf (effectIfRunning (s .phase) next)
+        ≡ refusedStep s refusalWrongPhase buf
     call-idle e = admitted-in s buf _ r i ∙ idle-refused (s .phase) e
 
 module _ (s : Session) (card buf : List ℕ) (r : leastBuffer ≤ length buf) (i : sessionRecordInRanges s ≡ true) where
@@ -98,7 +102,8 @@ module _ (s : Session) (i : sessionRecordInRanges s ≡ true) (buf : List ℕ) w
   next-other : (x : NextAction) → OtherStep (stepOfNext (s .count) buf x)
   next-other x = goes-other (stepOfNext (s .count) buf x .reply .answer) (next-goes (s .count) buf x)
 
-  running-other : (p : Phase) (next : AwaitedResponse → NextAction) → OtherStep (stepOfEffect s buf (effectIfRunning p next))
+  running-other : (p : Phase) (next : AwaitedResponse → NextAction)
+      → OtherStep (stepOfEffect s buf (effectIfRunning p next))
   running-other Phase.Fresh next = λ z. omega arith
   running-other (Phase.Waiting w) next = next-other (next w)
   running-other (Phase.Ended e) next = λ z. omega arith
@@ -109,7 +114,8 @@ module _ (s : Session) (i : sessionRecordInRanges s ≡ true) (buf : List ℕ) w
   broken-other : (n : ℕ) → OtherStep (abortStep s n buf)
   broken-other n = first-tests _ (running-other (s .phase) (broken s n))
 
-  loaded-other : (bytes : List ℕ) (x : LoadedStore) → loadStartBytes (storeBytes s) bytes ≡ x → OtherStep (stepOfEffect s buf (startEffectAfterLoading x))
+  loaded-other : (bytes : List ℕ) (x : LoadedStore) → loadStartBytes (storeBytes s) bytes ≡ x
+      → OtherStep (stepOfEffect s buf (startEffectAfterLoading x))
   loaded-other bytes (refusal n) e = λ z. omega (arith, load-most (storeBytes s) bytes n e)
   loaded-other bytes (loaded b) e = next-other (requestGpo (storeWithTvr b zeroTvr))
 

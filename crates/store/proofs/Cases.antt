@@ -1,4 +1,5 @@
--- The cases of a match on a row's number, each for one row and in their order: what is left when none fits lies past the
+-- The cases of a match on a row's number, each for one row and in their order: what is left when none fits lies past
+-- the
 -- last of them. Assumes nothing.
 use mathlib.Core.Path.{_≡_, sym, ap}
 use mathlib.Core.List.{[], _∷_}

@@ -14,7 +14,8 @@ use Rattle.dictionary.specs.Rows.{Row, dictionaryRows, blankRow, rowIn}
 use Rattle.store.specs.Place.{rowSizeInStore, rowOffset, storeSizeOf}
 
 -- a row's place lies inside the store
-pub inside : (table : List Row) (k : ℕ) → k < length table → rowOffset table k + rowSizeInStore (rowIn table k) ≤ storeSizeOf table
+pub inside : (table : List Row) (k : ℕ) → k < length table → rowOffset table k + rowSizeInStore (rowIn table k)
+    ≤ storeSizeOf table
 unfolding rowOffset storeSizeOf
 inside [] k h = absurd (omega arith)
 inside (r ∷ rs) zero h = omega arith
@@ -28,7 +29,8 @@ ends (r ∷ rs) zero h = absurd (omega arith)
 ends (r ∷ rs) (suc k) h = ap (λ (n : ℕ). rowSizeInStore r + n) (ends rs k (omega arith))
 
 -- the next row's place starts after a row's place
-pub offset-next : (table : List Row) (k : ℕ) → k < length table → rowOffset table (suc k) ≡ rowOffset table k + rowSizeInStore (rowIn table k)
+pub offset-next : (table : List Row) (k : ℕ) → k < length table → rowOffset table (suc k) ≡ rowOffset table k
+    + rowSizeInStore (rowIn table k)
 unfolding rowOffset
 offset-next [] k h = absurd (omega arith)
 offset-next (r ∷ []) zero h = omega arith
@@ -36,7 +38,8 @@ offset-next (r ∷ s ∷ rs) zero h = omega arith
 offset-next (r ∷ rs) (suc k) h = let ih = offset-next rs k (omega arith) in omega arith
 
 -- of two rows, the later one's place lies after the earlier one's
-pub apart : (table : List Row) (j k : ℕ) → j < k → j < length table → rowOffset table j + rowSizeInStore (rowIn table j) ≤ rowOffset table k
+pub apart : (table : List Row) (j k : ℕ) → j < k → j < length table → rowOffset table j + rowSizeInStore (rowIn table j)
+    ≤ rowOffset table k
 unfolding rowOffset
 apart [] j k h i = absurd (omega arith)
 apart (r ∷ rs) zero zero h i = absurd (omega arith)

@@ -17,5 +17,6 @@ unfolding lineMeaning
 meaning-by line out text rest first w v h a b d n e =
     if-no _ _ (le-ltb 8192 (length line) h) ∙ rw (← a, ← b, ← d, ← n, e)
 
-pub says-as : {r : Line} {exit : List ℕ} {m n : LineMeaning} → m ≡ n → ReturnsLineMeaning r exit n → ReturnsLineMeaning r exit m
+pub says-as : {r : Line} {exit : List ℕ} {m n : LineMeaning} → m ≡ n → ReturnsLineMeaning r exit n
+    → ReturnsLineMeaning r exit m
 says-as e s = rw e s

@@ -24,7 +24,8 @@ module _ (f : ℕ → Bool) where
   front-take [] = refl
   front-take (c ∷ s) = go (f c) (front-take s)
     where
-      go : (x : Bool) → take (length (longestPrefix f s)) s ≡ longestPrefix f s → take (length (if x (c ∷ longestPrefix f s) [])) (c ∷ s) ≡ if x (c ∷ longestPrefix f s) []
+      go : (x : Bool) → take (length (longestPrefix f s)) s ≡ longestPrefix f s
+          → take (length (if x (c ∷ longestPrefix f s) [])) (c ∷ s) ≡ if x (c ∷ longestPrefix f s) []
       go true ih = ap (λ (t : List ℕ). c ∷ t) ih
       go false ih = refl
 
@@ -33,14 +34,16 @@ module _ (f : ℕ → Bool) where
   past-drop [] = refl
   past-drop (c ∷ s) = go (f c) (past-drop s)
     where
-      go : (x : Bool) → drop (length (longestPrefix f s)) s ≡ afterLongestPrefix f s → drop (length (if x (c ∷ longestPrefix f s) [])) (c ∷ s) ≡ if x (afterLongestPrefix f s) (c ∷ s)
+      go : (x : Bool) → drop (length (longestPrefix f s)) s ≡ afterLongestPrefix f s
+          → drop (length (if x (c ∷ longestPrefix f s) [])) (c ∷ s) ≡ if x (afterLongestPrefix f s) (c ∷ s)
       go true ih = ih
       go false ih = refl
 
   pub front-is : (s : List ℕ) (n : ℕ) → n ≡ length (longestPrefix f s) → take n s ≡ longestPrefix f s
   front-is s n e = rw e (front-take s)
 
-  pub past-is : (s : List ℕ) (n : ℕ) → n ≡ length (longestPrefix f s) → take (length s - n) (drop n s) ≡ afterLongestPrefix f s
+  pub past-is : (s : List ℕ) (n : ℕ) → n ≡ length (longestPrefix f s) → take (length s - n) (drop n s)
+      ≡ afterLongestPrefix f s
   past-is s n e = tail-is s n ∙ rw e (past-drop s)
 
   pub past-length : (s : List ℕ) → length (afterLongestPrefix f s) ≤ length s
@@ -51,7 +54,8 @@ module _ (f : ℕ → Bool) where
   unfolding afterLongestPrefix
   past-first [] h = absurd (omega arith)
   past-first (c ∷ s) h =
-      if-ind (λ (t : List ℕ). 0 < length t → f (getD t 0 0) ≡ false) (f c) (afterLongestPrefix f s) (c ∷ s) (λ e k. past-first s k) (λ e k. e) h
+      if-ind (λ (t : List ℕ). 0 < length t → f (getD t 0 0) ≡ false) (f c) (afterLongestPrefix f s) (c ∷ s)
+      (λ e k. past-first s k) (λ e k. e) h
 
   -- the part's length, a character at a time
   module _ (s : List ℕ) (i : ℕ) where
@@ -59,7 +63,8 @@ module _ (f : ℕ → Bool) where
     unfolding longestPrefix
     front-stops h e = rw (drop-cons s i 0) (ap (λ (t : List ℕ). i + length t) (if-no _ _ e) ∙ omega arith)
 
-    pub front-goes-on : i < length s → f (getD s i 0) ≡ true → i + length (longestPrefix f (drop i s)) ≡ i + 1 + length (longestPrefix f (drop (i + 1) s))
+    pub front-goes-on : i < length s → f (getD s i 0) ≡ true → i + length (longestPrefix f (drop i s)) ≡ i + 1
+        + length (longestPrefix f (drop (i + 1) s))
     unfolding longestPrefix
     front-goes-on h e = rw (add-one, drop-cons s i 0) (ap (λ (t : List ℕ). i + length t) (if-yes _ _ e) ∙ omega arith)
 

@@ -21,18 +21,22 @@ use Rattle.tlv.specs.Tag.{tagSize, tagParsed, tagAt}
 use Rattle.tlv.specs.Length.{lengthAfter81, lengthAfter82, lengthParsed, lengthAt}
 use Rattle.tlv.specs.Object.{tlvHeader, headerOf, headerValue, behindObject}
 use Rattle.tlv.specs.Tree.{Forest, end, leaf, node, nextInTemplate, parseTree}
-use Rattle.tlv.specs.Encoding.{tagBytes, wellFormedTag, lengthBytes, objectBytes, encodeTree, EncodableWithinLevels}
-use Rattle.tlv.specs.Padding.{EncodesTreeWithPadding, nothing, padding, primitive, template, PaddingDoesNotChangeParse}
+use Rattle.tlv.specs.Encoding.{tagBytes, wellFormedTag, lengthBytes, objectBytes, encodeTree}
+use Rattle.tlv.specs.Encoding.{EncodableWithinLevels}
+use Rattle.tlv.specs.Padding.{EncodesTreeWithPadding, nothing, padding, primitive, template}
+use Rattle.tlv.specs.Padding.{PaddingDoesNotChangeParse}
 use Rattle.tlv.proofs.Laws.{tag-some, tail-is, header-with, with-whole}
 use Rattle.tlv.proofs.Prefix.{tag-kept}
 use Rattle.tlv.proofs.NextObject.{next-empty, next-object}
-use Rattle.tlv.proofs.Tree.{parse-end, parse-leaf, parse-node, parse-count, with-leaf, with-node, zeros-in-front, zeros-behind, zeros-between}
+use Rattle.tlv.proofs.Tree.{parse-end, parse-leaf, parse-node, parse-count, with-leaf, with-node, zeros-in-front}
+use Rattle.tlv.proofs.Tree.{zeros-behind, zeros-between}
 
 -- ---- a tag's bytes
 
 some-bytes : (t : ℕ) → 1 ≤ length (tagBytes t)
 unfolding tagBytes
-some-bytes t = let P : List ℕ → Type 0 = λ s. 1 ≤ length s in if-ind P _ _ _ (λ _. omega arith) (λ _. if-ind P _ _ _ (λ _. omega arith) (λ _. omega arith))
+some-bytes t = let P : List ℕ → Type 0 = λ s. 1 ≤ length s in if-ind P _ _ _ (λ _. omega arith)
+    (λ _. if-ind P _ _ _ (λ _. omega arith) (λ _. omega arith))
 
 pub number-tag : (t : ℕ) → bigEndianNumber (tagBytes t) ≡ t
 unfolding tagBytes appendBigEndianBytes
@@ -40,13 +44,15 @@ number-tag t =
     let P : List ℕ → Type 0 = λ s. bigEndianNumber s ≡ t in
     if-ind P _ _ _ (λ _. omega arith) (λ _. if-ind P _ _ _ (λ _. omega arith) (λ _. omega arith))
 
-pub tag-encoded : (t : ℕ) (r : List ℕ) → wellFormedTag t ≡ true → tagAt (tagBytes t ++ r) ≡ tagParsed t (length (tagBytes t))
+pub tag-encoded : (t : ℕ) (r : List ℕ) → wellFormedTag t ≡ true
+    → tagAt (tagBytes t ++ r) ≡ tagParsed t (length (tagBytes t))
 unfolding wellFormedTag
 tag-encoded t r w =
     let k = length (tagBytes t) in
     let e : tagSize (tagBytes t) ≡ k = eqb-true _ _ (both-right _ _ w) in
     let n = some-bytes t in
-    tag-kept (tagBytes t) r _ (tag-some (tagBytes t) k (sym e) (omega arith) ∙ rw (take-length (tagBytes t), number-tag t))
+    tag-kept (tagBytes t) r _
+    (tag-some (tagBytes t) k (sym e) (omega arith) ∙ rw (take-length (tagBytes t), number-tag t))
 
 -- ---- a length's bytes
 
@@ -101,7 +107,8 @@ module _ (t : ℕ) (v r : List ℕ) where
 
 -- ---- a tree's bytes, padded or not
 
-pub parse-padded : {f : Forest} {s : List ℕ} → EncodesTreeWithPadding f s → (l : ℕ) → EncodableWithinLevels f l → parseTree l s ≡ some f
+pub parse-padded : {f : Forest} {s : List ℕ} → EncodesTreeWithPadding f s → (l : ℕ) → EncodableWithinLevels f l
+    → parseTree l s ≡ some f
 parse-padded nothing l u = parse-end l [] (next-empty [] refl)
 parse-padded (padding p) l u = zeros-in-front 1 l _ ∙ parse-padded p l u
 parse-padded (primitive t v {r} {s} p) l u =
@@ -110,7 +117,8 @@ parse-padded (primitive t v {r} {s} p) l u =
 parse-padded (template t {f} {r} {v} {s} m p q) zero u = absurd (u .3)
 parse-padded (template t {f} {r} {v} {s} m p q) (suc l) u =
     parse-node (suc l) _ _ (next-encoded t v s (u .0)) (u .1) (λ z. omega arith)
-    ∙ rw (sub-one, object-value t v s, object-behind t v s) (with-node t _ _ f r (parse-padded p l (u .3)) (parse-padded q (suc l) (u .4)))
+    ∙ rw (sub-one, object-value t v s, object-behind t v s)
+    (with-node t _ _ f r (parse-padded p l (u .3)) (parse-padded q (suc l) (u .4)))
 
 -- the shortest encoding has no padding
 pub encode-padded : (f : Forest) (l : ℕ) → EncodableWithinLevels f l → EncodesTreeWithPadding f (encodeTree f)

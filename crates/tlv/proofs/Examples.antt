@@ -10,7 +10,8 @@ use Rattle.basics.specs.Recursion.{recurseWithFuelFromLength, recurseWithFuel}
 use Rattle.tlv.specs.declared.ObjectFront.{ObjectFront}
 use Rattle.tlv.specs.declared.NextInTemplate.{NextInTemplate}
 use Rattle.tlv.specs.declared.NextInTemplate.the-variants.{End, Inner, Malformed}
-use Rattle.tlv.specs.Tag.{tagSize, tagSizeFromSecondByte, tagSizeFromThirdByte, tagAt, tagFirstByte, isTemplate, isPrivate}
+use Rattle.tlv.specs.Tag.{tagSize, tagSizeFromSecondByte, tagSizeFromThirdByte, tagAt, tagFirstByte, isTemplate}
+use Rattle.tlv.specs.Tag.{isPrivate}
 use Rattle.tlv.specs.Length.{lengthAt}
 use Rattle.tlv.specs.Object.{tlvHeader, headerOf}
 use Rattle.tlv.specs.Tree.{Forest, end, leaf, node, nextInTemplate, prependLeaf, prependNode, parseTree}
@@ -26,7 +27,8 @@ next : map nextInTemplate
     ∷ (0x00 ∷ 0xFF ∷ 0x00 ∷ [])
     ∷ [])
     ≡ End ∷ End ∷ Inner (tlvHeader 0x9F08 3 1) ∷ Inner (tlvHeader 0x9F08 5 1) ∷ Malformed ∷ Malformed ∷ []
-unfolding nextInTemplate headerOf tagAt tagSize tagSizeFromSecondByte tagSizeFromThirdByte lengthAt tagFirstByte isTemplate isPrivate appendBigEndianBytes if
+unfolding nextInTemplate headerOf tagAt tagSize tagSizeFromSecondByte tagSizeFromThirdByte lengthAt tagFirstByte
+    isTemplate isPrivate appendBigEndianBytes if
 next = refl
 
 -- the object at the front of bytes is none after padding
@@ -46,7 +48,8 @@ trees : map (parseTree 1)
     ∷ (0xE1 ∷ 0x06 ∷ 0x00 ∷ 0x95 ∷ 0x01 ∷ 0x00 ∷ 0x00 ∷ 0x00 ∷ 0x00 ∷ 0x95 ∷ 0x01 ∷ 0x00 ∷ [])
     ∷ [])
     ≡ some one ∷ some one ∷ some (leaf 0x9C [] one) ∷ some (node 0xE1 end end) ∷ some (node 0xE1 one one) ∷ []
-unfolding parseTree recurseWithFuelFromLength recurseWithFuel nextInTemplate prependLeaf prependNode headerOf tagAt tagSize lengthAt tagFirstByte isTemplate isPrivate appendBigEndianBytes if
+unfolding parseTree recurseWithFuelFromLength recurseWithFuel nextInTemplate prependLeaf prependNode headerOf tagAt
+    tagSize lengthAt tagFirstByte isTemplate isPrivate appendBigEndianBytes if
 trees = refl
 
 -- inside a tag, between tag and length, and in place of the value's end: read as they are
@@ -56,5 +59,6 @@ inside : map (parseTree 1)
     ∷ (0x95 ∷ 0x02 ∷ 0x00 ∷ [])
     ∷ [])
     ≡ none ∷ some (leaf 0x95 [] (leaf 0x01 [] end)) ∷ none ∷ []
-unfolding parseTree recurseWithFuelFromLength recurseWithFuel nextInTemplate prependLeaf prependNode headerOf tagAt tagSize tagSizeFromSecondByte lengthAt tagFirstByte isTemplate isPrivate appendBigEndianBytes if
+unfolding parseTree recurseWithFuelFromLength recurseWithFuel nextInTemplate prependLeaf prependNode headerOf tagAt
+    tagSize tagSizeFromSecondByte lengthAt tagFirstByte isTemplate isPrivate appendBigEndianBytes if
 inside = refl

@@ -24,7 +24,8 @@ use Rattle.tlv.specs.declared.LengthFront.the-variants.{Sized, Unsized}
 use Rattle.tlv.specs.declared.TlvHeader.{TlvHeader}
 use Rattle.tlv.specs.declared.ObjectFront.{ObjectFront}
 use Rattle.tlv.specs.declared.ObjectFront.the-variants.{Object, Broken}
-use Rattle.tlv.specs.Tag.{tagFirstByteContinues, tagLaterByteContinues, tagSizeFromThirdByte, tagSizeFromSecondByte, tagSize, tagParsed, tagAt, tagFirstByte, isTemplate, isPrivate}
+use Rattle.tlv.specs.Tag.{tagFirstByteContinues, tagLaterByteContinues, tagSizeFromThirdByte}
+use Rattle.tlv.specs.Tag.{tagSizeFromSecondByte, tagSize, tagParsed, tagAt, tagFirstByte, isTemplate, isPrivate}
 use Rattle.tlv.specs.Length.{lengthParsed, lengthAfter81, lengthAfter82, lengthAt}
 use Rattle.tlv.specs.Object.{tlvHeader, headerWithLength, headerWithTag, headerOf}
 
@@ -38,7 +39,8 @@ abbrev pub fromThird : List ℕ → ℕ
 fromThird s = if (ltb (length s) 3) 0 (if (tagLaterByteContinues (getD s 2 0)) 0 3)
 
 abbrev pub fromSecond : List ℕ → ℕ
-fromSecond s = if (ltb (length s) 2) 0 (if (eqb (getD s 1 0) 0x80) 0 (if (tagLaterByteContinues (getD s 1 0)) (fromThird s) 2))
+fromSecond s = if (ltb (length s) 2) 0
+    (if (eqb (getD s 1 0) 0x80) 0 (if (tagLaterByteContinues (getD s 1 0)) (fromThird s) 2))
 
 pub tag-size-by : (s : List ℕ) → tagSize s ≡
     if (ltb (length s) 1) 0 (if (eqb (getD s 0 0) 0) 0 (if (tagFirstByteContinues (getD s 0 0)) (fromSecond s) 1))
@@ -46,20 +48,32 @@ unfolding tagSize tagSizeFromSecondByte tagSizeFromThirdByte if
 tag-size-by [] = refl
 tag-size-by (a ∷ []) = refl
 tag-size-by (a ∷ b ∷ []) = refl
-tag-size-by (a ∷ b ∷ c ∷ s) = simp (past (length s) 1 (omega arith), past (length s) 2 (omega arith), past (length s) 3 (omega arith))
+tag-size-by (a ∷ b ∷ c ∷ s) = simp (
+  past (length s) 1 (omega arith),
+  past (length s) 2 (omega arith),
+  past (length s) 3
+      (omega arith),
+)
 
 -- what is left to test of a length once its first byte is no length itself
 abbrev pub fromLong : List ℕ → LengthFront
 fromLong s =
     if (eqb (getD s 0 0) 0x81) (if (ltb (length s) 2) Unsized (lengthParsed (getD s 1 0) 2))
-    (if (eqb (getD s 0 0) 0x82) (if (ltb (length s) 3) Unsized (lengthParsed (getD s 1 0 * 256 + getD s 2 0) 3)) Unsized)
+    (if (eqb (getD s 0 0) 0x82) (if (ltb (length s) 3) Unsized (lengthParsed (getD s 1 0 * 256 + getD s 2 0) 3))
+    Unsized)
 
-pub length-by : (s : List ℕ) → lengthAt s ≡ if (ltb (length s) 1) Unsized (if (ltb (getD s 0 0) 0x80) (lengthParsed (getD s 0 0) 1) (fromLong s))
+pub length-by : (s : List ℕ)
+    → lengthAt s ≡ if (ltb (length s) 1) Unsized (if (ltb (getD s 0 0) 0x80) (lengthParsed (getD s 0 0) 1) (fromLong s))
 unfolding lengthAt lengthAfter81 lengthAfter82 if
 length-by [] = refl
 length-by (a ∷ []) = refl
 length-by (a ∷ b ∷ []) = refl
-length-by (a ∷ b ∷ c ∷ s) = simp (past (length s) 1 (omega arith), past (length s) 2 (omega arith), past (length s) 3 (omega arith))
+length-by (a ∷ b ∷ c ∷ s) = simp (
+  past (length s) 1 (omega arith),
+  past (length s) 2 (omega arith),
+  past (length s) 3
+      (omega arith),
+)
 
 -- ---- the tag as the code reads it
 
@@ -75,7 +89,8 @@ number-two [] h = absurd (omega arith)
 number-two (a ∷ []) h = absurd (omega arith)
 number-two (a ∷ b ∷ s) h = omega arith
 
-pub number-three : (s : List ℕ) → 3 ≤ length s → bigEndianNumber (take 3 s) ≡ (getD s 0 0 * 256 + getD s 1 0) * 256 + getD s 2 0
+pub number-three : (s : List ℕ) → 3 ≤ length s → bigEndianNumber (take 3 s) ≡ (getD s 0 0 * 256 + getD s 1 0) * 256
+    + getD s 2 0
 unfolding appendBigEndianBytes
 number-three [] h = absurd (omega arith)
 number-three (a ∷ []) h = absurd (omega arith)
@@ -125,7 +140,8 @@ tag-ok : (s : List ℕ) → TagOk s (tagAt s)
 unfolding tagAt
 tag-ok s =
     if-ind (TagOk s) _ _ _ (λ _. tt)
-    (λ e. let n = eqb-false (tagSize s) 0 e in let i = size-inside s in record { some = omega arith; few = i .0; inside = i .1; is = refl; reads = refl })
+    (λ e. let n = eqb-false (tagSize s) 0 e in let i = size-inside s in
+    record { some = omega arith; few = i .0; inside = i .1; is = refl; reads = refl })
 
 pub tag-fits : (s : List ℕ) (t : Tag) → tagAt s ≡ Tagged t → TagFits s t
 tag-fits s t e = rw e at (tag-ok s)
@@ -147,9 +163,11 @@ length-ok s =
     (if-ind P _ _ _ (λ _. tt)
     (λ a. if-ind P _ _ _ (λ _. record { some = omega arith; few = omega arith; inside = omega (arith, ltb-false) })
     (λ _. if-ind P _ _ _
-    (λ _. if-ind P _ _ _ (λ _. tt) (λ b. record { some = omega arith; few = omega arith; inside = omega (arith, ltb-false) }))
+    (λ _. if-ind P _ _ _ (λ _. tt)
+    (λ b. record { some = omega arith; few = omega arith; inside = omega (arith, ltb-false) }))
     (λ _. if-ind P _ _ _
-    (λ _. if-ind P _ _ _ (λ _. tt) (λ b. record { some = omega arith; few = omega arith; inside = omega (arith, ltb-false) }))
+    (λ _. if-ind P _ _ _ (λ _. tt)
+    (λ b. record { some = omega arith; few = omega arith; inside = omega (arith, ltb-false) }))
     (λ _. tt)))))
 
 pub length-fits : (s : List ℕ) (e : TlvLength) → lengthAt s ≡ Sized e → LengthFits s e
@@ -186,10 +204,12 @@ abbrev HeaderOk : List ℕ → ObjectFront → Type 0
 HeaderOk s Broken = Unit {0}
 HeaderOk s (Object h) = HeaderFits s h
 
-with-length-ok : (s : List ℕ) (t : Tag) (x : LengthFront) → TagFits s t → LengthOk (drop (t .size) s) x → HeaderOk s (headerWithLength s t x)
+with-length-ok : (s : List ℕ) (t : Tag) (x : LengthFront) → TagFits s t → LengthOk (drop (t .size) s) x
+    → HeaderOk s (headerWithLength s t x)
 with-length-ok s t Unsized f g = tt
 with-length-ok s t (Sized e) f g =
-    if-ind (HeaderOk s) _ _ _ (λ l. record { two = omega arith; inside = omega (arith, leb-true); whole = refl }) (λ _. tt)
+    if-ind (HeaderOk s) _ _ _ (λ l. record { two = omega arith; inside = omega (arith, leb-true); whole = refl })
+    (λ _. tt)
 
 with-tag-ok : (s : List ℕ) (x : TagFront) → TagOk s x → HeaderOk s (headerWithTag s x)
 with-tag-ok s Untagged f = tt
@@ -219,7 +239,8 @@ unfolding tagSize
 starts [] n e = n refl
 starts (b ∷ s) n e = n (if-yes _ _ (eq-eqb b 0 e))
 
-first-of : (s : List ℕ) (k : ℕ) → Bytes s → (getD s 0 0 ≡ 0 → ⊥) → k ≤ 3 → k ≤ length s → (k ≡ 0 → ⊥) → tagFirstByte (bigEndianNumber (take k s)) ≡ getD s 0 0
+first-of : (s : List ℕ) (k : ℕ) → Bytes s → (getD s 0 0 ≡ 0 → ⊥) → k ≤ 3 → k ≤ length s → (k ≡ 0 → ⊥)
+    → tagFirstByte (bigEndianNumber (take k s)) ≡ getD s 0 0
 first-of s zero b f h k n = absurd (n refl)
 first-of s (suc zero) b f h k n = rw (number-one s) (first-one _ (b 0))
 first-of s (suc (suc zero)) b f h k n =
@@ -235,7 +256,8 @@ first-byte-is s t b e =
     rw (f .reads) (first-of s (t .size) b (starts s (λ z. omega arith)) (f .few) (f .inside) (omega arith))
 
 -- so the tests on a tag's number are tests on that byte
-pub template-is : (s : List ℕ) (t : Tag) → Bytes s → tagAt s ≡ Tagged t → isTemplate (t .number) ≡ hasBitOfWeight (getD s 0 0) 32
+pub template-is : (s : List ℕ) (t : Tag) → Bytes s → tagAt s ≡ Tagged t
+    → isTemplate (t .number) ≡ hasBitOfWeight (getD s 0 0) 32
 unfolding isTemplate
 template-is s t b e = rw (first-byte-is s t b e)
 
@@ -278,13 +300,21 @@ pub record HeaderRead (s : List ℕ) (t : Tag) (e : TlvLength) : Type 0 where
 
 module _ {s : List ℕ} {t : Tag} {e : TlvLength} (r : HeaderRead s t e) where
   pub header-whole : t .size + e .size + e .len ≤ length s → headerOf s ≡
-      Object (record { tag = t .number; start = t .size + e .size; len = e .len; template = hasBitOfWeight (getD s 0 0) 32; private = eqb (getD s 0 0 / 64) 3 })
+      Object (record {
+        tag = t .number;
+        start = t .size + e .size;
+        len = e .len;
+        template = hasBitOfWeight (getD s 0 0)
+            32;
+        private = eqb (getD s 0 0 / 64) 3;
+      })
   header-whole h = r .is ∙ with-whole s t e h ∙ rw (r .template, r .private)
 
   pub header-short : length s < t .size + e .size + e .len → headerOf s ≡ Broken
   header-short h = r .is ∙ if-no _ _ (lt-leb (t .size + e .size + e .len) (length s) h)
 
-module _ (s : List ℕ) (x : TagFront) (t : Tag) (p : x ≡ tagAt s) (q : x ≡ Tagged t) (y : LengthFront) (g : y ≡ lengthAt (tail s (t .size))) where
+module _ (s : List ℕ) (x : TagFront) (t : Tag) (p : x ≡ tagAt s) (q : x ≡ Tagged t) (y : LengthFront)
+    (g : y ≡ lengthAt (tail s (t .size))) where
   pub header-with : (z : LengthFront) → y ≡ z → headerOf s ≡ headerWithLength s t z
   unfolding headerOf
   header-with z h = rw (← p, q, ← (tail-is s (t .size)), ← g, h)

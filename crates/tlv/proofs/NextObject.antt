@@ -34,7 +34,8 @@ moved-zero End = refl
 moved-zero Malformed = refl
 moved-zero (Inner h) = let e : 0 + h .start ≡ h .start = omega arith in ap (placed h) e
 
-moved-twice : (n m : ℕ) (x : NextInTemplate) → nextInTemplateShifted n (nextInTemplateShifted m x) ≡ nextInTemplateShifted (n + m) x
+moved-twice : (n m : ℕ) (x : NextInTemplate) → nextInTemplateShifted n (nextInTemplateShifted m x)
+    ≡ nextInTemplateShifted (n + m) x
 moved-twice n m End = refl
 moved-twice n m Malformed = refl
 moved-twice n m (Inner h) = let e : n + (m + h .start) ≡ n + m + h .start = omega arith in ap (placed h) e
@@ -61,13 +62,16 @@ module _ (s : List ℕ) (i : ℕ) where
   passed-all h = rw (drop-of-length-le s h, next-empty [] refl)
 
   module _ (h : i < length s) where
-    pub pass-zero : getD s i 0 ≡ 0 → nextInTemplateShifted i (nextInTemplate (drop i s)) ≡ nextInTemplateShifted (i + 1) (nextInTemplate (drop (i + 1) s))
-    pass-zero z = rw (add-one, drop-cons s i 0 h, z, next-zero (drop (suc i) s)) (rw add-one at (moved-twice i 1 (nextInTemplate (drop (suc i) s))))
+    pub pass-zero : getD s i 0 ≡ 0 → nextInTemplateShifted i (nextInTemplate (drop i s)) ≡ nextInTemplateShifted (i + 1)
+        (nextInTemplate (drop (i + 1) s))
+    pass-zero z = rw (add-one, drop-cons s i 0 h, z, next-zero (drop (suc i) s))
+        (rw add-one at (moved-twice i 1 (nextInTemplate (drop (suc i) s))))
 
     pub stop-at : (getD s i 0 ≡ 0 → ⊥) → nextInTemplate (drop i s) ≡ nextInTemplateOfFront (headerOf (drop i s))
     stop-at n =
         let d = drop-cons s i 0 h in
-        ap nextInTemplate d ∙ next-first (getD s i 0) (drop (suc i) s) n ∙ ap (λ (r : List ℕ). nextInTemplateOfFront (headerOf r)) (sym d)
+        ap nextInTemplate d ∙ next-first (getD s i 0) (drop (suc i) s) n ∙ ap
+        (λ (r : List ℕ). nextInTemplateOfFront (headerOf r)) (sym d)
 
 -- ---- what the parse needs
 
@@ -111,19 +115,22 @@ front-object Broken h e = cc
 front-object (Object k) h e = cc
 
 -- the next object lies inside its list and takes two bytes at least; its class is its tag's
-moved-fits : (s : List ℕ) (h : TlvHeader) (x : NextInTemplate) → nextInTemplateShifted 1 x ≡ Inner h → ((k : TlvHeader) → x ≡ Inner k → HeaderFits s k) → HeaderFits (0 ∷ s) h
+moved-fits : (s : List ℕ) (h : TlvHeader) (x : NextInTemplate) → nextInTemplateShifted 1 x ≡ Inner h
+    → ((k : TlvHeader) → x ≡ Inner k → HeaderFits s k) → HeaderFits (0 ∷ s) h
 moved-fits s h End e f = let z : _≡_ {A = ℕ} 0 1 = cc in absurd (omega arith)
 moved-fits s h Malformed e f = let z : _≡_ {A = ℕ} 0 1 = cc in absurd (omega arith)
 moved-fits s h (Inner k) e f =
     let g = f k refl in
     let r : headerShifted 1 k ≡ h = cc in
-    subst (HeaderFits (0 ∷ s)) r (record { two = omega arith; inside = omega arith; whole = ap (headerShifted 1) (g .whole) })
+    subst (HeaderFits (0 ∷ s)) r
+    (record { two = omega arith; inside = omega arith; whole = ap (headerShifted 1) (g .whole) })
 
 pub next-fits : (s : List ℕ) (h : TlvHeader) → nextInTemplate s ≡ Inner h → HeaderFits s h
 next-fits [] h e = let z : _≡_ {A = ℕ} 0 1 = cc (next-empty [] refl) in absurd (omega arith)
 next-fits (zero ∷ s) h e = moved-fits s h (nextInTemplate s) (sym (next-zero s) ∙ e) (next-fits s)
 next-fits (suc b ∷ s) h e =
-    header-fits (suc b ∷ s) h (front-object (headerOf (suc b ∷ s)) h (sym (next-first (suc b) s (λ z. omega arith)) ∙ e))
+    header-fits (suc b ∷ s) h
+    (front-object (headerOf (suc b ∷ s)) h (sym (next-first (suc b) s (λ z. omega arith)) ∙ e))
 
 -- ---- one list after another
 
@@ -138,7 +145,8 @@ moved-join s r Malformed j = tt
 moved-join s r (Inner h) j = next-zero (s ++ r) ∙ ap (nextInTemplateShifted 1) j
 moved-join s r End j =
     let e : 1 + length s ≡ suc (length s) = omega arith in
-    next-zero (s ++ r) ∙ ap (nextInTemplateShifted 1) j ∙ moved-twice 1 (length s) (nextInTemplate r) ∙ ap (λ (n : ℕ). nextInTemplateShifted n (nextInTemplate r)) e
+    next-zero (s ++ r) ∙ ap (nextInTemplateShifted 1) j ∙ moved-twice 1 (length s) (nextInTemplate r) ∙ ap
+    (λ (n : ℕ). nextInTemplateShifted n (nextInTemplate r)) e
 
 front-join : (s r : List ℕ) (x : ObjectFront) → headerOf s ≡ x → Joined s r (nextInTemplateOfFront x)
 front-join s r Broken e = tt
@@ -146,9 +154,11 @@ front-join s r (Object h) e = next-object (s ++ r) h (header-kept s r h e)
 
 next-joined : (s r : List ℕ) → Joined s r (nextInTemplate s)
 next-joined [] r = subst⁻¹ (Joined [] r) (next-empty [] refl) (sym (moved-zero (nextInTemplate r)))
-next-joined (zero ∷ s) r = subst⁻¹ (Joined (0 ∷ s) r) (next-zero s) (moved-join s r (nextInTemplate s) (next-joined s r))
+next-joined (zero ∷ s) r = subst⁻¹ (Joined (0 ∷ s) r) (next-zero s)
+    (moved-join s r (nextInTemplate s) (next-joined s r))
 next-joined (suc b ∷ s) r =
-    subst⁻¹ (Joined (suc b ∷ s) r) (next-first (suc b) s (λ z. omega arith)) (front-join (suc b ∷ s) r (headerOf (suc b ∷ s)) refl)
+    subst⁻¹ (Joined (suc b ∷ s) r) (next-first (suc b) s (λ z. omega arith))
+    (front-join (suc b ∷ s) r (headerOf (suc b ∷ s)) refl)
 
 pub next-join : (s r : List ℕ) (x : NextInTemplate) → nextInTemplate s ≡ x → Joined s r x
 next-join s r x e = subst (Joined s r) e (next-joined s r)

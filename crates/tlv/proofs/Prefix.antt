@@ -20,7 +20,8 @@ use Rattle.tlv.specs.declared.LengthFront.{LengthFront}
 use Rattle.tlv.specs.declared.LengthFront.the-variants.{Sized, Unsized}
 use Rattle.tlv.specs.declared.TlvHeader.{TlvHeader}
 use Rattle.tlv.specs.declared.ObjectFront.the-variants.{Object, Broken}
-use Rattle.tlv.specs.Tag.{tagFirstByteContinues, tagLaterByteContinues, tagSizeFromThirdByte, tagSizeFromSecondByte, tagSize, tagAt}
+use Rattle.tlv.specs.Tag.{tagFirstByteContinues, tagLaterByteContinues, tagSizeFromThirdByte}
+use Rattle.tlv.specs.Tag.{tagSizeFromSecondByte, tagSize, tagAt}
 use Rattle.tlv.specs.Length.{lengthParsed, lengthAfter81, lengthAfter82, lengthAt}
 use Rattle.tlv.specs.Object.{headerWithLength, headerOf}
 use Rattle.tlv.proofs.Laws.{tag-some, tag-fits, header-untagged}
@@ -45,18 +46,21 @@ third-kept (b ∷ s) t n = refl
 second-kept : (s t : List ℕ) → Kept 0 (tagSizeFromSecondByte s) (tagSizeFromSecondByte (s ++ t))
 unfolding tagSizeFromSecondByte
 second-kept [] t = λ n. absurd (n refl)
-second-kept (b ∷ s) t = kept-if (eqb b 0x80) (kept-same 0) (kept-if (tagLaterByteContinues b) (third-kept s t) (kept-same 2))
+second-kept (b ∷ s) t = kept-if (eqb b 0x80) (kept-same 0)
+    (kept-if (tagLaterByteContinues b) (third-kept s t) (kept-same 2))
 
 size-kept : (s t : List ℕ) → Kept 0 (tagSize s) (tagSize (s ++ t))
 unfolding tagSize
 size-kept [] t = λ n. absurd (n refl)
-size-kept (b ∷ s) t = kept-if (eqb b 0) (kept-same 0) (kept-if (tagFirstByteContinues b) (second-kept s t) (kept-same 1))
+size-kept (b ∷ s) t = kept-if (eqb b 0) (kept-same 0)
+    (kept-if (tagFirstByteContinues b) (second-kept s t) (kept-same 1))
 
 pub tag-kept : (s r : List ℕ) (t : Tag) → tagAt s ≡ Tagged t → tagAt (s ++ r) ≡ Tagged t
 tag-kept s r t e =
     let f = tag-fits s t e in
     let k : tagSize (s ++ r) ≡ tagSize s = size-kept s r (λ z. omega arith) in
-    tag-some (s ++ r) (t .size) (f .is ∙ sym k) (omega arith) ∙ rw (take-append-le (t .size) s r (f .inside), ← (f .reads))
+    tag-some (s ++ r) (t .size) (f .is ∙ sym k) (omega arith) ∙ rw
+    (take-append-le (t .size) s r (f .inside), ← (f .reads))
 
 one-kept : (s t : List ℕ) → Kept Unsized (lengthAfter81 s) (lengthAfter81 (s ++ t))
 unfolding lengthAfter81
@@ -82,7 +86,8 @@ unfolding if
 kept-test x true b′ h n = if-yes _ _ (h refl)
 kept-test x false b′ h n = absurd (n refl)
 
-within-kept : (s r : List ℕ) (t : Tag) (x : LengthFront) → Kept Broken (headerWithLength s t x) (headerWithLength (s ++ r) t x)
+within-kept : (s r : List ℕ) (t : Tag) (x : LengthFront)
+    → Kept Broken (headerWithLength s t x) (headerWithLength (s ++ r) t x)
 within-kept s r t Unsized = λ n. absurd (n refl)
 within-kept s r t (Sized e) =
     let a = t .size + e .size + e .len in

@@ -15,7 +15,9 @@ use Rattle.tlv.specs.declared.TlvHeader.{TlvHeader}
 use Rattle.tlv.specs.declared.ObjectFront.{ObjectFront}
 use Rattle.tlv.specs.declared.ObjectFront.the-variants as front
 use Rattle.tlv.specs.Object.{headerOf, headerValue, behindObject}
-use Rattle.tlv.specs.Primitives.{Object, tlvObject, prependObject, frontBrokenIfTemplate, primitiveAtFront, objectThenRest, primitiveObjectsStep, primitiveObjects, arePrimitiveObjectsParsed}
+use Rattle.tlv.specs.Primitives.{Object, tlvObject, prependObject, frontBrokenIfTemplate, primitiveAtFront}
+use Rattle.tlv.specs.Primitives.{objectThenRest, primitiveObjectsStep, primitiveObjects}
+use Rattle.tlv.specs.Primitives.{arePrimitiveObjectsParsed}
 use Rattle.tlv.proofs.Laws.{HeaderFits, header-fits, contents, contents-is, tail, tail-is}
 use Rattle.tlv.proofs.Tree.{shorter-behind}
 
@@ -59,7 +61,8 @@ more-same : (k k′ : Reader) (s : List ℕ) → ((v : List ℕ) → length v < 
     → (x : ObjectFront) → primitiveAtFront s ≡ x → objectThenRest k s x ≡ objectThenRest k′ s x
 more-same k k′ s same front.Broken e = refl
 more-same k k′ s same (front.Object h) e =
-    ap (prependObject (tlvObject (h .tag) (headerValue s h))) (same (behindObject s h) (shorter-behind (primitive-fits s h e)))
+    ap (prependObject (tlvObject (h .tag) (headerValue s h)))
+    (same (behindObject s h) (shorter-behind (primitive-fits s h e)))
 
 next-same : AsksShorter primitiveObjectsStep
 next-same k k′ [] same = refl
@@ -75,11 +78,13 @@ pub primitives-end : (s : List ℕ) → length s ≡ 0 → primitiveObjects s �
 primitives-end [] z = unroll []
 primitives-end (b ∷ s) z = absurd (omega arith)
 
-at : (s : List ℕ) → (length s ≡ 0 → ⊥) → (x : ObjectFront) → primitiveAtFront s ≡ x → primitiveObjects s ≡ objectThenRest primitiveObjects s x
+at : (s : List ℕ) → (length s ≡ 0 → ⊥) → (x : ObjectFront) → primitiveAtFront s ≡ x
+    → primitiveObjects s ≡ objectThenRest primitiveObjects s x
 at [] n x e = absurd (n refl)
 at (b ∷ s) n x e = unroll (b ∷ s) ∙ ap (objectThenRest primitiveObjects (b ∷ s)) e
 
-pub primitives-broken : (s : List ℕ) → (length s ≡ 0 → ⊥) → primitiveAtFront s ≡ front.Broken → primitiveObjects s ≡ none
+pub primitives-broken : (s : List ℕ) → (length s ≡ 0 → ⊥) → primitiveAtFront s ≡ front.Broken
+    → primitiveObjects s ≡ none
 primitives-broken s n e = at s n front.Broken e
 
 pub primitives-object : (s : List ℕ) → (length s ≡ 0 → ⊥) → (h : TlvHeader) → primitiveAtFront s ≡ front.Object h
@@ -95,7 +100,8 @@ firstOf s h = tlvObject (h .tag) (contents s (h .start) (h .len))
 abbrev pub restOf : List ℕ → TlvHeader → List ℕ
 restOf s h = tail s (h .start + h .len)
 
-with-run : (o : Object) (x : Option (List Object)) → arePrimitiveObjectsParsed (prependObject o x) ≡ arePrimitiveObjectsParsed x
+with-run : (o : Object) (x : Option (List Object)) → arePrimitiveObjectsParsed (prependObject o x)
+    ≡ arePrimitiveObjectsParsed x
 unfolding prependObject
 with-run o none = refl
 with-run o (some os) = refl
@@ -112,5 +118,6 @@ module _ (s : List ℕ) where
       pub parts : primitiveObjects s ≡ prependObject (firstOf s h) (primitiveObjects (restOf s h))
       parts = primitives-object s n h e ∙ rw (contents-is s (h .start) (h .len), tail-is s (h .start + h .len))
 
-      pub is-run-on : arePrimitiveObjectsParsed (primitiveObjects s) ≡ arePrimitiveObjectsParsed (primitiveObjects (restOf s h))
+      pub is-run-on : arePrimitiveObjectsParsed (primitiveObjects s) ≡ arePrimitiveObjectsParsed
+          (primitiveObjects (restOf s h))
       is-run-on = ap arePrimitiveObjectsParsed parts ∙ with-run (firstOf s h) (primitiveObjects (restOf s h))

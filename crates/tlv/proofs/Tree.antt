@@ -20,7 +20,9 @@ use Rattle.tlv.specs.declared.TlvHeader.{TlvHeader}
 use Rattle.tlv.specs.declared.NextInTemplate.{NextInTemplate}
 use Rattle.tlv.specs.declared.NextInTemplate.the-variants.{End, Inner, Malformed}
 use Rattle.tlv.specs.Object.{headerShifted, headerValue, behindObject}
-use Rattle.tlv.specs.Tree.{Forest, end, leaf, node, objectCount, nextInTemplateShifted, nextInTemplate, prependLeaf, prependNode, forestOfTemplateThenRest, forestOfObjectThenRest, parseTreeStep, parseTree}
+use Rattle.tlv.specs.Tree.{Forest, end, leaf, node, objectCount, nextInTemplateShifted, nextInTemplate}
+use Rattle.tlv.specs.Tree.{prependLeaf, prependNode, forestOfTemplateThenRest, forestOfObjectThenRest}
+use Rattle.tlv.specs.Tree.{parseTreeStep, parseTree}
 use Rattle.tlv.specs.Padding.{paddingZeros}
 use Rattle.tlv.proofs.Laws.{HeaderFits}
 use Rattle.tlv.proofs.NextObject.{next-fits, next-zeros, next-join}
@@ -39,7 +41,8 @@ module _ {s : List ℕ} {h : TlvHeader} (f : HeaderFits s h) where
 abbrev Parser : Type 0
 Parser = ℕ → List ℕ → Option Forest
 
-nested-same : (k k′ : Parser) (l t : ℕ) (v r : List ℕ) → ((m : ℕ) → k m v ≡ k′ m v) → ((m : ℕ) → k m r ≡ k′ m r) → forestOfTemplateThenRest k l t v r ≡ forestOfTemplateThenRest k′ l t v r
+nested-same : (k k′ : Parser) (l t : ℕ) (v r : List ℕ) → ((m : ℕ) → k m v ≡ k′ m v) → ((m : ℕ) → k m r ≡ k′ m r)
+    → forestOfTemplateThenRest k l t v r ≡ forestOfTemplateThenRest k′ l t v r
 nested-same k k′ zero t v r p q = refl
 nested-same k k′ (suc l) t v r p q = ap₂ (prependNode t) (p l) (q (suc l))
 
@@ -52,11 +55,13 @@ object-same k k′ l s same (Inner h) e =
     let v = shorter-value f in
     let b = shorter-behind f in
     ap₂ (if (h .template))
-    (nested-same k k′ l (h .tag) (headerValue s h) (behindObject s h) (λ m. same m (headerValue s h) v) (λ m. same m (behindObject s h) b))
+    (nested-same k k′ l (h .tag) (headerValue s h) (behindObject s h) (λ m. same m (headerValue s h) v)
+    (λ m. same m (behindObject s h) b))
     (ap (prependLeaf (h .tag) (headerValue s h)) (same l (behindObject s h) b))
 
 next-same : AsksShorter parseTreeStep
-next-same k k′ s same = λ i l. object-same (λ m v. k v m) (λ m v. k′ v m) l s (λ m v h. ap (λ (p : ℕ → Option Forest). p m) (same v h)) (nextInTemplate s) refl i
+next-same k k′ s same = λ i l. object-same (λ m v. k v m) (λ m v. k′ v m) l s
+    (λ m v h. ap (λ (p : ℕ → Option Forest). p m) (same v h)) (nextInTemplate s) refl i
 
 pub unroll : (l : ℕ) (s : List ℕ) → parseTree l s ≡ forestOfObjectThenRest parseTree l s (nextInTemplate s)
 unfolding parseTree
@@ -64,7 +69,8 @@ unroll l s = ap (λ (p : ℕ → Option Forest). p l) (recurse-unroll (λ l. non
 
 -- ---- one law for each way out of a step
 
-at : (l : ℕ) (s : List ℕ) (x : NextInTemplate) → nextInTemplate s ≡ x → parseTree l s ≡ forestOfObjectThenRest parseTree l s x
+at : (l : ℕ) (s : List ℕ) (x : NextInTemplate) → nextInTemplate s ≡ x → parseTree l s ≡ forestOfObjectThenRest parseTree
+    l s x
 at l s x e = unroll l s ∙ ap (forestOfObjectThenRest parseTree l s) e
 
 pub parse-end : (l : ℕ) (s : List ℕ) → nextInTemplate s ≡ End → parseTree l s ≡ some end
@@ -77,7 +83,8 @@ nested-deep : (l t : ℕ) (v r : List ℕ) → l ≡ 0 → forestOfTemplateThenR
 nested-deep zero t v r z = refl
 nested-deep (suc l) t v r z = absurd (omega arith)
 
-nested-at : (l t : ℕ) (v r : List ℕ) → (l ≡ 0 → ⊥) → forestOfTemplateThenRest parseTree l t v r ≡ prependNode t (parseTree (l - 1) v) (parseTree l r)
+nested-at : (l t : ℕ) (v r : List ℕ) → (l ≡ 0 → ⊥) → forestOfTemplateThenRest parseTree l t v r
+    ≡ prependNode t (parseTree (l - 1) v) (parseTree l r)
 nested-at zero t v r n = absurd (n refl)
 nested-at (suc l) t v r n = rw (sub-one (suc l))
 
@@ -87,11 +94,13 @@ module _ (l : ℕ) (s : List ℕ) (h : TlvHeader) (e : nextInTemplate s ≡ Inne
   parse-deep t z = at l s (Inner h) e ∙ if-yes _ _ t ∙ nested-deep l _ _ _ z
 
   -- a template: its contents with a level less, and what is after it
-  pub parse-node : h .template ≡ true → (l ≡ 0 → ⊥) → parseTree l s ≡ prependNode (h .tag) (parseTree (l - 1) (headerValue s h)) (parseTree l (behindObject s h))
+  pub parse-node : h .template ≡ true → (l ≡ 0 → ⊥)
+      → parseTree l s ≡ prependNode (h .tag) (parseTree (l - 1) (headerValue s h)) (parseTree l (behindObject s h))
   parse-node t n = at l s (Inner h) e ∙ if-yes _ _ t ∙ nested-at l _ _ _ n
 
   -- a primitive object: its value, and what is after it
-  pub parse-leaf : h .template ≡ false → parseTree l s ≡ prependLeaf (h .tag) (headerValue s h) (parseTree l (behindObject s h))
+  pub parse-leaf : h .template ≡ false → parseTree l s ≡ prependLeaf (h .tag) (headerValue s h)
+      (parseTree l (behindObject s h))
   parse-leaf t = at l s (Inner h) e ∙ if-no _ _ t
 
 zero-cases : (n : ℕ) → (n ≡ 0) ⊎ (n ≡ 0 → ⊥)
@@ -100,11 +109,13 @@ zero-cases (suc n) = inr (λ z. omega arith)
 
 -- ---- a run after an object
 
-pub with-leaf : (t : ℕ) (v : List ℕ) (x : Option Forest) (r : Forest) → x ≡ some r → prependLeaf t v x ≡ some (leaf t v r)
+pub with-leaf : (t : ℕ) (v : List ℕ) (x : Option Forest) (r : Forest) → x ≡ some r
+    → prependLeaf t v x ≡ some (leaf t v r)
 unfolding prependLeaf
 with-leaf t v x r e = rw e
 
-pub with-node : (t : ℕ) (x y : Option Forest) (f r : Forest) → x ≡ some f → y ≡ some r → prependNode t x y ≡ some (node t f r)
+pub with-node : (t : ℕ) (x y : Option Forest) (f r : Forest) → x ≡ some f → y ≡ some r
+    → prependNode t x y ≡ some (node t f r)
 unfolding prependNode
 with-node t x y f r p q = rw (p, q)
 
@@ -115,14 +126,17 @@ module _
     (at-end : (l : ℕ) (s : List ℕ) → nextInTemplate s ≡ End → P l s end)
     (at-leaf : (l : ℕ) (s : List ℕ) (h : TlvHeader) (r : Forest) → nextInTemplate s ≡ Inner h → h .template ≡ false
     → parseTree l (behindObject s h) ≡ some r → P l (behindObject s h) r → P l s (leaf (h .tag) (headerValue s h) r))
-    (at-node : (l : ℕ) (s : List ℕ) (h : TlvHeader) (f r : Forest) → nextInTemplate s ≡ Inner h → h .template ≡ true → (l ≡ 0 → ⊥)
-    → parseTree (l - 1) (headerValue s h) ≡ some f → P (l - 1) (headerValue s h) f → parseTree l (behindObject s h) ≡ some r → P l (behindObject s h) r
+    (at-node : (l : ℕ) (s : List ℕ) (h : TlvHeader) (f r : Forest) → nextInTemplate s ≡ Inner h → h .template ≡ true
+    → (l ≡ 0 → ⊥)
+    → parseTree (l - 1) (headerValue s h) ≡ some f → P (l - 1) (headerValue s h) f → parseTree l (behindObject s h)
+    ≡ some r → P l (behindObject s h) r
     → P l s (node (h .tag) f r))
   where
     Holds : List ℕ → Type 0
     Holds s = (l : ℕ) (f : Forest) → parseTree l s ≡ some f → P l s f
 
-    module _ (s : List ℕ) (before : (v : List ℕ) → length v < length s → Holds v) (l : ℕ) (g : Forest) (e : parseTree l s ≡ some g) where
+    module _ (s : List ℕ) (before : (v : List ℕ) → length v < length s → Holds v) (l : ℕ) (g : Forest)
+        (e : parseTree l s ≡ some g) where
       -- what the parse gives is the tree in hand, and it gives one
       this : (f : Forest) → parseTree l s ≡ some f → P l s f → P l s g
       this f p h = let q : f ≡ g = cc in subst (P l s) q h
@@ -130,11 +144,13 @@ module _
       never : parseTree l s ≡ none → P l s g
       never p = let z : _≡_ {A = ℕ} 0 1 = cc in absurd (omega arith)
 
-      of-leaf : (h : TlvHeader) → nextInTemplate s ≡ Inner h → h .template ≡ false → (x : Option Forest) → parseTree l (behindObject s h) ≡ x → P l s g
+      of-leaf : (h : TlvHeader) → nextInTemplate s ≡ Inner h → h .template ≡ false → (x : Option Forest)
+          → parseTree l (behindObject s h) ≡ x → P l s g
       unfolding prependLeaf Holds
       of-leaf h p t none q = never (parse-leaf l s h p t ∙ rw q)
       of-leaf h p t (some r) q =
-          this _ (parse-leaf l s h p t ∙ rw q) (at-leaf l s h r p t q (before (behindObject s h) (shorter-behind (next-fits s h p)) l r q))
+          this _ (parse-leaf l s h p t ∙ rw q)
+          (at-leaf l s h r p t q (before (behindObject s h) (shorter-behind (next-fits s h p)) l r q))
 
       of-node : (h : TlvHeader) → nextInTemplate s ≡ Inner h → h .template ≡ true → (l ≡ 0 → ⊥) → (x y : Option Forest)
           → parseTree (l - 1) (headerValue s h) ≡ x → parseTree l (behindObject s h) ≡ y → P l s g
@@ -144,7 +160,8 @@ module _
       of-node h p t n (some f) (some b) q r =
           let i = next-fits s h p in
           this _ (parse-node l s h p t n ∙ rw (q, r))
-          (at-node l s h f b p t n q (before (headerValue s h) (shorter-value i) (l - 1) f q) r (before (behindObject s h) (shorter-behind i) l b r))
+          (at-node l s h f b p t n q (before (headerValue s h) (shorter-value i) (l - 1) f q) r
+          (before (behindObject s h) (shorter-behind i) l b r))
 
       of-next : (x : NextInTemplate) → nextInTemplate s ≡ x → P l s g
       of-next End p = this end (parse-end l s p) (at-end l s p)
@@ -167,7 +184,8 @@ parse-count l s f =
     (λ l s e. omega arith)
     (λ l s h r e t q k. let i = next-fits s h e in let b = simp length-drop at k in omega arith)
     (λ l s h f r e t n p j q k.
-    let i = next-fits s h e in let v = simp (length-take, length-drop) at j in let b = simp length-drop at k in omega arith)
+    let i = next-fits s h e in let v = simp (length-take, length-drop) at j in let b = simp length-drop at k in
+    omega arith)
     l s f
 
 -- ---- more levels change nothing
@@ -177,7 +195,8 @@ parse-deeper l m s f e =
     parse-ind (λ l s f. (m : ℕ) → l ≤ m → parseTree m s ≡ some f)
     (λ l s e m le. parse-end m s e)
     (λ l s h r e t q k m le. parse-leaf m s h e t ∙ with-leaf _ _ _ r (k m le))
-    (λ l s h f r e t n p j q k m le. parse-node m s h e t (omega arith) ∙ with-node _ _ _ f r (j (m - 1) (omega arith)) (k m le))
+    (λ l s h f r e t n p j q k m le. parse-node m s h e t (omega arith) ∙ with-node _ _ _ f r (j (m - 1) (omega arith))
+    (k m le))
     l s f e m
 
 -- ---- one run after another
@@ -204,9 +223,12 @@ module _ (s r : List ℕ) where
   value-moved h = rw (drop-append-add s r (h .start))
 
   behind-moved : (h : TlvHeader) → behindObject (s ++ r) (headerShifted (length s) h) ≡ behindObject r h
-  behind-moved h = let e : length s + h .start + h .len ≡ length s + (h .start + h .len) = omega arith in rw (e, drop-append-add s r (h .start + h .len))
+  behind-moved h = let e : length s + h .start + h .len ≡ length s + (h .start + h .len) = omega arith in
+      rw (e, drop-append-add s r (h .start + h .len))
 
-  object-moved : (l : ℕ) (x : NextInTemplate) → forestOfObjectThenRest parseTree l (s ++ r) (nextInTemplateShifted (length s) x) ≡ forestOfObjectThenRest parseTree l r x
+  object-moved : (l : ℕ) (x : NextInTemplate)
+      → forestOfObjectThenRest parseTree l (s ++ r) (nextInTemplateShifted (length s) x) ≡ forestOfObjectThenRest
+      parseTree l r x
   object-moved l End = refl
   object-moved l Malformed = refl
   object-moved l (Inner h) = rw (value-moved h, behind-moved h)
@@ -214,17 +236,20 @@ module _ (s r : List ℕ) where
   parse-moved : (l : ℕ) → nextInTemplate s ≡ End → parseTree l (s ++ r) ≡ parseTree l r
   parse-moved l e = at l (s ++ r) _ (next-join s r End e) ∙ object-moved l (nextInTemplate r) ∙ sym (unroll l r)
 
-pub parse-join : (l : ℕ) (s t : List ℕ) (f g : Forest) → parseTree l s ≡ some f → parseTree l t ≡ some g → parseTree l (s ++ t) ≡ some (join f g)
+pub parse-join : (l : ℕ) (s t : List ℕ) (f g : Forest) → parseTree l s ≡ some f → parseTree l t ≡ some g
+    → parseTree l (s ++ t) ≡ some (join f g)
 unfolding join
 parse-join l s t f g =
     parse-ind (λ l s f. parseTree l t ≡ some g → parseTree l (s ++ t) ≡ some (join f g))
     (λ l s e p. parse-moved s t l e ∙ p)
     (λ l s h r e q y k p.
     let i = next-fits s h e in
-    parse-leaf l (s ++ t) h (next-join s t (Inner h) e) q ∙ rw (value-kept s t h i, behind-kept s t h i) (with-leaf _ _ _ (join r g) (k p)))
+    parse-leaf l (s ++ t) h (next-join s t (Inner h) e) q ∙ rw (value-kept s t h i, behind-kept s t h i)
+    (with-leaf _ _ _ (join r g) (k p)))
     (λ l s h f r e q n x j y k p.
     let i = next-fits s h e in
-    parse-node l (s ++ t) h (next-join s t (Inner h) e) q n ∙ rw (value-kept s t h i, behind-kept s t h i) (with-node _ _ _ f (join r g) x (k p)))
+    parse-node l (s ++ t) h (next-join s t (Inner h) e) q n ∙ rw (value-kept s t h i, behind-kept s t h i)
+    (with-node _ _ _ f (join r g) x (k p)))
     l s f
 
 -- ---- padding, at the front of any bytes and after a whole run
@@ -238,8 +263,12 @@ join-end end = refl
 join-end (leaf t v r) = ap (leaf t v) (join-end r)
 join-end (node t f r) = ap (node t f) (join-end r)
 
-pub zeros-between : (n l : ℕ) (s t : List ℕ) (f g : Forest) → parseTree l s ≡ some f → parseTree l t ≡ some g → parseTree l (s ++ (paddingZeros n ++ t)) ≡ parseTree l (s ++ t)
-zeros-between n l s t f g e d = parse-join l s (paddingZeros n ++ t) f g e (zeros-in-front n l t ∙ d) ∙ sym (parse-join l s t f g e d)
+pub zeros-between : (n l : ℕ) (s t : List ℕ) (f g : Forest) → parseTree l s ≡ some f → parseTree l t ≡ some g
+    → parseTree l (s ++ (paddingZeros n ++ t)) ≡ parseTree l (s ++ t)
+zeros-between n l s t f g e d = parse-join l s (paddingZeros n ++ t) f g e (zeros-in-front n l t ∙ d) ∙ sym
+    (parse-join l s t f g e d)
 
-pub zeros-behind : (n l : ℕ) (s : List ℕ) (f : Forest) → parseTree l s ≡ some f → parseTree l (s ++ paddingZeros n) ≡ some f
-zeros-behind n l s f e = parse-join l s (paddingZeros n) f end e (parse-end l (paddingZeros n) (next-zeros n)) ∙ ap some (join-end f)
+pub zeros-behind : (n l : ℕ) (s : List ℕ) (f : Forest) → parseTree l s ≡ some f → parseTree l (s ++ paddingZeros n)
+    ≡ some f
+zeros-behind n l s f e = parse-join l s (paddingZeros n) f end e (parse-end l (paddingZeros n) (next-zeros n)) ∙ ap some
+    (join-end f)

@@ -19,8 +19,10 @@ use Rattle.session.specs.Answer.{nextOnResponse}
 use Rattle.session.proofs.Laws.{admitted-short, admitted-ranges, admitted-in}
 use Rattle.session.specs.Calls.{start, answer, link-failed, stop, commandSent}
 use Rattle.tlv.specs.Encoding.{objectBytes}
-use Rattle.worked_examples.specs.Calls.{bufferOf261, bufferOf260, refusalResult, resultOf, resultOfAnswer, resultsOfAnswers, commandOf, storedValueAfterAnswer}
-use Rattle.worked_examples.specs.Calls.{with9000, with6A82, answerOf259Bytes, tooLongAnswer, truncatedObject, withTrailingByte, wrappedIn61, tvrObjectFromCard}
+use Rattle.worked_examples.specs.Calls.{bufferOf261, bufferOf260, refusalResult, resultOf, resultOfAnswer}
+use Rattle.worked_examples.specs.Calls.{resultsOfAnswers, commandOf, storedValueAfterAnswer}
+use Rattle.worked_examples.specs.Calls.{with9000, with6A82, answerOf259Bytes, tooLongAnswer, truncatedObject}
+use Rattle.worked_examples.specs.Calls.{withTrailingByte, wrappedIn61, tvrObjectFromCard}
 use Rattle.worked_examples.specs.ReadingOrder.{ReasonsInReadingOrder, ReadingReasonsBeforeLaterReason}
 
 enough : leastBuffer ≤ length bufferOf261
@@ -40,16 +42,20 @@ abbrev answered : Session → List ℕ → Step
 answered s card = stepOfEffect s bufferOf261 (effectIfRunning (s .phase) (nextOnResponse (storeBytes s) card))
 
 abbrev aborted : Session → ℕ → Step
-aborted s reason = stepOfEffect s bufferOf261 (effectIfRunning (s .phase) (λ (w : AwaitedResponse). end (endingForReason reason) (heldCvm w) (storeBytes s)))
+aborted s reason = stepOfEffect s bufferOf261
+    (effectIfRunning (s .phase) (λ (w : AwaitedResponse). end (endingForReason reason) (heldCvm w) (storeBytes s)))
 
 -- ---- in the ranges
 
 module _ (s : Session) (i : sessionRecordInRanges s ≡ true) where
-  pub start-in : (bytes : List ℕ) {a : CallResult} → told (stepOfEffect s bufferOf261 (startEffect (s .phase) (storeBytes s) bytes)) ≡ a → resultOf s (start bytes bufferOf261) ≡ a
+  pub start-in : (bytes : List ℕ) {a : CallResult}
+      → told (stepOfEffect s bufferOf261 (startEffect (s .phase) (storeBytes s) bytes)) ≡ a
+      → resultOf s (start bytes bufferOf261) ≡ a
   unfolding resultOf
   start-in bytes e = ap told (admitted-in s bufferOf261 _ enough i) ∙ e
 
-  pub answer-in : (card : List ℕ) {a : CallResult} → told (answered s card) ≡ a → resultOf s (answer card bufferOf261) ≡ a
+  pub answer-in : (card : List ℕ) {a : CallResult} → told (answered s card) ≡ a → resultOf s (answer card bufferOf261)
+      ≡ a
   unfolding resultOf
   answer-in card e = ap told (admitted-in s bufferOf261 _ enough i) ∙ e
 
@@ -65,30 +71,42 @@ module _ (s : Session) (i : sessionRecordInRanges s ≡ true) where
   unfolding resultOfAnswer
   says-in card e = ap told (admitted-in s bufferOf261 _ enough i) ∙ e
 
-  pub each-in : (cards : List (List ℕ)) {answers : List CallResult} → map (λ card. told (answered s card)) cards ≡ answers → resultsOfAnswers s cards ≡ answers
+  pub each-in : (cards : List (List ℕ)) {answers : List CallResult} → map (λ card. told (answered s card)) cards
+      ≡ answers → resultsOfAnswers s cards ≡ answers
   unfolding resultsOfAnswers resultOfAnswer
-  each-in cards e = (λ k. map (λ card. told (admitted-in s bufferOf261 (effectIfRunning (s .phase) (nextOnResponse (storeBytes s) card)) enough i k)) cards) ∙ e
+  each-in cards e =
+      (λ k. map
+      (λ card. told (admitted-in s bufferOf261 (effectIfRunning (s .phase) (nextOnResponse (storeBytes s) card)) enough
+      i k)) cards) ∙ e
 
-  pub start-sends-in : (bytes : List ℕ) {c : List (List ℕ)} → handed (stepOfEffect s bufferOf261 (startEffect (s .phase) (storeBytes s) bytes)) ≡ c → commandOf s (start bytes bufferOf261) ≡ c
+  pub start-sends-in : (bytes : List ℕ) {c : List (List ℕ)}
+      → handed (stepOfEffect s bufferOf261 (startEffect (s .phase) (storeBytes s) bytes)) ≡ c
+      → commandOf s (start bytes bufferOf261) ≡ c
   unfolding commandOf
   start-sends-in bytes e = ap handed (admitted-in s bufferOf261 _ enough i) ∙ e
 
-  pub sends-in : (card : List ℕ) {c : List (List ℕ)} → handed (answered s card) ≡ c → commandOf s (answer card bufferOf261) ≡ c
+  pub sends-in : (card : List ℕ) {c : List (List ℕ)} → handed (answered s card) ≡ c
+      → commandOf s (answer card bufferOf261) ≡ c
   unfolding commandOf
   sends-in card e = ap handed (admitted-in s bufferOf261 _ enough i) ∙ e
 
-  pub stored-in : (card : List ℕ) (tag : ℕ) {v : StoredValue} → objectValue (storeBytes (answered s card .reply .session)) tag ≡ v
+  pub stored-in : (card : List ℕ) (tag : ℕ) {v : StoredValue}
+      → objectValue (storeBytes (answered s card .reply .session)) tag ≡ v
       → storedValueAfterAnswer s card tag ≡ v
   unfolding storedValueAfterAnswer
-  stored-in card tag e = ap (λ (x : Step). objectValue (storeBytes (x .reply .session)) tag) (admitted-in s bufferOf261 _ enough i) ∙ e
+  stored-in card tag e = ap (λ (x : Step). objectValue (storeBytes (x .reply .session)) tag)
+      (admitted-in s bufferOf261 _ enough i) ∙ e
 
   -- the order of a reading's reasons, each answer by its own step
   abbrev stepOn : List ℕ → CallResult
   stepOn card = told (answered s card)
 
-  pub order-in : (outer other : ℕ) (ended : ℕ → CallResult) → stepOn tooLongAnswer ≡ ended 2 → stepOn (answerOf259Bytes outer tvrObjectFromCard) ≡ ended 2
-      → stepOn (with6A82 (truncatedObject outer)) ≡ ended 1 → stepOn (with6A82 (objectBytes other [])) ≡ ended 1 → stepOn (with6A82 (objectBytes outer tvrObjectFromCard)) ≡ ended 1
-      → stepOn (with9000 (withTrailingByte (objectBytes outer tvrObjectFromCard))) ≡ ended 2 → stepOn (with9000 (objectBytes other tvrObjectFromCard)) ≡ ended 2
+  pub order-in : (outer other : ℕ) (ended : ℕ → CallResult) → stepOn tooLongAnswer ≡ ended 2
+      → stepOn (answerOf259Bytes outer tvrObjectFromCard) ≡ ended 2
+      → stepOn (with6A82 (truncatedObject outer)) ≡ ended 1 → stepOn (with6A82 (objectBytes other [])) ≡ ended 1
+      → stepOn (with6A82 (objectBytes outer tvrObjectFromCard)) ≡ ended 1
+      → stepOn (with9000 (withTrailingByte (objectBytes outer tvrObjectFromCard))) ≡ ended 2
+      → stepOn (with9000 (objectBytes other tvrObjectFromCard)) ≡ ended 2
       → stepOn (with9000 (objectBytes other [])) ≡ ended 2 → ReasonsInReadingOrder s outer other ended
   order-in outer other ended a b c d e f g h =
       record {
@@ -102,12 +120,22 @@ module _ (s : Session) (i : sessionRecordInRanges s ≡ true) where
         outer-tag-missing = says-in _ h;
       }
 
-  pub before-in : (outer : ℕ) (contents : List ℕ) (ended : ℕ → CallResult) → stepOn (answerOf259Bytes outer contents) ≡ ended 2
-      → stepOn (with6A82 (objectBytes outer contents)) ≡ ended 1 → stepOn (with9000 (withTrailingByte (objectBytes outer contents))) ≡ ended 2
-      → stepOn (with9000 (wrappedIn61 (objectBytes outer contents))) ≡ ended 2 → stepOn (with9000 (objectBytes outer (contents ++ tvrObjectFromCard))) ≡ ended 3
+  pub before-in : (outer : ℕ) (contents : List ℕ) (ended : ℕ → CallResult) → stepOn (answerOf259Bytes outer contents)
+      ≡ ended 2
+      → stepOn (with6A82 (objectBytes outer contents)) ≡ ended 1
+      → stepOn (with9000 (withTrailingByte (objectBytes outer contents))) ≡ ended 2
+      → stepOn (with9000 (wrappedIn61 (objectBytes outer contents))) ≡ ended 2
+      → stepOn (with9000 (objectBytes outer (contents ++ tvrObjectFromCard))) ≡ ended 3
       → ReadingReasonsBeforeLaterReason s outer contents ended
   before-in outer contents ended a b c d e =
-      record { length = says-in _ a; status = says-in _ b; encoding = says-in _ c; outer-tag = says-in _ d; objects = says-in _ e }
+      record {
+        length = says-in _ a;
+        status = says-in _ b;
+        encoding = says-in _ c;
+        outer-tag = says-in _ d;
+        objects =
+            says-in _ e;
+      }
 
 -- ---- out of them
 

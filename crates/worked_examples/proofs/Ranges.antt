@@ -5,7 +5,8 @@ use mathlib.Core.List.{List}
 use Rattle.basics.specs.Choice.{if, both, either, every}
 use Rattle.basics.specs.Number.{nibbles}
 use Rattle.dictionary.specs.Rows.{dictionaryRows, rowFoundShifted, findRow}
-use Rattle.dictionary.specs.Form.{isNumeric, isDigitsThenFs, isCompressedNumeric, digitsMatchForm, lengthAndDigitsFitRow}
+use Rattle.dictionary.specs.Form.{isNumeric, isDigitsThenFs, isCompressedNumeric, digitsMatchForm}
+use Rattle.dictionary.specs.Form.{lengthAndDigitsFitRow}
 use Rattle.dictionary.specs.TerminalType.{listedTerminalType}
 use Rattle.store.specs.Place.{rowOffset, rowPlaceBytes, valueInPlace, rowValue, objectValueIn}
 use Rattle.afl.specs.Entry.{validEntry}
@@ -17,9 +18,16 @@ use Rattle.analysis.specs.Cvm.{aipAndConfigurationSupportOnDeviceCvm}
 use Rattle.analysis.specs.declared.choice.Choice.{Choice}
 use Rattle.session_record.specs.Inner.{placeLengthAndValueFitRow}
 use Rattle.session_record.specs.Numbers.{reasonMatchesOutcome}
-use Rattle.session_record.specs.Ranges.{isPresentIfRequiredAtStart, allRequiredAtStartPresent, lastResponseObjectsAbsent, inRunningRanges, expiryPanAndCdol1NonEmpty, track2AndBitmapsNonEmpty, inFreshRanges, inGpoRanges, inRecordRanges, inCryptogramRanges, inChecksumRanges, inEndedRanges, sessionRecordInRanges}
+use Rattle.session_record.specs.Ranges.{isPresentIfRequiredAtStart, allRequiredAtStartPresent}
+use Rattle.session_record.specs.Ranges.{lastResponseObjectsAbsent, inRunningRanges, expiryPanAndCdol1NonEmpty}
+use Rattle.session_record.specs.Ranges.{track2AndBitmapsNonEmpty, inFreshRanges, inGpoRanges, inRecordRanges}
+use Rattle.session_record.specs.Ranges.{inCryptogramRanges, inChecksumRanges, inEndedRanges, sessionRecordInRanges}
 use Rattle.session_record.proofs.Along.{fitAlong, ranges-along}
-use Rattle.worked_examples.specs.Sessions.{bcdUnitsBelowLimit, bcdUnitsOverLimit, emvAip, magStripeAip, trackWithSeparator, trackWithoutSeparator, waitsOnGpo, waitsOnFirstOfTwoRecords, waitsOnOnlyRecord, waitsOnOnlyRecordWithPdol, waitsOnCryptogram, waitsOnChecksum, sessionStopped, freshOutOfRanges, waitsOnGpoOutOfRanges, endedOutOfRanges}
+use Rattle.worked_examples.specs.Sessions.{bcdUnitsBelowLimit, bcdUnitsOverLimit, emvAip, magStripeAip}
+use Rattle.worked_examples.specs.Sessions.{trackWithSeparator, trackWithoutSeparator, waitsOnGpo}
+use Rattle.worked_examples.specs.Sessions.{waitsOnFirstOfTwoRecords, waitsOnOnlyRecord, waitsOnOnlyRecordWithPdol}
+use Rattle.worked_examples.specs.Sessions.{waitsOnCryptogram, waitsOnChecksum, sessionStopped, freshOutOfRanges}
+use Rattle.worked_examples.specs.Sessions.{waitsOnGpoOutOfRanges, endedOutOfRanges}
 
 pub record Kept : Type 0 where
   pub gpo : sessionRecordInRanges waitsOnGpo ≡ true
@@ -39,8 +47,13 @@ pub record Kept : Type 0 where
   pub broken-ended : sessionRecordInRanges endedOutOfRanges ≡ false
 
 pub kept : Kept
-unfolding fitAlong placeLengthAndValueFitRow lengthAndDigitsFitRow digitsMatchForm isNumeric isCompressedNumeric isDigitsThenFs nibbles inFreshRanges inGpoRanges inRecordRanges inCryptogramRanges inChecksumRanges inEndedRanges reasonMatchesOutcome inRunningRanges
-    allRequiredAtStartPresent isPresentIfRequiredAtStart lastResponseObjectsAbsent expiryPanAndCdol1NonEmpty track2AndBitmapsNonEmpty listedTerminalType transactionLimit cardAndKernelSupportOnDeviceCvm aipAndConfigurationSupportOnDeviceCvm amountOf appendDecimalDigits firstBytesZeroPadded acceptsAfl aflLengthIsMultipleOf4 aflEntries validEntry sumOverEntries valueInPlace rowOffset rowPlaceBytes rowValue
+unfolding fitAlong placeLengthAndValueFitRow lengthAndDigitsFitRow digitsMatchForm isNumeric isCompressedNumeric
+    isDigitsThenFs nibbles inFreshRanges inGpoRanges inRecordRanges inCryptogramRanges inChecksumRanges inEndedRanges
+    reasonMatchesOutcome inRunningRanges
+    allRequiredAtStartPresent isPresentIfRequiredAtStart lastResponseObjectsAbsent expiryPanAndCdol1NonEmpty
+    track2AndBitmapsNonEmpty listedTerminalType transactionLimit cardAndKernelSupportOnDeviceCvm
+    aipAndConfigurationSupportOnDeviceCvm amountOf appendDecimalDigits firstBytesZeroPadded acceptsAfl
+    aflLengthIsMultipleOf4 aflEntries validEntry sumOverEntries valueInPlace rowOffset rowPlaceBytes rowValue
     objectValueIn findRow rowFoundShifted dictionaryRows every both either if
 kept = record {
   gpo = ranges-along waitsOnGpo;

@@ -3,37 +3,53 @@ use mathlib.Core.Path.{refl}
 use Rattle.basics.specs.Recursion.{recurseWithFuelFromLength, recurseWithFuel}
 use Rattle.basics.specs.Choice.{if, both, either, every}
 use Rattle.basics.specs.Number.{appendBigEndianBytes, nibbles}
-use Rattle.tlv.specs.Tag.{tagSize, tagSizeFromSecondByte, tagSizeFromThirdByte, tagAt, tagFirstByte, isTemplate, isPrivate}
+use Rattle.tlv.specs.Tag.{tagSize, tagSizeFromSecondByte, tagSizeFromThirdByte, tagAt, tagFirstByte, isTemplate}
+use Rattle.tlv.specs.Tag.{isPrivate}
 use Rattle.tlv.specs.Length.{lengthAfter81, lengthAfter82, lengthAt}
 use Rattle.tlv.specs.Object.{headerOf}
 use Rattle.tlv.specs.Primitives.{prependObject, primitiveAtFront, primitiveObjects}
 use Rattle.tlv.specs.Encoding.{tagBytes, lengthBytes}
 use Rattle.dictionary.specs.Rows.{dictionaryRows, rowFoundShifted, findRow}
 use Rattle.dictionary.specs.Named.{rowNumberOfTagOrZero}
-use Rattle.dictionary.specs.Form.{isNumeric, isDigitsThenFs, isCompressedNumeric, digitsMatchForm, lengthAndDigitsFitRow}
+use Rattle.dictionary.specs.Form.{isNumeric, isDigitsThenFs, isCompressedNumeric, digitsMatchForm}
+use Rattle.dictionary.specs.Form.{lengthAndDigitsFitRow}
 use Rattle.dictionary.specs.TerminalType.{listedTerminalType}
 use Rattle.store.specs.Place.{rowOffset, rowPlaceBytes, valueInPlace, rowValue, putRow, objectValueIn}
 use Rattle.dol.specs.Entries.{dolEntryWithLength, dolEntryAt, prependDolEntry, dolEntriesStep, dolEntries}
-use Rattle.dol.specs.Filling.{truncatedToLength, paddingByte, paddedToLength, fittedToLength, dolEntryBytes, dolData, dolDataIfParsed}
-use Rattle.command.specs.WithList.{gpoCommandOfFilled, getProcessingOptions, commandIfDataIs1To255Bytes, generateAc, udolOrDefault, computeCryptographicChecksum}
+use Rattle.dol.specs.Filling.{truncatedToLength, paddingByte, paddedToLength, fittedToLength, dolEntryBytes, dolData}
+use Rattle.dol.specs.Filling.{dolDataIfParsed}
+use Rattle.command.specs.WithList.{gpoCommandOfFilled, getProcessingOptions, commandIfDataIs1To255Bytes, generateAc}
+use Rattle.command.specs.WithList.{udolOrDefault, computeCryptographicChecksum}
 use Rattle.session_record.specs.Numbers.{outcomeOfNonzeroReason}
-use Rattle.session_record.specs.Ranges.{isPresentIfRequiredAtStart, allRequiredAtStartPresent, expiryPanAndCdol1NonEmpty, track2AndBitmapsNonEmpty}
-use Rattle.start_data.specs.StartData.{isListedIfTerminalType, startMaySetObjectInRow, setStartObject, setStartObjects, loadStartBytes}
+use Rattle.session_record.specs.Ranges.{isPresentIfRequiredAtStart, allRequiredAtStartPresent}
+use Rattle.session_record.specs.Ranges.{expiryPanAndCdol1NonEmpty, track2AndBitmapsNonEmpty}
+use Rattle.start_data.specs.StartData.{isListedIfTerminalType, startMaySetObjectInRow, setStartObject, setStartObjects}
+use Rattle.start_data.specs.StartData.{loadStartBytes}
 use Rattle.session.specs.Steps.{readResponseThen, storeWithTvr, storeWithFindings}
 use Rattle.session.specs.Start.{requestGpo}
 use Rattle.session_record.specs.Session.{freshSession}
 use Rattle.session_record.proofs.Phases.{fresh-keeps}
-use Rattle.worked_examples.specs.Sessions.{waitsOnGpo, sessionStopped, freshOutOfRanges, waitsOnGpoOutOfRanges, endedOutOfRanges}
+use Rattle.worked_examples.specs.Sessions.{waitsOnGpo, sessionStopped, freshOutOfRanges, waitsOnGpoOutOfRanges}
+use Rattle.worked_examples.specs.Sessions.{endedOutOfRanges}
 use Rattle.worked_examples.specs.Refusals.{RefusalExamples}
-use Rattle.worked_examples.proofs.Laws.{answer-in, answer-out, answer-short, link-in, link-out, link-short, start-in, start-out, start-short, stop-in, stop-out, stop-short}
+use Rattle.worked_examples.proofs.Laws.{answer-in, answer-out, answer-short, link-in, link-out, link-short}
+use Rattle.worked_examples.proofs.Laws.{start-in, start-out, start-short, stop-in, stop-out, stop-short}
 use Rattle.worked_examples.proofs.Ranges.{kept}
 
 pub refusals : RefusalExamples
-unfolding recurseWithFuelFromLength recurseWithFuel if both either every appendBigEndianBytes nibbles tagSize tagSizeFromSecondByte tagSizeFromThirdByte tagAt tagFirstByte isTemplate isPrivate lengthAfter81 lengthAfter82 lengthAt headerOf
-    prependObject primitiveAtFront primitiveObjects tagBytes lengthBytes dictionaryRows rowFoundShifted findRow rowNumberOfTagOrZero isNumeric isDigitsThenFs isCompressedNumeric digitsMatchForm lengthAndDigitsFitRow listedTerminalType rowOffset rowPlaceBytes
-    valueInPlace rowValue putRow objectValueIn dolEntryWithLength dolEntryAt prependDolEntry dolEntriesStep dolEntries truncatedToLength paddingByte paddedToLength fittedToLength dolEntryBytes dolData dolDataIfParsed gpoCommandOfFilled
-    getProcessingOptions commandIfDataIs1To255Bytes generateAc udolOrDefault computeCryptographicChecksum outcomeOfNonzeroReason isPresentIfRequiredAtStart allRequiredAtStartPresent expiryPanAndCdol1NonEmpty track2AndBitmapsNonEmpty
-    isListedIfTerminalType startMaySetObjectInRow setStartObject setStartObjects loadStartBytes storeWithTvr storeWithFindings requestGpo
+unfolding recurseWithFuelFromLength recurseWithFuel if both either every appendBigEndianBytes nibbles tagSize
+    tagSizeFromSecondByte tagSizeFromThirdByte tagAt tagFirstByte isTemplate isPrivate lengthAfter81 lengthAfter82
+    lengthAt headerOf
+    prependObject primitiveAtFront primitiveObjects tagBytes lengthBytes dictionaryRows rowFoundShifted findRow
+    rowNumberOfTagOrZero isNumeric isDigitsThenFs isCompressedNumeric digitsMatchForm lengthAndDigitsFitRow
+    listedTerminalType rowOffset rowPlaceBytes
+    valueInPlace rowValue putRow objectValueIn dolEntryWithLength dolEntryAt prependDolEntry dolEntriesStep dolEntries
+    truncatedToLength paddingByte paddedToLength fittedToLength dolEntryBytes dolData dolDataIfParsed gpoCommandOfFilled
+    getProcessingOptions commandIfDataIs1To255Bytes generateAc udolOrDefault computeCryptographicChecksum
+    outcomeOfNonzeroReason isPresentIfRequiredAtStart allRequiredAtStartPresent expiryPanAndCdol1NonEmpty
+    track2AndBitmapsNonEmpty
+    isListedIfTerminalType startMaySetObjectInRow setStartObject setStartObjects loadStartBytes storeWithTvr
+    storeWithFindings requestGpo
 refusals = record {
   buffer-ranges = start-short freshOutOfRanges _;
   buffer-phase = start-short waitsOnGpo _;

@@ -7,7 +7,8 @@ use mathlib.Core.Path.{_≡_, refl, sym, _∙_}
 use Prim.Native.Nat.{_+_, _≤_}
 use native.Mathlib.Omega.{arith}
 use lib.ListN.{length}
-use Rattle.afl.proofs.Walk.{onwards, tail-less, check-start, check-broken, check-next, check-many, check-part, check-none, check-all}
+use Rattle.afl.proofs.Walk.{onwards, tail-less, check-start, check-broken, check-next, check-many, check-part}
+use Rattle.afl.proofs.Walk.{check-none, check-all}
 use Rattle.afl.proofs.Laws.{checked-says}
 use Rattle.afl.proofs.check_afl.Statement.{statement}
 use Rattle.afl.proofs.check_afl.Tie as tie
@@ -22,7 +23,8 @@ returns : tie.Need-returns Inv-loop μ-loop
 returns c =
     let lp = c .before .before .before .before .loop in
     let f = c .before .before .front in
-    checked-says _ _ (check-start _ ∙ lp .inv .0 ∙ check-broken (lp .total) (lp .rest .now) (omega arith) (f .result) (f .ensures) (sym (c .before .is-valid-entry .ensures) ∙ not-true _ (c .if1 .taken)))
+    checked-says _ _ (check-start _ ∙ lp .inv .0 ∙ check-broken (lp .total) (lp .rest .now) (omega arith) (f .result)
+    (f .ensures) (sym (c .before .is-valid-entry .ensures) ∙ not-true _ (c .if1 .taken)))
 
 returns-2 : tie.Need-returns-2 Inv-loop μ-loop
 returns-2 c =
@@ -31,7 +33,8 @@ returns-2 c =
     let k = c .before .before .before .is-valid-entry in
     let n = c .before .count in
     checked-says _ _ (check-start _ ∙ lp .inv .0
-    ∙ check-next (lp .total) (lp .rest .now) (omega arith) (f .result) (f .ensures) (sym (k .ensures) ∙ not-false _ (c .before .before .if1 .left)) (n .result) (n .ensures .0)
+    ∙ check-next (lp .total) (lp .rest .now) (omega arith) (f .result) (f .ensures)
+    (sym (k .ensures) ∙ not-false _ (c .before .before .if1 .left)) (n .result) (n .ensures .0)
     ∙ check-many (lp .total + n .result) _ (omega arith))
 
 loop-less : tie.Need-loop-less Inv-loop μ-loop
@@ -43,7 +46,8 @@ loop-again c =
     let f = c .before .before .before .before .before .front in
     let k = c .before .before .before .before .is-valid-entry in
     let n = c .before .before .count in (
-      lp .inv .0 ∙ check-next (lp .total) (lp .rest .now) (omega arith) (f .result) (f .ensures) (sym (k .ensures) ∙ not-false _ (c .before .before .before .if1 .left)) (n .result) (n .ensures .0),
+      lp .inv .0 ∙ check-next (lp .total) (lp .rest .now) (omega arith) (f .result) (f .ensures)
+          (sym (k .ensures) ∙ not-false _ (c .before .before .before .if1 .left)) (n .result) (n .ensures .0),
       omega arith,
     )
 
@@ -60,7 +64,8 @@ returns-4 c =
 returns-5 : tie.Need-returns-5 Inv-loop μ-loop
 returns-5 c =
     let lp = c .before .before .before .loop in
-    checked-says _ _ (check-start _ ∙ lp .inv .0 ∙ check-all (lp .total) (lp .rest .now) (omega arith) (omega arith) (omega arith))
+    checked-says _ _ (check-start _ ∙ lp .inv .0 ∙ check-all (lp .total) (lp .rest .now) (omega arith) (omega arith)
+    (omega arith))
 
 pub check-afl-spec : {M : Type 1} → statement M
 check-afl-spec =

@@ -40,13 +40,19 @@ returns-5 : tie.Need-returns-5
 unfolding validEntry
 returns-5 c =
     let e = c .before .before .before .before .before .before .before .before .before .args .e in
-    sym (both-no-right _ _ (both-no-right _ _ (both-no-right _ _ (both-no-left _ _ (lt-leb (e .first) (e .last) (omega arith))))))
+    sym
+    (both-no-right _ _
+    (both-no-right _ _ (both-no-right _ _ (both-no-left _ _ (lt-leb (e .first) (e .last) (omega arith))))))
 
 returns-6 : tie.Need-returns-6
 unfolding validEntry
 returns-6 c =
-    let e = c .before .before .before .before .before .before .before .before .before .before .before .before .args .e in
-    sym (both-no-right _ _ (both-no-right _ _ (both-no-right _ _ (both-no-right _ _ (lt-leb (e .offline) (entryRecordCount e) (omega arith))))))
+    let e = c .before .before .before .before .before .before .before .before .before .before .before .before .args .e
+    in
+    sym
+    (both-no-right _ _
+    (both-no-right _ _
+    (both-no-right _ _ (both-no-right _ _ (lt-leb (e .offline) (entryRecordCount e) (omega arith))))))
 
 returns-7 : tie.Need-returns-7
 returns-7 c = sym (kept-keeps _ (omega arith))

@@ -21,7 +21,8 @@ returns c =
     let lp = c .before .before .before .before .before .before .loop in
     let f = c .before .before .before .before .front in
     let n = c .before .before .before .count in
-    sym (lp .inv ∙ seek-here (lp .left) (lp .rest .now) (omega arith) (f .result) (f .ensures) (n .result) (n .ensures .0) (omega arith))
+    sym (lp .inv ∙ seek-here (lp .left) (lp .rest .now) (omega arith) (f .result) (f .ensures) (n .result)
+    (n .ensures .0) (omega arith))
 
 loop-less : tie.Need-loop-less Inv-loop μ-loop
 loop-less c = tail-less (c .before .before .before .before .before .loop .rest .now) (omega arith)
@@ -31,7 +32,8 @@ loop-again c =
     let lp = c .before .before .before .before .before .loop in
     let f = c .before .before .before .front in
     let n = c .before .before .count in
-    lp .inv ∙ seek-past (lp .left) (lp .rest .now) (omega arith) (f .result) (f .ensures) (n .result) (n .ensures .0) (omega arith)
+    lp .inv ∙ seek-past (lp .left) (lp .rest .now) (omega arith) (f .result) (f .ensures) (n .result) (n .ensures .0)
+    (omega arith)
 
 returns-2 : tie.Need-returns-2 Inv-loop μ-loop
 returns-2 c = let lp = c .before .loop in sym (lp .inv ∙ seek-end (lp .left) (lp .rest .now) (omega arith))

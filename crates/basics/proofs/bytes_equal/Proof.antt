@@ -20,12 +20,19 @@ abbrev μ-loop : tie.MeasureT-loop
 returns-2 : tie.Need-returns-2 Inv-loop μ-loop
 returns-2 c =
     let lp = c .before .before .before .before .loop in
-    sym (lp .inv .1 .1 ∙ alike-at _ _ (lp .i) (omega arith) (omega arith) ∙ both-no-left _ _ (ne-eqb _ _ (c .if2 .taken)))
+    sym (lp .inv .1 .1 ∙ alike-at _ _ (lp .i) (omega arith) (omega arith) ∙ both-no-left _ _
+    (ne-eqb _ _ (c .if2 .taken)))
 
 loop-again : tie.Need-loop-again Inv-loop μ-loop
 loop-again c =
-    let lp = c .before .before .before .before .loop in
-    (lp .inv .0, (omega arith, lp .inv .1 .1 ∙ alike-at _ _ (lp .i) (omega arith) (omega arith) ∙ both-true _ (eq-eqb _ _ (c .if2 .left))))
+    let lp = c .before .before .before .before .loop in (
+      lp .inv .0,
+      (
+        omega arith,
+        lp .inv .1 .1 ∙ alike-at _ _ (lp .i) (omega arith) (omega arith) ∙ both-true _
+            (eq-eqb _ _ (c .if2 .left)),
+      ),
+    )
 
 returns-3 : tie.Need-returns-3 Inv-loop μ-loop
 returns-3 c =

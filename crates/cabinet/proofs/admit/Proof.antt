@@ -12,7 +12,8 @@ use Rattle.cabinet.proofs.admit.Tie as tie
 
 returns : tie.Need-returns
 unfolding admissionByStateAndBufferSize
-returns c = ap (λ (w : ℕ). CabinetAdmission.Refused w) (c .refusal-word .ensures) ∙ sym (if-yes _ _ (lt-ltb _ _ (c .before .if1 .taken)))
+returns c = ap (λ (w : ℕ). CabinetAdmission.Refused w) (c .refusal-word .ensures) ∙ sym
+    (if-yes _ _ (lt-ltb _ _ (c .before .if1 .taken)))
 
 returns-2 : tie.Need-returns-2
 unfolding admissionByStateAndBufferSize

@@ -12,26 +12,35 @@ use Rattle.cabinet.proofs.cabinet_link_failed.Statement.{statement}
 use Rattle.cabinet.proofs.cabinet_link_failed.Tie as tie
 
 -- the call is taken
-taken : (c : tie.After-state) → let a = c .before .before .before .before .before .before .before .before .before .args in Taken (a .state .now) (a .command .now) (c .before .before .before .admission2 .given .0 .0)
-taken c = let a = c .before .before .before .before .before .before .before .before .before .args in over-taken (a .state .now) (a .command .now) _ (c .before .before .before .before .before .admit .ensures) (c .before .before .before .admission2 .given .1)
+taken : (c : tie.After-state) → let a = c .before .before .before .before .before .before .before .before .before .args
+    in Taken (a .state .now) (a .command .now) (c .before .before .before .admission2 .given .0 .0)
+taken c = let a = c .before .before .before .before .before .before .before .before .before .args in
+    over-taken (a .state .now) (a .command .now) _ (c .before .before .before .before .before .admit .ensures)
+    (c .before .before .before .admission2 .given .1)
 
 part-link-failed-in-end : tie.Need-part-link-failed-on-parts-end
 part-link-failed-in-end c = let k = taken c in omega (arith, k .told .enough)
 
 finish-requires : tie.Need-finish-requires
-finish-requires c κs = let k = taken (c .before .before .before .before .before .before) in (k .told .enough, k .told .fits)
+finish-requires c κs = let k = taken (c .before .before .before .before .before .before) in
+    (k .told .enough, k .told .fits)
 
 returns : tie.Need-returns
 returns c =
     let a = c .before .before .before .before .before .before .before .args in
-    over-refused (a .state .now) (a .command .now) (kernelStepOnCabinet linkFailedStep (a .state .now) (a .command .now)) _ (c .before .before .before .admit .ensures) (c .before .admission .given .1)
+    over-refused (a .state .now) (a .command .now)
+    (kernelStepOnCabinet linkFailedStep (a .state .now) (a .command .now)) _ (c .before .before .before .admit .ensures)
+    (c .before .admission .given .1)
 
 returns-2 : tie.Need-returns-2
 returns-2 c =
     let m = c .before .before .before .before .before .before .before .before .before in
     let a = m .before .before .before .before .before .before .before .before .before .args in
-    over-kept linkFailedStep link-came (λ s b h e. admitted-ranges s b _ h e) (a .state .now) (a .command .now) _ (taken m) _ _ _
-    (c .before .before .before .before .before .before .link-failed-on-parts .result) (c .before .before .before .before .before .before .link-failed-on-parts .ensures) (c .before .before .finish .ensures)
+    over-kept linkFailedStep link-came (λ s b h e. admitted-ranges s b _ h e) (a .state .now) (a .command .now) _
+    (taken m) _ _ _
+    (c .before .before .before .before .before .before .link-failed-on-parts .result)
+    (c .before .before .before .before .before .before .link-failed-on-parts .ensures)
+    (c .before .before .finish .ensures)
 
 pub cabinet-link-failed-spec : {M : Type 1} → statement M
 cabinet-link-failed-spec =

@@ -11,19 +11,28 @@ use Rattle.cabinet.proofs.cabinet_start.Tie as tie
 start-held-requires : tie.Need-start-held-requires
 start-held-requires c κs =
     let a = c .before .before .before .before .before .before .before .before .before .before .args in
-    let k = over-taken (a .state .now) (a .command .now) _ (c .before .before .before .before .before .admit .ensures) (c .before .before .before .admission2 .given .1) in
+    let k = over-taken (a .state .now) (a .command .now) _ (c .before .before .before .before .before .admit .ensures)
+    (c .before .before .before .admission2 .given .1) in
     (k .told .enough, (k .room, omega (arith, k .told .fits)))
 
 returns : tie.Need-returns
 returns c =
     let a = c .before .before .before .before .before .before .before .before .args in
-    over-refused (a .state .now) (a .command .now) (startOnCabinet (a .terminal .now) (a .state .now) (a .command .now)) _ (c .before .before .before .admit .ensures) (c .before .admission .given .1)
+    over-refused (a .state .now) (a .command .now) (startOnCabinet (a .terminal .now) (a .state .now) (a .command .now))
+    _ (c .before .before .before .admit .ensures) (c .before .admission .given .1)
 
 returns-2 : tie.Need-returns-2
 returns-2 c =
-    let a = c .before .before .before .before .before .before .before .before .before .before .before .before .before .before .before .args in
-    let k = over-taken (a .state .now) (a .command .now) _ (c .before .before .before .before .before .before .before .before .before .before .admit .ensures) (c .before .before .before .before .before .before .before .before .admission2 .given .1) in
-    subst (ReturnsCabinetResult _ _ _) (sym (over-ranged (a .state .now) (a .command .now) (startOnCabinet (a .terminal .now) (a .state .now) (a .command .now)) _ k)) (c .before .before .before .before .start-held .ensures)
+    let a =
+    c .before .before .before .before .before .before .before .before .before .before .before .before .before .before
+    .before .args in
+    let k = over-taken (a .state .now) (a .command .now) _
+    (c .before .before .before .before .before .before .before .before .before .before .admit .ensures)
+    (c .before .before .before .before .before .before .before .before .admission2 .given .1) in
+    subst (ReturnsCabinetResult _ _ _)
+    (sym
+    (over-ranged (a .state .now) (a .command .now) (startOnCabinet (a .terminal .now) (a .state .now) (a .command .now))
+    _ k)) (c .before .before .before .before .start-held .ensures)
 
 pub cabinet-start-spec : {M : Type 1} → statement M
 cabinet-start-spec =

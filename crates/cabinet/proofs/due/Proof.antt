@@ -9,7 +9,8 @@ use Rattle.cabinet.proofs.due.Tie as tie
 
 returns : tie.Need-returns
 unfolding runningSessionAmountOrZero
-returns c = c .amount-in .ensures ∙ sym (if-yes _ _ (sym (c .before .before .is-running .ensures) ∙ c .before .if1 .taken))
+returns c = c .amount-in .ensures ∙ sym
+    (if-yes _ _ (sym (c .before .before .is-running .ensures) ∙ c .before .if1 .taken))
 
 returns-2 : tie.Need-returns-2
 unfolding runningSessionAmountOrZero

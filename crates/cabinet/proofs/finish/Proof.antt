@@ -15,8 +15,12 @@ returns-2 c =
     let a = c .before .before .before .before .before .before .before .before .before .before .before .before .args in (
       c .result-word2 .ensures,
       c .before .before .before .put-amounts .ensures
-          ∙ ap₂ (λ (x : Amounts) (y : List ℕ). stateWithAmounts x y) (c .before .before .before .before .before .settled .ensures) (c .before .before .before .before .before .before .before .before .write-record-head .ensures)
-          ∙ finished-taken (a .transition .answer) (a .transition) (a .amounts) (a .state .now) (not-refused (a .transition .answer) (c .before .before .before .before .before .before .before .before .before .before .match .keys2)),
+          ∙ ap₂ (λ (x : Amounts) (y : List ℕ). stateWithAmounts x y)
+          (c .before .before .before .before .before .settled .ensures)
+          (c .before .before .before .before .before .before .before .before .write-record-head .ensures)
+          ∙ finished-taken (a .transition .answer) (a .transition) (a .amounts) (a .state .now)
+          (not-refused (a .transition .answer)
+          (c .before .before .before .before .before .before .before .before .before .before .match .keys2)),
     )
 
 pub finish-spec : {M : Type 1} → statement M

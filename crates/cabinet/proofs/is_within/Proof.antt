@@ -18,8 +18,12 @@ returns-2 : tie.Need-returns-2
 returns-2 c =
     let a = c .before .args in
     elim (bool-cases (leb (a .remaining) (greatestTwelveDigitAmount - a .reserved))) [
-      | inl t ↦ t ∙ sym (le-leb (a .remaining + a .reserved) greatestTwelveDigitAmount (omega (arith, leb-true (a .remaining) (greatestTwelveDigitAmount - a .reserved) t)))
-      | inr t ↦ t ∙ sym (lt-leb (a .remaining + a .reserved) greatestTwelveDigitAmount (omega (arith, leb-false (a .remaining) (greatestTwelveDigitAmount - a .reserved) t)))
+      | inl t ↦
+          t ∙ sym (le-leb (a .remaining + a .reserved) greatestTwelveDigitAmount
+          (omega (arith, leb-true (a .remaining) (greatestTwelveDigitAmount - a .reserved) t)))
+      | inr t ↦
+          t ∙ sym (lt-leb (a .remaining + a .reserved) greatestTwelveDigitAmount
+          (omega (arith, leb-false (a .remaining) (greatestTwelveDigitAmount - a .reserved) t)))
     ]
 
 pub is-within-spec : {M : Type 1} → statement M

@@ -10,7 +10,9 @@ use Rattle.cabinet.proofs.settled.Tie as tie
 returns-2 : tie.Need-returns-2
 returns-2 c =
     let e = c .left-after .ensures in
-    (λ i. record { remaining = e i; reserved = 0 }) ∙ sym (ap (λ (x : CallResult). amountsAfterResult x (c .before .before .before .before .args .amounts)) (c .before .before .answer .given .1))
+    (λ i. record { remaining = e i; reserved = 0 }) ∙ sym
+    (ap (λ (x : CallResult). amountsAfterResult x (c .before .before .before .before .args .amounts))
+    (c .before .before .answer .given .1))
 
 pub settled-spec : {M : Type 1} → statement M
 settled-spec =

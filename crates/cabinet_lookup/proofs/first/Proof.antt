@@ -27,12 +27,15 @@ abbrev At-object : Type 0
 At-object = lts.After-front (primitive-reads.Asked, primitive-reads.Learnt) reads.Pre reads.Post Inv-loop μ-loop
 
 next-at : (c : At-object)
-    → primitiveAtFront (tail (c .before .before .before .before .before .before .args .bytes .now) (c .before .before .before .before .loop .at))
+    → primitiveAtFront (tail (c .before .before .before .before .before .before .args .bytes .now)
+    (c .before .before .before .before .loop .at))
     ≡ front.Object (c .front .given .0 .0)
 next-at c = sym (c .before .before .primitive-at-front .ensures) ∙ c .front .given .1
 
 returns : tie.Need-returns Inv-loop μ-loop
-returns c = sym (stopped _ _ (c .before .before .before .before .loop .inv) (sym (c .before .before .primitive-at-front .ensures) ∙ c .enum-told .given .1))
+returns c =
+    sym (stopped _ _ (c .before .before .before .before .loop .inv)
+    (sym (c .before .before .primitive-at-front .ensures) ∙ c .enum-told .given .1))
 
 returns-2 : tie.Need-returns-2 Inv-loop μ-loop
 returns-2 c =
@@ -58,8 +61,11 @@ first-spec =
     (λ c. search needs)
     (λ c. search needs)
     returns
-    (λ c. let o = c .before .before in let i = bounds _ _ (o .before .before .before .before .loop .inv) _ (next-at o) in omega arith)
+    (λ c. let o = c .before .before in let i = bounds _ _ (o .before .before .before .before .loop .inv) _ (next-at o)
+    in omega arith)
     returns-2
-    (λ c. let o = c .before .before .before .before in let i = bounds _ _ (o .before .before .before .before .loop .inv) _ (next-at o) in omega arith)
-    (λ c. let o = c .before .before .before .before in let i = bounds _ _ (o .before .before .before .before .loop .inv) _ (next-at o) in omega arith)
+    (λ c. let o = c .before .before .before .before in let i = bounds _ _ (o .before .before .before .before .loop .inv)
+    _ (next-at o) in omega arith)
+    (λ c. let o = c .before .before .before .before in let i = bounds _ _ (o .before .before .before .before .loop .inv)
+    _ (next-at o) in omega arith)
     loop-again)

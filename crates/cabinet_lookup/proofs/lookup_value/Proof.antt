@@ -8,7 +8,8 @@ use native.Mathlib.Omega.{arith}
 use Rattle.tlv.proofs.Laws.{Bytes}
 use Rattle.cabinet_lookup.specs.declared.LookupFound.the-variants.{At, Absent}
 use Rattle.cabinet_lookup.specs.Place.{lookupFirst}
-use Rattle.cabinet_lookup.proofs.Laws.{found-inside, site-part, default-part, no-part, site-address, default-address, no-address}
+use Rattle.cabinet_lookup.proofs.Laws.{found-inside, site-part, default-part, no-part, site-address}
+use Rattle.cabinet_lookup.proofs.Laws.{default-address, no-address}
 use Rattle.cabinet_lookup.proofs.Named.{returned}
 use Rattle.cabinet_lookup.proofs.lookup_value.Statement.{statement}
 use Rattle.cabinet_lookup.proofs.lookup_value.Tie as tie
@@ -26,13 +27,16 @@ At-absent = lts.After-enum-told (first-reads.Asked, first-reads.Learnt) reads.Pr
 abbrev At-default : Type 0
 At-default = lts.After-default (first-reads.Asked, first-reads.Learnt) reads.Pre reads.Post
 
-own-at : (c : At-own) → let a = c .before .before .before .before .before .args in lookupFirst (a .tag) (a .site .now) ≡ At (c .own .given .0 .0)
+own-at : (c : At-own) → let a = c .before .before .before .before .before .args in lookupFirst (a .tag) (a .site .now)
+    ≡ At (c .own .given .0 .0)
 own-at c = sym (c .before .before .first .ensures) ∙ c .own .given .1
 
-absent-at : (c : At-absent) → let a = c .before .before .before .before .before .args in lookupFirst (a .tag) (a .site .now) ≡ Absent
+absent-at : (c : At-absent) → let a = c .before .before .before .before .before .args in lookupFirst (a .tag)
+    (a .site .now) ≡ Absent
 absent-at c = sym (c .before .before .first .ensures) ∙ c .enum-told .given .1
 
-default-at : (c : At-default) → let a = c .before .before .before .before .before .before .before .before .args in lookupFirst (a .tag) (a .defaults .now) ≡ At (c .default .given .0 .0)
+default-at : (c : At-default) → let a = c .before .before .before .before .before .before .before .before .args in
+    lookupFirst (a .tag) (a .defaults .now) ≡ At (c .default .given .0 .0)
 default-at c = sym (c .before .before .first2 .ensures) ∙ c .default .given .1
 
 -- both lists are of bytes

@@ -26,13 +26,17 @@ At-absent = lts.After-enum-told (first-reads.Asked, first-reads.Learnt) reads.Pr
 abbrev At-default : Type 0
 At-default = lts.After-default (first-reads.Asked, first-reads.Learnt) reads.Pre reads.Post
 
-own-at : (c : At-own) → let a = c .before .before .before .before .before .before .before .args in lookupFirst (a .tag) (a .site .now) ≡ At (c .own .given .0 .0)
+own-at : (c : At-own) → let a = c .before .before .before .before .before .before .before .args in lookupFirst (a .tag)
+    (a .site .now) ≡ At (c .own .given .0 .0)
 own-at c = sym (c .before .before .first .ensures) ∙ c .own .given .1
 
-absent-at : (c : At-absent) → let a = c .before .before .before .before .before .before .before .args in lookupFirst (a .tag) (a .site .now) ≡ Absent
+absent-at : (c : At-absent) → let a = c .before .before .before .before .before .before .before .args in
+    lookupFirst (a .tag) (a .site .now) ≡ Absent
 absent-at c = sym (c .before .before .first .ensures) ∙ c .enum-told .given .1
 
-default-at : (c : At-default) → let a = c .before .before .before .before .before .before .before .before .before .before .args in lookupFirst (a .tag) (a .defaults .now) ≡ At (c .default .given .0 .0)
+default-at : (c : At-default)
+    → let a = c .before .before .before .before .before .before .before .before .before .before .args in
+    lookupFirst (a .tag) (a .defaults .now) ≡ At (c .default .given .0 .0)
 default-at c = sym (c .before .before .first2 .ensures) ∙ c .default .given .1
 
 returns-3 : tie.Need-returns-3

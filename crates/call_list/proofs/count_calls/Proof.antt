@@ -18,16 +18,19 @@ use Rattle.call_list.proofs.count_calls.Statement.{statement}
 use Rattle.call_list.proofs.count_calls.Tie as tie
 
 abbrev Inv-loop : tie.InvT-loop
-Inv-loop calls rest₀ n₀ rest n = (callsCountedIn (parsedCalls calls) ≡ more n (callsCountedIn (parsedCalls rest))) × (n + length rest ≤ length calls)
+Inv-loop calls rest₀ n₀ rest n = (callsCountedIn (parsedCalls calls) ≡ more n (callsCountedIn (parsedCalls rest)))
+    × (n + length rest ≤ length calls)
 
 abbrev μ-loop : tie.MeasureT-loop
 μ-loop calls rest₀ n₀ rest n = length rest
 
 -- where a call is next: it lies inside the rest
-at-call : (c : tie.After-header Inv-loop μ-loop) → callFrontIn (c .before .before .before .before .loop .rest .now) ≡ CallFront.Call (c .header .given .0 .0)
+at-call : (c : tie.After-header Inv-loop μ-loop) → callFrontIn (c .before .before .before .before .loop .rest .now)
+    ≡ CallFront.Call (c .header .given .0 .0)
 at-call c = sym (c .before .before .front-of .ensures) ∙ c .header .given .1
 
-inside : (c : tie.After-header Inv-loop μ-loop) → callEndOffset (c .header .given .0 .0) ≤ length (c .before .before .before .before .loop .rest .now)
+inside : (c : tie.After-header Inv-loop μ-loop) → callEndOffset (c .header .given .0 .0)
+    ≤ length (c .before .before .before .before .loop .rest .now)
 inside c = front-end _ _ (at-call c)
 
 loop-holds : tie.Need-loop-holds Inv-loop μ-loop
@@ -36,7 +39,8 @@ loop-holds c = (sym (more-none _), omega arith)
 returns : tie.Need-returns Inv-loop μ-loop
 returns c = let lp = c .before .before .before .before .loop in
     sym (lp .inv .0 ∙ ap (λ (x : Option (List Call)). more (lp .n) (callsCountedIn x))
-    (calls-malformed (lp .rest .now) (c .before .before .before .loop-test .taken) (sym (c .before .before .front-of .ensures) ∙ c .enum-told .given .1)))
+    (calls-malformed (lp .rest .now) (c .before .before .before .loop-test .taken)
+    (sym (c .before .before .front-of .ensures) ∙ c .enum-told .given .1)))
 
 add-end : tie.Need-add-end Inv-loop μ-loop
 add-end c = let i = inside (c .before .before) in omega arith
@@ -62,14 +66,20 @@ loop-less c = let i = inside (c .before .before .before .before) in simp (length
 loop-again : tie.Need-loop-again Inv-loop μ-loop
 loop-again c = let lp = c .before .before .before .before .before .before .before .before .loop in
     let i = inside (c .before .before .before .before) in
-    let h = c .before .before .before .before .header .given .0 .0 in
-    (lp .inv .0 ∙ counted-call (lp .n) (lp .rest .now) h (c .before .before .before .before .before .before .before .loop-test .taken) (at-call (c .before .before .before .before))
-    ∙ ap (λ (s : List ℕ). more (lp .n + 1) (callsCountedIn (parsedCalls s))) (sym (tail-is (lp .rest .now) (callEndOffset h))), simp (length-take, length-drop) (omega arith))
+    let h = c .before .before .before .before .header .given .0 .0 in (
+      lp .inv .0 ∙ counted-call (lp .n) (lp .rest .now) h
+          (c .before .before .before .before .before .before .before .loop-test .taken)
+          (at-call (c .before .before .before .before))
+          ∙ ap (λ (s : List ℕ). more (lp .n + 1) (callsCountedIn (parsedCalls s)))
+          (sym (tail-is (lp .rest .now) (callEndOffset h))),
+      simp (length-take, length-drop) (omega arith),
+    )
 
 returns-2 : tie.Need-returns-2 Inv-loop μ-loop
 returns-2 c = let lp = c .before .loop in
     let z : lp .n + 0 ≡ lp .n = omega arith in
-    sym (lp .inv .0 ∙ ap (λ (x : Option (List Call)). more (lp .n) (callsCountedIn x)) (calls-end (lp .rest .now) (omega arith)) ∙ ap CallsCounted.Calls z)
+    sym (lp .inv .0 ∙ ap (λ (x : Option (List Call)). more (lp .n) (callsCountedIn x))
+    (calls-end (lp .rest .now) (omega arith)) ∙ ap CallsCounted.Calls z)
 
 pub count-calls-spec : {M : Type 1} → statement M
 count-calls-spec =

@@ -7,7 +7,14 @@ use Rattle.call_list.proofs.four.Statement.{statement}
 use Rattle.call_list.proofs.four.Tie as tie
 
 returns : tie.Need-returns
-returns c = (omega (arith, four-from 0 (c .before .before .before .before .before .before .before .before .before .args .s .now) (c .before .before .before .before .before .before .before .before .before .pre)), omega arith)
+returns c = (
+  omega (
+    arith,
+    four-from 0 (c .before .before .before .before .before .before .before .before .before .args .s .now)
+        (c .before .before .before .before .before .before .before .before .before .pre),
+  ),
+  omega arith,
+)
 
 pub four-spec : {M : Type 1} → statement M
 four-spec =

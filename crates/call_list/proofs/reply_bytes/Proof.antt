@@ -8,7 +8,11 @@ returns : tie.Need-returns
 returns c = simp (c .before .answer .given .1, c .before .before .before .command-count .ensures)
 
 returns-2 : tie.Need-returns-2
-returns-2 c = simp (c .before .before .answer2 .given .1, c .before .before .before .before .command-count .ensures, c .outcome-number .ensures)
+returns-2 c = simp (
+  c .before .before .answer2 .given .1,
+  c .before .before .before .before .command-count .ensures,
+  c .outcome-number .ensures,
+)
 
 returns-3 : tie.Need-returns-3
 returns-3 c = simp (c .before .answer3 .given .1, c .before .before .before .command-count .ensures)

@@ -9,7 +9,11 @@ use Rattle.command.proofs.close.Statement.{statement}
 use Rattle.command.proofs.close.Tie as tie
 
 returns : tie.Need-returns
-returns c = let a = c .args in (refl, closed (a .ins) (a .p1) (a .p2) (a .buffer .now) (a .end) (c .pre .0) (omega arith))
+returns c = let a = c .args in (
+  refl,
+  closed (a .ins) (a .p1) (a .p2) (a .buffer .now) (a .end) (c .pre .0)
+      (omega arith),
+)
 
 pub close-spec : {M : Type 1} → statement M
 close-spec =

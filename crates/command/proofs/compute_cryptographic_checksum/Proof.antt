@@ -15,16 +15,28 @@ returns c =
     let w = c .before .before .with-dol .ensures in
     let t = c .before .before .before .before in
     let a = t .before .before .before .before .args in
-    let e = sym (checksum-own (a .store .now) _ (t .before .value .ensures) (t .if1 .taken)) in
-    (w .0 ∙ ap dolCommandOf e, (w .1 .0 ∙ ap (λ (x : Option (List ℕ)). bufferWithCommand x (a .buffer .now)) e, w .1 .1 ∙ ap reasonDolIfNoCommand e))
+    let e = sym (checksum-own (a .store .now) _ (t .before .value .ensures) (t .if1 .taken)) in (
+      w .0 ∙ ap dolCommandOf e,
+      (
+        w .1 .0 ∙ ap (λ (x : Option (List ℕ)). bufferWithCommand x (a .buffer .now)) e,
+        w .1 .1
+            ∙ ap reasonDolIfNoCommand e,
+      ),
+    )
 
 returns-2 : tie.Need-returns-2
 returns-2 c =
     let w = c .before .before .with-dol2 .ensures in
     let t = c .before .before .before .before .before in
     let a = t .before .before .before .before .args in
-    let e = sym (checksum-default (a .store .now) _ (t .before .value .ensures) (t .if1 .left)) in
-    (w .0 ∙ ap dolCommandOf e, (w .1 .0 ∙ ap (λ (x : Option (List ℕ)). bufferWithCommand x (a .buffer .now)) e, w .1 .1 ∙ ap reasonDolIfNoCommand e))
+    let e = sym (checksum-default (a .store .now) _ (t .before .value .ensures) (t .if1 .left)) in (
+      w .0 ∙ ap dolCommandOf e,
+      (
+        w .1 .0 ∙ ap (λ (x : Option (List ℕ)). bufferWithCommand x (a .buffer .now)) e,
+        w .1 .1
+            ∙ ap reasonDolIfNoCommand e,
+      ),
+    )
 
 pub compute-cryptographic-checksum-spec : {M : Type 1} → statement M
 compute-cryptographic-checksum-spec =

@@ -15,8 +15,14 @@ returns c =
     let w = c .before .before .with-dol .ensures in
     let t = c .before .before .before .before in
     let a = t .before .before .before .args in
-    let e = sym (cryptogram-of (a .p1) (a .store .now) _ (t .value .ensures)) in
-    (w .0 ∙ ap dolCommandOf e, (w .1 .0 ∙ ap (λ (x : Option (List ℕ)). bufferWithCommand x (a .buffer .now)) e, w .1 .1 ∙ ap reasonDolIfNoCommand e))
+    let e = sym (cryptogram-of (a .p1) (a .store .now) _ (t .value .ensures)) in (
+      w .0 ∙ ap dolCommandOf e,
+      (
+        w .1 .0 ∙ ap (λ (x : Option (List ℕ)). bufferWithCommand x (a .buffer .now)) e,
+        w .1 .1
+            ∙ ap reasonDolIfNoCommand e,
+      ),
+    )
 
 pub generate-ac-spec : {M : Type 1} → statement M
 generate-ac-spec =

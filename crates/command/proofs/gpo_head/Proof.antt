@@ -15,14 +15,20 @@ use Rattle.command.proofs.gpo_head.Tie as tie
 returns : tie.Need-returns
 returns c =
     let a = c .before .args in
-    let e = head-short (a .n) (c .if1 .taken) in
-    (ap (λ (l : List ℕ). 5 + length l) (sym e), over-sets (a .buffer .now) 5 (0x83 ∷ a .n ∷ []) (omega arith) ∙ ap (bufferWithBytesAt (a .buffer .now) 5) (sym e))
+    let e = head-short (a .n) (c .if1 .taken) in (
+      ap (λ (l : List ℕ). 5 + length l) (sym e),
+      over-sets (a .buffer .now) 5 (0x83 ∷ a .n ∷ []) (omega arith) ∙ ap
+          (bufferWithBytesAt (a .buffer .now) 5) (sym e),
+    )
 
 returns-2 : tie.Need-returns-2
 returns-2 c =
     let a = c .before .args in
-    let e = head-long (a .n) (c .if1 .left) (c .before .pre .0) in
-    (ap (λ (l : List ℕ). 5 + length l) (sym e), over-sets (a .buffer .now) 5 (0x83 ∷ 0x81 ∷ a .n ∷ []) (omega arith) ∙ ap (bufferWithBytesAt (a .buffer .now) 5) (sym e))
+    let e = head-long (a .n) (c .if1 .left) (c .before .pre .0) in (
+      ap (λ (l : List ℕ). 5 + length l) (sym e),
+      over-sets (a .buffer .now) 5 (0x83 ∷ 0x81 ∷ a .n ∷ []) (omega arith) ∙
+          ap (bufferWithBytesAt (a .buffer .now) 5) (sym e),
+    )
 
 pub gpo-head-spec : {M : Type 1} → statement M
 gpo-head-spec =

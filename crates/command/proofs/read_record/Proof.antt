@@ -10,7 +10,8 @@ use Rattle.command.proofs.ReadRecord.{written-yes, written-short, writt
 use Rattle.command.proofs.read_record.Statement.{statement}
 use Rattle.command.proofs.read_record.Tie as tie
 
-five : (l : List ℕ) (a b c d e : ℕ) → 5 ≤ length l → set (set (set (set (set l 0 a) 1 b) 2 c) 3 d) 4 e ≡ a ∷ b ∷ c ∷ d ∷ e ∷ drop 5 l
+five : (l : List ℕ) (a b c d e : ℕ) → 5 ≤ length l → set (set (set (set (set l 0 a) 1 b) 2 c) 3 d) 4 e ≡ a ∷ b ∷ c ∷ d
+    ∷ e ∷ drop 5 l
 five [] a b c d e h = absurd (omega arith)
 five (v ∷ []) a b c d e h = absurd (omega arith)
 five (v ∷ w ∷ []) a b c d e h = absurd (omega arith)
@@ -41,7 +42,8 @@ returns-3 : tie.Need-returns-3
 returns-3 c =
     let a = c .before .before .before .before .args in
     let h : 5 ≤ length (a .command .now) = omega arith in
-    wrote _ _ _ _ _ (written-yes (a .wanted) (a .command .now) h (omega arith)) refl (five (a .command .now) _ _ _ _ _ h)
+    wrote _ _ _ _ _ (written-yes (a .wanted) (a .command .now) h (omega arith)) refl
+    (five (a .command .now) _ _ _ _ _ h)
 
 pub read-record-spec : {M : Type 1} → statement M
 read-record-spec =

@@ -14,10 +14,13 @@ returns : tie.Need-returns
 unfolding dictionaryRows
 returns c =
     let k = c .before .before .args .row in
-    c .unpack-row-attributes .ensures ∙ ap unpackedRowAttributes (column packedRowAttributes dictionaryRows k) ∙ code-unpacks k (omega arith)
+    c .unpack-row-attributes .ensures ∙ ap unpackedRowAttributes (column packedRowAttributes dictionaryRows k) ∙
+    code-unpacks k (omega arith)
 
 returns-2 : tie.Need-returns-2
-returns-2 c = c .unpack-row-attributes2 .ensures ∙ beyond attributesOf (c .before .before .args .row) (c .before .if1 .left)
+returns-2 c = c .unpack-row-attributes2 .ensures ∙ beyond attributesOf (c .before .before .args .row)
+    (c .before .if1 .left)
 
 pub attributes-of-spec : {M : Type 1} → statement M
-attributes-of-spec = tie.close (tie.spec (λ c. search needs) (λ c. search needs) (λ c κs. search needs) returns (λ c κs. search needs) returns-2)
+attributes-of-spec = tie.close (tie.spec (λ c. search needs) (λ c. search needs) (λ c κs. search needs) returns
+    (λ c κs. search needs) returns-2)

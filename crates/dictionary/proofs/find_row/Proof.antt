@@ -20,18 +20,22 @@ use Rattle.dictionary.proofs.find_row.Tie as tie
 -- the tags that are searched are those of the table
 in-table : (t n a : ℕ) {ts : List ℕ} {x : RowFound} → ts ≡ tagsOf dictionaryRows
     → ((table : List Row) → tagsOf table ≡ take n (drop a ts) → risingTags table ≡ true → x ≡ findRow table t)
-    → (table : List Row) → tagsOf table ≡ take n (drop a (tagsOf dictionaryRows)) → risingTags table ≡ true → x ≡ findRow table t
+    → (table : List Row) → tagsOf table ≡ take n (drop a (tagsOf dictionaryRows)) → risingTags table ≡ true
+    → x ≡ findRow table t
 in-table t n a e h table q = h table (q ∙ ap (λ (l : List ℕ). take n (drop a l)) (sym e))
 
-same-part : (t n a : ℕ) {ts : List ℕ} → ts ≡ tagsOf dictionaryRows → halvingSearchResult (take n (drop a ts)) t ≡ halvingSearchResult (take n (drop a (tagsOf dictionaryRows))) t
+same-part : (t n a : ℕ) {ts : List ℕ} → ts ≡ tagsOf dictionaryRows → halvingSearchResult (take n (drop a ts)) t
+    ≡ halvingSearchResult (take n (drop a (tagsOf dictionaryRows))) t
 same-part t n a e = ap (λ (l : List ℕ). halvingSearchResult (take n (drop a l)) t) e
 
 part-search-end : tie.Need-part-search-tags-end
 part-search-end c = let e = ap length (c .before .before .pre) ∙ tags-length in omega (arith, c .part-of .ensures .1 .1)
 
 -- of a part there are no more tags than in the table
-few : (ts : List ℕ) (a n probes : ℕ) → n ≤ rowCount → ((k : ℕ) → length (take n (drop a ts)) < 2 ^ k → probes ≤ k) → (k : ℕ) → rowCount < 2 ^ k → probes ≤ k
-few ts a n probes l h k m = let e : length (take n (drop a ts)) ≤ n = simp length-take (omega arith) in h k (omega arith)
+few : (ts : List ℕ) (a n probes : ℕ) → n ≤ rowCount → ((k : ℕ) → length (take n (drop a ts)) < 2 ^ k → probes ≤ k)
+    → (k : ℕ) → rowCount < 2 ^ k → probes ≤ k
+few ts a n probes l h k m = let e : length (take n (drop a ts)) ≤ n = simp length-take (omega arith) in
+    h k (omega arith)
 
 returns : tie.Need-returns
 returns c =
@@ -42,7 +46,8 @@ returns c =
     let known = c .before .found .given .1 in (
       part-known _ (p .ensures .0) (in-table _ (p .result .to - p .result .from) (p .result .from) pre (s .1 .0)) known,
       (
-        halved-known _ (p .ensures .0) (s .0 ∙ same-part _ (p .result .to - p .result .from) (p .result .from) pre) known,
+        halved-known _ (p .ensures .0) (s .0 ∙ same-part _ (p .result .to - p .result .from) (p .result .from) pre)
+            known,
         few _ (p .result .from) (p .result .to - p .result .from) _ (omega (arith, p .ensures .1 .1)) (s .1 .1 .0),
       ),
     )
@@ -57,9 +62,11 @@ returns-2 c =
     let p = l .part-of in
     let s = c .before .before .search-tags .ensures in
     let unknown = c .enum-told .given .1 in (
-      part-unknown _ (p .ensures .0) (in-table _ (p .result .to - p .result .from) (p .result .from) pre (s .1 .0)) unknown,
+      part-unknown _ (p .ensures .0) (in-table _ (p .result .to - p .result .from) (p .result .from) pre (s .1 .0))
+          unknown,
       (
-        halved-unknown _ (p .ensures .0) (s .0 ∙ same-part _ (p .result .to - p .result .from) (p .result .from) pre) unknown,
+        halved-unknown _ (p .ensures .0) (s .0 ∙ same-part _ (p .result .to - p .result .from) (p .result .from) pre)
+            unknown,
         few _ (p .result .from) (p .result .to - p .result .from) _ (omega (arith, p .ensures .1 .1)) (s .1 .1 .0),
       ),
     )

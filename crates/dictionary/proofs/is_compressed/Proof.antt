@@ -19,7 +19,8 @@ returns-2 c =
 returns-3 : tie.Need-returns-3
 returns-3 c =
     let d = c .before .before .before .before .before .before .digit-bytes in
-    c .only-fs2 .ensures ∙ sym (is-half _ (d .result) (d .ensures .0) (omega arith) (c .before .before .if3 .taken) (c .before .if4 .taken))
+    c .only-fs2 .ensures ∙ sym (is-half _ (d .result) (d .ensures .0) (omega arith) (c .before .before .if3 .taken)
+    (c .before .if4 .taken))
 
 returns-4 : tie.Need-returns-4
 returns-4 c =

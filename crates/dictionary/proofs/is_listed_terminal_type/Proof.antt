@@ -21,8 +21,11 @@ returns-3 : tie.Need-returns-3
 unfolding listedTerminalType
 returns-3 c =
     c .is-between3 .ensures
-    ∙ sym (either-false _ (sym (c .before .before .before .before .is-between .ensures) ∙ c .before .before .before .if1 .left)
+    ∙ sym
+    (either-false _ (sym (c .before .before .before .before .is-between .ensures) ∙
+    c .before .before .before .if1 .left)
     ∙ either-false _ (sym (c .before .before .is-between2 .ensures) ∙ c .before .if2 .left))
 
 pub is-listed-terminal-type-spec : {M : Type 1} → statement M
-is-listed-terminal-type-spec = tie.close (tie.spec (λ c κs. search needs) returns (λ c κs. search needs) returns-2 (λ c κs. search needs) returns-3)
+is-listed-terminal-type-spec = tie.close (tie.spec (λ c κs. search needs) returns (λ c κs. search needs) returns-2
+    (λ c κs. search needs) returns-3)

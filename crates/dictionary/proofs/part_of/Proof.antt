@@ -11,5 +11,13 @@ part-of-spec =
     (λ c. (one-byte _ (c .if1 .taken), (omega arith, omega arith)))
     (λ c. (from-5F _ (c .before .if1 .left) (c .if2 .taken), (omega arith, omega arith)))
     (λ c. (from-9F _ (c .before .before .if1 .left) (c .before .if2 .left) (c .if3 .taken), (omega arith, omega arith)))
-    (λ c. (from-DF _ (c .before .before .before .if1 .left) (c .before .before .if2 .left) (c .before .if3 .left) (c .if4 .taken), (omega arith, omega arith)))
-    (λ c. (three-bytes _ (c .before .before .before .if1 .left) (c .before .before .if2 .left) (c .before .if3 .left) (c .if4 .left), (omega arith, omega arith))))
+    (λ c. (
+      from-DF _ (c .before .before .before .if1 .left) (c .before .before .if2 .left) (c .before .if3 .left)
+          (c .if4 .taken),
+      (omega arith, omega arith),
+    ))
+    (λ c. (
+      three-bytes _ (c .before .before .before .if1 .left) (c .before .before .if2 .left) (c .before .if3 .left)
+          (c .if4 .left),
+      (omega arith, omega arith),
+    )))

@@ -12,7 +12,8 @@ returns c = sym (entry-untagged _ _ (c .before .before .tag-at .ensures) (c .enu
 returns-2 : tie.Need-returns-2
 returns-2 c =
     let g = c .before .before .before .front .given in
-    sym (entry-asked _ _ (c .before .before .before .before .before .tag-at .ensures) (g .0 .0) (g .1) (c .before .if1 .taken))
+    sym (entry-asked _ _ (c .before .before .before .before .before .tag-at .ensures) (g .0 .0) (g .1)
+    (c .before .if1 .taken))
 
 returns-3 : tie.Need-returns-3
 returns-3 c =

@@ -5,7 +5,14 @@ use Rattle.dol.proofs.fill.Statement.{statement}
 use Rattle.dol.proofs.fill.Tie as tie
 
 fill-entries-requires : tie.Need-fill-entries-requires
-fill-entries-requires c κs = (c .before .before .before .before .before .before .before .before .pre, record { tags = c .before .before .before .before .dictionary-tags .ensures; codes = c .before .before .before .packed-row-attributes .ensures })
+fill-entries-requires c κs = (
+  c .before .before .before .before .before .before .before .before .pre,
+  record {
+    tags = c .before .before .before .before .dictionary-tags .ensures;
+    codes =
+        c .before .before .before .packed-row-attributes .ensures;
+  },
+)
 
 pub fill-spec : {M : Type 1} → statement M
 fill-spec =

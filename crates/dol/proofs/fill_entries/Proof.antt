@@ -17,7 +17,8 @@ use Rattle.dol.proofs.fill_entries.Tie as tie
 
 abbrev Inv-loop : tie.InvT-loop
 Inv-loop list store buffer₀ at tags codes rest₀ to₀ buffer rest to =
-    (bufferWithFilledDolAt buffer₀ at (dolFilled dictionaryRows store list) ≡ bufferWithFilledDolAt buffer to (dolFilled dictionaryRows store rest)) × (length buffer ≡ length buffer₀)
+    (bufferWithFilledDolAt buffer₀ at (dolFilled dictionaryRows store list) ≡ bufferWithFilledDolAt buffer to
+    (dolFilled dictionaryRows store rest)) × (length buffer ≡ length buffer₀)
     × FilledDolFitsAt (dolEntries rest) to (length buffer)
 
 abbrev μ-loop : tie.MeasureT-loop
@@ -37,17 +38,24 @@ fits c =
 returns : tie.Need-returns Inv-loop μ-loop
 returns c =
     let lp = c .before .before .before .before .loop in
-    absurd (no-room (lp .rest .now) (lp .to) (length (lp .buffer)) (c .before .before .before .loop-test .taken) (sym (c .before .before .entry-at .ensures) ∙ c .enum-told .given .1) (lp .inv .2))
+    absurd (no-room (lp .rest .now) (lp .to) (length (lp .buffer)) (c .before .before .before .loop-test .taken)
+    (sym (c .before .before .entry-at .ensures) ∙ c .enum-told .given .1) (lp .inv .2))
 
 loop-less : tie.Need-loop-less Inv-loop μ-loop
-loop-less c = let f = fits (c .before .before .before .before .before .before .before) in simp (length-take, length-drop) (omega arith)
+loop-less c = let f = fits (c .before .before .before .before .before .before .before) in
+    simp (length-take, length-drop) (omega arith)
 
 loop-again : tie.Need-loop-again Inv-loop μ-loop
 loop-again c =
-    let a = c .before .before .before .before .before .before .before .before .before .before .before .before .before .before .before .args in
+    let a =
+    c .before .before .before .before .before .before .before .before .before .before .before .before .before .before
+    .before .args in
     let lp = c .before .before .before .before .before .before .before .before .before .before .before .loop in
     let g = c .before .before .before .before .before .before .before .front .given in
-    let s = fill-step dictionaryRows (a .store .now) _ (lp .buffer) _ (lp .rest .now) (lp .to) _ (g .0 .0) _ (sym (c .before .before .before .before .before .before .before .before .before .entry-at .ensures) ∙ g .1) (lp .inv .0) (lp .inv .2) (c .before .before .before .before .write-entry .ensures) (c .before .widen .ensures .0) in
+    let s = fill-step dictionaryRows (a .store .now) _ (lp .buffer) _ (lp .rest .now) (lp .to) _ (g .0 .0) _
+    (sym (c .before .before .before .before .before .before .before .before .before .entry-at .ensures) ∙ g .1)
+    (lp .inv .0) (lp .inv .2) (c .before .before .before .before .write-entry .ensures) (c .before .widen .ensures .0)
+    in
     (s .0, s .1 ∙ lp .inv .1, s .2)
 
 returns-2 : tie.Need-returns-2 Inv-loop μ-loop
@@ -68,7 +76,8 @@ fill-entries-spec =
     (λ c. search needs)
     (λ c. c .before .before .before .before .loop .inv .1)
     returns
-    (λ c κs. let f = fits (c .before .before) in (omega arith, c .before .before .before .before .before .before .before .before .before .before .pre .1))
+    (λ c κs. let f = fits (c .before .before) in
+    (omega arith, c .before .before .before .before .before .before .before .before .before .before .pre .1))
     (λ c κs. search needs)
     (λ c. let f = fits (c .before .before .before .before .before .before) in omega arith)
     (λ c. let f = fits (c .before .before .before .before .before .before) in omega arith)

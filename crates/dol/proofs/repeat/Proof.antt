@@ -10,7 +10,8 @@ use Rattle.dol.proofs.repeat.Statement.{statement}
 use Rattle.dol.proofs.repeat.Tie as tie
 
 abbrev Inv-loop : tie.InvT-loop
-Inv-loop byte n buffer₀ at i₀ buffer i = (i ≤ n) × (length buffer ≡ length buffer₀) × (buffer ≡ bufferWithBytesAt buffer₀ at (replicate i byte))
+Inv-loop byte n buffer₀ at i₀ buffer i = (i ≤ n) × (length buffer ≡ length buffer₀)
+    × (buffer ≡ bufferWithBytesAt buffer₀ at (replicate i byte))
 
 abbrev μ-loop : tie.MeasureT-loop
 μ-loop byte n buffer₀ at i₀ buffer i = n - i
@@ -19,8 +20,12 @@ loop-again : tie.Need-loop-again Inv-loop μ-loop
 loop-again c =
     let a = c .before .before .args in
     let lp = c .before .loop in
-    let h : a .at + lp .i < length (a .buffer .now) = omega arith in
-    (omega arith, simp length-set (lp .inv .1), rw (lp .inv .2) (repeat-more (a .buffer .now) (a .at) (lp .i) (a .byte) h))
+    let h : a .at + lp .i < length (a .buffer .now) = omega arith in (
+      omega arith,
+      simp length-set (lp .inv .1),
+      rw (lp .inv .2) (repeat-more (a .buffer .now) (a .at) (lp .i) (a .byte)
+          h),
+    )
 
 returns : tie.Need-returns Inv-loop μ-loop
 returns c =

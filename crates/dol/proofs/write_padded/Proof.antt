@@ -19,9 +19,13 @@ returns c =
     let v = a .v .now in
     let p = c .before .before .before .before .padding-byte in
     let h : a .at + length v ≤ length (a .buffer .now) = omega (arith, st .pre) in
-    over-then (a .buffer .now) (a .at) v h _ (replicate (a .n - length v) (p .result)) _ _ refl (c .before .before .before .before .before .before .before .place .ensures) (c .before .before .repeat .ensures)
+    over-then (a .buffer .now) (a .at) v h _ (replicate (a .n - length v) (p .result)) _ _ refl
+    (c .before .before .before .before .before .before .before .place .ensures) (c .before .before .repeat .ensures)
     ∙ ap (λ (x : ℕ). bufferWithBytesAt (a .buffer .now) (a .at) (v ++ replicate (a .n - length v) x)) (p .ensures)
-    ∙ ap (bufferWithBytesAt (a .buffer .now) (a .at)) (sym (padded-other (a .form) (a .n) v (c .before .before .before .before .before .before .before .before .before .if1 .taken)))
+    ∙ ap (bufferWithBytesAt (a .buffer .now) (a .at))
+    (sym
+    (padded-other (a .form) (a .n) v
+    (c .before .before .before .before .before .before .before .before .before .if1 .taken)))
 
 returns-2 : tie.Need-returns-2
 returns-2 c =
@@ -32,8 +36,10 @@ returns-2 c =
     let l : length (replicate {A = ℕ} g 0) ≡ g = length-replicate g 0 in
     let h : a .at + length (replicate {A = ℕ} g 0) ≤ length (a .buffer .now) = omega (arith, st .pre) in
     let k : a .at + g ≡ a .at + length (replicate {A = ℕ} g 0) = omega arith in
-    over-then (a .buffer .now) (a .at) (replicate g 0) h (a .at + g) v _ _ k (c .before .before .before .before .before .before .repeat2 .ensures) (c .before .before .place2 .ensures)
-    ∙ ap (bufferWithBytesAt (a .buffer .now) (a .at)) (sym (padded-n (a .form) (a .n) v (c .before .before .before .before .before .before .before .before .if1 .left)))
+    over-then (a .buffer .now) (a .at) (replicate g 0) h (a .at + g) v _ _ k
+    (c .before .before .before .before .before .before .repeat2 .ensures) (c .before .before .place2 .ensures)
+    ∙ ap (bufferWithBytesAt (a .buffer .now) (a .at))
+    (sym (padded-n (a .form) (a .n) v (c .before .before .before .before .before .before .before .before .if1 .left)))
 
 pub write-padded-spec : {M : Type 1} → statement M
 write-padded-spec =

@@ -14,13 +14,16 @@ returns : tie.Need-returns
 returns c =
     let a = c .before .before .before .before .before .before .before .before .args in
     c .before .before .place .ensures
-    ∙ ap (bufferWithBytesAt (a .buffer .now) (a .at)) (tail-is (a .v .now) _ ∙ sym (cut-n (a .form) (a .n) (a .v .now) (c .before .before .before .before .before .if1 .taken)))
+    ∙ ap (bufferWithBytesAt (a .buffer .now) (a .at))
+    (tail-is (a .v .now) _ ∙ sym
+    (cut-n (a .form) (a .n) (a .v .now) (c .before .before .before .before .before .if1 .taken)))
 
 returns-2 : tie.Need-returns-2
 returns-2 c =
     let a = c .before .before .before .before .before .before .before .before .args in
     c .before .before .place2 .ensures
-    ∙ ap (bufferWithBytesAt (a .buffer .now) (a .at)) (sym (cut-other (a .form) (a .n) (a .v .now) (c .before .before .before .before .before .if1 .left)))
+    ∙ ap (bufferWithBytesAt (a .buffer .now) (a .at))
+    (sym (cut-other (a .form) (a .n) (a .v .now) (c .before .before .before .before .before .if1 .left)))
 
 pub write-truncated-spec : {M : Type 1} → statement M
 write-truncated-spec =

@@ -11,13 +11,15 @@ returns : tie.Need-returns
 returns c =
     let a = c .before .before .before .before .before .before .before .args in
     c .before .before .write-truncated .ensures
-    ∙ ap (bufferWithBytesAt (a .buffer .now) (a .at)) (sym (fitted-cut (a .form) (a .n) (a .v .now) (c .before .before .before .before .if1 .taken)))
+    ∙ ap (bufferWithBytesAt (a .buffer .now) (a .at))
+    (sym (fitted-cut (a .form) (a .n) (a .v .now) (c .before .before .before .before .if1 .taken)))
 
 returns-2 : tie.Need-returns-2
 returns-2 c =
     let a = c .before .before .before .before .before .before .before .args in
     c .before .before .write-padded .ensures
-    ∙ ap (bufferWithBytesAt (a .buffer .now) (a .at)) (sym (fitted-short (a .form) (a .n) (a .v .now) (c .before .before .before .before .if1 .left)))
+    ∙ ap (bufferWithBytesAt (a .buffer .now) (a .at))
+    (sym (fitted-short (a .form) (a .n) (a .v .now) (c .before .before .before .before .if1 .left)))
 
 pub write-value-spec : {M : Type 1} → statement M
 write-value-spec =

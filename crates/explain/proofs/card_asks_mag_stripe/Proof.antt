@@ -15,7 +15,8 @@ returns c = sym (both-no-left _ _ (held-is _ _ _ at-82 (c .before .is-present .e
 returns-2 : tie.Need-returns-2
 returns-2 c =
     ap not (c .is-emv-mode .ensures)
-    ∙ sym (both-true _ (held-is _ _ _ at-82 (c .before .before .is-present .ensures) (not-false _ (c .before .if1 .left))))
+    ∙ sym
+    (both-true _ (held-is _ _ _ at-82 (c .before .before .is-present .ensures) (not-false _ (c .before .if1 .left))))
 
 pub card-asks-mag-stripe-spec : {M : Type 1} → statement M
 card-asks-mag-stripe-spec = tie.close (tie.spec (λ c κs. search needs) returns (λ c κs. search needs) returns-2)

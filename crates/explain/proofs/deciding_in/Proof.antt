@@ -7,17 +7,20 @@ use Rattle.explain.proofs.deciding_in.Statement.{statement}
 use Rattle.explain.proofs.deciding_in.Tie as tie
 
 returns : tie.Need-returns
-returns c = c .enum-told .given .1 ∙ sym (deciding-nothing _ (sym (c .before .before .stage-in .ensures) ∙ c .enum-told .given .1))
+returns c = c .enum-told .given .1 ∙ sym
+    (deciding-nothing _ (sym (c .before .before .stage-in .ensures) ∙ c .enum-told .given .1))
 
 returns-2 : tie.Need-returns-2
 returns-2 c =
     let k = c .before .before in
-    sym (deciding-lacks _ _ (sym (k .before .before .before .stage-in .ensures) ∙ k .before .deciding .given .1) (sym (c .before .is-complete .ensures) ∙ not-true _ (c .if1 .taken)))
+    sym (deciding-lacks _ _ (sym (k .before .before .before .stage-in .ensures) ∙ k .before .deciding .given .1)
+    (sym (c .before .is-complete .ensures) ∙ not-true _ (c .if1 .taken)))
 
 returns-3 : tie.Need-returns-3
 returns-3 c =
     let k = c .before .before in
-    sym (deciding-at _ _ (sym (k .before .before .before .stage-in .ensures) ∙ k .before .deciding .given .1) (sym (c .before .is-complete .ensures) ∙ not-false _ (c .if1 .left)))
+    sym (deciding-at _ _ (sym (k .before .before .before .stage-in .ensures) ∙ k .before .deciding .given .1)
+    (sym (c .before .is-complete .ensures) ∙ not-false _ (c .if1 .left)))
 
 pub deciding-in-spec : {M : Type 1} → statement M
 deciding-in-spec =

@@ -10,7 +10,8 @@ use Rattle.explain.proofs.explain_awaited.Tie as tie
 returns-3 : tie.Need-returns-3
 returns-3 c =
     let a = c .before .before .before .before .before .args in
-    c .waiting .ensures ∙ sym (ap (λ (w : AwaitedResponse). explanationWhileAwaiting w (a .bytes .now)) (c .before .before .awaited .given .1))
+    c .waiting .ensures ∙ sym (ap (λ (w : AwaitedResponse). explanationWhileAwaiting w (a .bytes .now))
+    (c .before .before .awaited .given .1))
 
 pub explain-awaited-spec : {M : Type 1} → statement M
 explain-awaited-spec =

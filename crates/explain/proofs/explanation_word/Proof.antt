@@ -7,10 +7,12 @@ use Rattle.explain.proofs.explanation_word.Statement.{statement}
 use Rattle.explain.proofs.explanation_word.Tie as tie
 
 returns : tie.Need-returns
-returns c = ap (λ (n : ℕ). 0x20000 + n) (c .widen32 .ensures .0) ∙ sym (ap explanationWord (c .before .enum-told .given .1))
+returns c = ap (λ (n : ℕ). 0x20000 + n) (c .widen32 .ensures .0) ∙ sym
+    (ap explanationWord (c .before .enum-told .given .1))
 
 returns-2 : tie.Need-returns-2
-returns-2 c = ap (λ (n : ℕ). 0x30000 + n) (c .widen322 .ensures .0) ∙ sym (ap explanationWord (c .before .before .explanation .given .1))
+returns-2 c = ap (λ (n : ℕ). 0x30000 + n) (c .widen322 .ensures .0) ∙ sym
+    (ap explanationWord (c .before .before .explanation .given .1))
 
 returns-5 : tie.Need-returns-5
 returns-5 c = c .choice-word .ensures ∙ sym (ap explanationWord (c .before .before .explanation2 .given .1))

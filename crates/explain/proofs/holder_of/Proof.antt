@@ -7,7 +7,8 @@ use Rattle.explain.proofs.holder_of.Tie as tie
 
 returns : tie.Need-returns
 unfolding actionCodeHolderOfBit
-returns c = c .holder-by .ensures ∙ ap₂ holderByCodes (c .before .before .has-bit .ensures) (c .before .has-bit2 .ensures)
+returns c = c .holder-by .ensures ∙ ap₂ holderByCodes (c .before .before .has-bit .ensures)
+    (c .before .has-bit2 .ensures)
 
 pub holder-of-spec : {M : Type 1} → statement M
 holder-of-spec =

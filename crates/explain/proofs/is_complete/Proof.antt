@@ -18,11 +18,13 @@ use Rattle.explain.proofs.is_complete.Tie as tie
 
 -- past the first two objects
 past : (c : tie.Else2) (stage : Stage) → let a = c .before .before .before .before .before .args in
-    a .stage ≡ stage → every (hasObject (a .bytes .now)) (tagsNeededByStage (a .stage)) ≡ every (hasObject (a .bytes .now)) (tacTagsOfStageAfterDenial stage)
+    a .stage ≡ stage → every (hasObject (a .bytes .now)) (tagsNeededByStage (a .stage))
+    ≡ every (hasObject (a .bytes .now)) (tacTagsOfStageAfterDenial stage)
 unfolding every
 past c stage e =
     let b = c .before .before .before .before .before .args .bytes .now in
-    both-true _ (held-is _ _ _ at-95 (c .before .before .before .is-present .ensures) (not-false _ (c .before .before .if1 .left)))
+    both-true _ (held-is _ _ _ at-95 (c .before .before .before .is-present .ensures)
+    (not-false _ (c .before .before .if1 .left)))
     ∙ both-true _ (held-is _ _ _ at-DF8121 (c .before .is-present2 .ensures) (not-false _ (c .if2 .left)))
     ∙ ap (λ (g : Stage). every (hasObject b) (tacTagsOfStageAfterDenial g)) e
 
@@ -32,7 +34,10 @@ returns c = sym (both-no-left _ _ (held-is _ _ _ at-95 (c .before .is-present .e
 
 returns-2 : tie.Need-returns-2
 unfolding every
-returns-2 c = sym (both-no-right _ _ (both-no-left _ _ (held-is _ _ _ at-DF8121 (c .before .is-present2 .ensures) (not-true _ (c .if2 .taken)))))
+returns-2 c =
+    sym
+    (both-no-right _ _
+    (both-no-left _ _ (held-is _ _ _ at-DF8121 (c .before .is-present2 .ensures) (not-true _ (c .if2 .taken)))))
 
 returns-3 : tie.Need-returns-3
 unfolding every
@@ -44,11 +49,13 @@ returns-4 c = sym (past (c .before .before) Stage.OnlineOnly (c .enum-told2 .giv
 
 returns-5 : tie.Need-returns-5
 returns-5 c =
-    there-by-row _ 0xDF8120 at-DF8120 (c .is-present3 .ensures) ∙ sym (past (c .before .before .before) Stage.Default (c .before .enum-told3 .given .1) ∙ every-one _ _)
+    there-by-row _ 0xDF8120 at-DF8120 (c .is-present3 .ensures) ∙ sym
+    (past (c .before .before .before) Stage.Default (c .before .enum-told3 .given .1) ∙ every-one _ _)
 
 returns-6 : tie.Need-returns-6
 returns-6 c =
-    there-by-row _ 0xDF8122 at-DF8122 (c .is-present4 .ensures) ∙ sym (past (c .before .before .before) Stage.Online (c .before .enum-told4 .given .1) ∙ every-one _ _)
+    there-by-row _ 0xDF8122 at-DF8122 (c .is-present4 .ensures) ∙ sym
+    (past (c .before .before .before) Stage.Online (c .before .enum-told4 .given .1) ∙ every-one _ _)
 
 pub is-complete-spec : {M : Type 1} → statement M
 is-complete-spec =

@@ -17,7 +17,8 @@ returns c =
     let f = c .before .before in
     let a = f .before .before .before .before .args in
     sym (ap (explanationByBit (a .stage) (actionCodesOfStage (a .bytes .now) (a .stage)))
-    (found-at _ (f .lowest-tvr-bit-in-codes .ensures) (f .before .result-in .ensures) _ (f .before .before .pair-at .ensures) (c .enum-told .given .1)))
+    (found-at _ (f .lowest-tvr-bit-in-codes .ensures) (f .before .result-in .ensures) _
+    (f .before .before .pair-at .ensures) (c .enum-told .given .1)))
 
 cast-bit : tie.Need-cast-bit
 cast-bit c =
@@ -31,9 +32,11 @@ returns-2 c =
     let f = k .before .before in
     let a = f .before .before .before .before .args in
     ap (λ (h : ActionCodeHolder). Explanation.Forced (record { stage = a .stage; bit = k .i .given .0 .0; holder = h }))
-    (c .holder-of .ensures ∙ ap (λ (p : ActionCodes). actionCodeHolderOfBit p (k .i .given .0 .0)) (f .before .before .pair-at .ensures))
+    (c .holder-of .ensures ∙ ap (λ (p : ActionCodes). actionCodeHolderOfBit p (k .i .given .0 .0))
+    (f .before .before .pair-at .ensures))
     ∙ sym (ap (explanationByBit (a .stage) (actionCodesOfStage (a .bytes .now) (a .stage)))
-    (found-at _ (f .lowest-tvr-bit-in-codes .ensures) (f .before .result-in .ensures) _ (f .before .before .pair-at .ensures) (k .i .given .1)))
+    (found-at _ (f .lowest-tvr-bit-in-codes .ensures) (f .before .result-in .ensures) _
+    (f .before .before .pair-at .ensures) (k .i .given .1)))
 
 pub reason-at-spec : {M : Type 1} → statement M
 reason-at-spec =

@@ -11,17 +11,21 @@ use Rattle.explain.proofs.stage_in.Tie as tie
 
 -- no bit is held at denial
 by-type : (c : tie.After-online-capability-of-type) (x : OnlineCapability) → c .online-capability-of-type .result ≡ x
-    → decidingStageByDenialBit x false ≡ decidingStageIn (c .before .before .before .before .before .before .before .before .args .bytes .now)
+    → decidingStageByDenialBit x false ≡ decidingStageIn
+    (c .before .before .before .before .before .before .before .before .args .bytes .now)
 by-type c x e =
     let t = c .before .before in
     let f = t .before .before in
-    sym (stage-type _ (f .lowest-tvr-bit-in-codes .ensures) (f .before .result-in .ensures) (f .before .before .pair-at .ensures) (t .enum-told2 .given .1)
-    (ap onlineCapabilityOfType (sym (c .before .terminal-type .ensures)) ∙ sym (c .online-capability-of-type .ensures) ∙ e))
+    sym (stage-type _ (f .lowest-tvr-bit-in-codes .ensures) (f .before .result-in .ensures)
+    (f .before .before .pair-at .ensures) (t .enum-told2 .given .1)
+    (ap onlineCapabilityOfType (sym (c .before .terminal-type .ensures)) ∙ sym (c .online-capability-of-type .ensures) ∙
+    e))
 
 returns : tie.Need-returns
 returns c =
     let f = c .before .before in
-    sym (stage-denial _ (f .lowest-tvr-bit-in-codes .ensures) (f .before .result-in .ensures) (f .before .before .pair-at .ensures) (c .enum-told .given .1))
+    sym (stage-denial _ (f .lowest-tvr-bit-in-codes .ensures) (f .before .result-in .ensures)
+    (f .before .before .pair-at .ensures) (c .enum-told .given .1))
 
 returns-2 : tie.Need-returns-2
 returns-2 c = by-type (c .before .before) OnlineCapability.OnlineOnly (c .enum-told3 .given .1)

@@ -23,4 +23,5 @@ unfolding firstFoundUnlessMalformed if
 returns-4 c = rw (c .before .enum-told2 .given .1, c .if1 .left)
 
 pub first-spec : {M : Type 1} → statement M
-first-spec = tie.close (tie.spec (λ c. search needs) (λ c. search needs) (λ c. search needs) returns returns-2 returns-3 returns-4)
+first-spec = tie.close (tie.spec (λ c. search needs) (λ c. search needs) (λ c. search needs) returns returns-2 returns-3
+    returns-4)

@@ -25,23 +25,28 @@ abbrev μ-loop : tie.MeasureT-loop
 
 -- where an object is next
 abbrev At-object : Type 0
-At-object = lts.After-following (next-reads.Asked, next-reads.Learnt, first-reads.Asked, first-reads.Learnt) reads.Pre reads.Post Inv-loop μ-loop
+At-object = lts.After-following (next-reads.Asked, next-reads.Learnt, first-reads.Asked, first-reads.Learnt) reads.Pre
+    reads.Post Inv-loop μ-loop
 
 next-at : (c : At-object)
-    → nextInTemplate (part (c .before .before .before .before .before .before .args .bytes .now) (c .before .before .before .before .loop .at) (c .before .before .before .before .loop .end))
+    → nextInTemplate (part (c .before .before .before .before .before .before .args .bytes .now)
+    (c .before .before .before .before .loop .at) (c .before .before .before .before .loop .end))
     ≡ Inner (c .following .given .0 .0)
 next-at c = sym (c .before .before .next-behind-padding .ensures) ∙ c .following .given .1
 
 returns : tie.Need-returns Inv-loop μ-loop
-returns c = failed (c .before .before .before .before .loop .inv) (sym (c .before .before .next-behind-padding .ensures) ∙ c .enum-told .given .1)
+returns c = failed (c .before .before .before .before .loop .inv) (sym (c .before .before .next-behind-padding .ensures)
+    ∙ c .enum-told .given .1)
 
 returns-2 : tie.Need-returns-2 Inv-loop μ-loop
 returns-2 c =
-    done (c .before .before .before .before .before .loop .inv) (sym (c .before .before .before .next-behind-padding .ensures) ∙ c .before .enum-told2 .given .1) (c .if1 .taken)
+    done (c .before .before .before .before .before .loop .inv)
+    (sym (c .before .before .before .next-behind-padding .ensures) ∙ c .before .enum-told2 .given .1) (c .if1 .taken)
 
 loop-again : tie.Need-loop-again Inv-loop μ-loop
 loop-again c =
-    close (c .before .before .before .before .before .loop .inv) (sym (c .before .before .before .next-behind-padding .ensures) ∙ c .before .enum-told2 .given .1) (c .if1 .left)
+    close (c .before .before .before .before .before .loop .inv)
+    (sym (c .before .before .before .next-behind-padding .ensures) ∙ c .before .enum-told2 .given .1) (c .if1 .left)
 
 returns-3 : tie.Need-returns-3 Inv-loop μ-loop
 returns-3 c =
@@ -51,7 +56,8 @@ returns-3 c =
 loop-again-2 : tie.Need-loop-again-2 Inv-loop μ-loop
 loop-again-2 c =
     let o = c .before .before .before .before .before .before .before in
-    push (o .before .before .before .before .loop .inv) _ (next-at o) _ (c .before .before .first .ensures) (c .before .if2 .taken) (c .if3 .left)
+    push (o .before .before .before .before .loop .inv) _ (next-at o) _ (c .before .before .first .ensures)
+    (c .before .if2 .taken) (c .if3 .left)
 
 loop-again-3 : tie.Need-loop-again-3 Inv-loop μ-loop
 loop-again-3 c =
@@ -79,14 +85,21 @@ walk-spec =
     (λ c. let w = c .before .before .before .before .before .loop .inv in omega arith)
     loop-again
     (λ c. search needs)
-    (λ c. let o = c .before .before in let i = bounds (o .before .before .before .before .loop .inv) _ (next-at o) in omega arith)
-    (λ c. let o = c .before .before .before in let i = bounds (o .before .before .before .before .loop .inv) _ (next-at o) in omega arith)
+    (λ c. let o = c .before .before in let i = bounds (o .before .before .before .before .loop .inv) _ (next-at o) in
+    omega arith)
+    (λ c. let o = c .before .before .before in let i = bounds (o .before .before .before .before .loop .inv) _
+    (next-at o) in omega arith)
     (λ c κs. search needs)
     returns-3
-    (λ c. let w = c .before .before .before .before .before .before .before .before .before .before .before .loop .inv in omega arith)
-    (λ c. let w = c .before .before .before .before .before .before .before .before .before .before .before .loop .inv in omega arith)
-    (λ c. let w = c .before .before .before .before .before .before .before .before .before .before .before .loop .inv in omega arith)
-    (λ c. let o = c .before .before .before .before .before .before .before in let i = bounds (o .before .before .before .before .loop .inv) _ (next-at o) in omega arith)
+    (λ c. let w = c .before .before .before .before .before .before .before .before .before .before .before .loop .inv
+    in omega arith)
+    (λ c. let w = c .before .before .before .before .before .before .before .before .before .before .before .loop .inv
+    in omega arith)
+    (λ c. let w = c .before .before .before .before .before .before .before .before .before .before .before .loop .inv
+    in omega arith)
+    (λ c. let o = c .before .before .before .before .before .before .before in let i =
+    bounds (o .before .before .before .before .loop .inv) _ (next-at o) in omega arith)
     loop-again-2
-    (λ c. let o = c .before .before .before .before .before .before in let i = bounds (o .before .before .before .before .loop .inv) _ (next-at o) in omega arith)
+    (λ c. let o = c .before .before .before .before .before .before in let i =
+    bounds (o .before .before .before .before .loop .inv) _ (next-at o) in omega arith)
     loop-again-3)

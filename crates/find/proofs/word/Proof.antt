@@ -9,10 +9,12 @@ use Rattle.find.proofs.word.Statement.{statement}
 use Rattle.find.proofs.word.Tie as tie
 
 mul-result : tie.Need-mul-result
-mul-result c = let i = subst FoundSpanWithin65535Bytes (c .before .found .given .1) (c .before .before .before .pre) in omega arith
+mul-result c = let i = subst FoundSpanWithin65535Bytes (c .before .found .given .1) (c .before .before .before .pre) in
+    omega arith
 
 add-result : tie.Need-add-result
-add-result c = let i = subst FoundSpanWithin65535Bytes (c .before .found .given .1) (c .before .before .before .pre) in omega arith
+add-result c = let i = subst FoundSpanWithin65535Bytes (c .before .found .given .1) (c .before .before .before .pre) in
+    omega arith
 
 returns : tie.Need-returns
 returns c = sym (ap findWord (c .before .found .given .1))

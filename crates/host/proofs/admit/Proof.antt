@@ -12,15 +12,20 @@ use Rattle.host.proofs.admit.Statement.{statement}
 use Rattle.host.proofs.admit.Tie as tie
 
 returns : tie.Need-returns
-returns c = ap (λ (w : ℕ). HostAdmission.Refused w) (c .refusal-word .ensures) ∙ sym (if-yes _ _ (lt-ltb _ _ (c .before .if1 .taken)))
+returns c = ap (λ (w : ℕ). HostAdmission.Refused w) (c .refusal-word .ensures) ∙ sym
+    (if-yes _ _ (lt-ltb _ _ (c .before .if1 .taken)))
 
 returns-2 : tie.Need-returns-2
-returns-2 c = sym (if-no _ _ (le-ltb _ _ (c .before .before .before .before .if1 .left)) ∙ admits-record (decodedSession (c .before .before .before .before .before .before .args .session .now)) _ (sym (c .before .before .before .decode-record-head .ensures) ∙ c .before .held .given .1))
+returns-2 c = sym (if-no _ _ (le-ltb _ _ (c .before .before .before .before .if1 .left)) ∙ admits-record
+    (decodedSession (c .before .before .before .before .before .before .args .session .now)) _
+    (sym (c .before .before .before .decode-record-head .ensures) ∙ c .before .held .given .1))
 
 returns-3 : tie.Need-returns-3
 returns-3 c =
     ap (λ (w : ℕ). HostAdmission.Refused w) (c .refusal-word2 .ensures)
-    ∙ sym (if-no _ _ (le-ltb _ _ (c .before .before .before .before .if1 .left)) ∙ admits-nothing (decodedSession (c .before .before .before .before .before .before .args .session .now)) (sym (c .before .before .before .decode-record-head .ensures) ∙ c .before .enum-told .given .1))
+    ∙ sym (if-no _ _ (le-ltb _ _ (c .before .before .before .before .if1 .left)) ∙ admits-nothing
+    (decodedSession (c .before .before .before .before .before .before .args .session .now))
+    (sym (c .before .before .before .decode-record-head .ensures) ∙ c .before .enum-told .given .1))
 
 pub admit-spec : {M : Type 1} → statement M
 admit-spec =

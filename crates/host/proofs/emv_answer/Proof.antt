@@ -10,16 +10,30 @@ use Rattle.host.proofs.emv_answer.Tie as tie
 part-answer-in-end : tie.Need-part-answer-on-parts-end
 part-answer-in-end c =
     let a = c .before .before .before .before .before .before .before .before .args in
-    over-record (λ s b. answerStep s (a .card .now) b) (a .session .now) (a .command .now) (c .before .admission2 .given .0 .0) (c .before .before .before .admit .ensures) (c .before .admission2 .given .1)
+    over-record (λ s b. answerStep s (a .card .now) b) (a .session .now) (a .command .now)
+    (c .before .admission2 .given .0 .0) (c .before .before .before .admit .ensures) (c .before .admission2 .given .1)
 
 returns : tie.Need-returns
-returns c = let a = c .before .before .before .before .before .before .before .before .args in over-refused (λ s b. answerStep s (a .card .now) b) (a .session .now) (a .command .now) _ (c .before .before .before .admit .ensures) (c .before .admission .given .1)
+returns c = let a = c .before .before .before .before .before .before .before .before .args in
+    over-refused (λ s b. answerStep s (a .card .now) b) (a .session .now) (a .command .now) _
+    (c .before .before .before .admit .ensures) (c .before .admission .given .1)
 
 returns-2 : tie.Need-returns-2
 returns-2 c =
-    let a = c .before .before .before .before .before .before .before .before .before .before .before .before .before .before .before .before .before .before .before .args in
-    over-step (λ s b. answerStep s (a .card .now) b) (a .session .now) (a .command .now) (c .before .before .before .before .before .before .before .before .before .before .before .before .admission2 .given .0 .0) (c .before .before .before .before .before .before .before .before .before .before .before .before .before .before .admit .ensures) (c .before .before .before .before .before .before .before .before .before .before .before .before .admission2 .given .1) _ _ _
-    (c .before .before .before .before .before .before .before .before .answer-on-parts .last .1 .1 .0) (c .before .before .before .before .before .before .before .before .answer-on-parts .result) (c .before .before .before .before .before .before .before .before .answer-on-parts .ensures) (c .before .before .before .before .before .before .before .session .given .0) (c .before .before .finish .ensures)
+    let a =
+    c .before .before .before .before .before .before .before .before .before .before .before .before .before .before
+    .before .before .before .before .before .args in
+    over-step (λ s b. answerStep s (a .card .now) b) (a .session .now) (a .command .now)
+    (c .before .before .before .before .before .before .before .before .before .before .before .before .admission2
+    .given .0 .0)
+    (c .before .before .before .before .before .before .before .before .before .before .before .before .before .before
+    .admit .ensures)
+    (c .before .before .before .before .before .before .before .before .before .before .before .before .admission2
+    .given .1) _ _ _
+    (c .before .before .before .before .before .before .before .before .answer-on-parts .last .1 .1 .0)
+    (c .before .before .before .before .before .before .before .before .answer-on-parts .result)
+    (c .before .before .before .before .before .before .before .before .answer-on-parts .ensures)
+    (c .before .before .before .before .before .before .before .session .given .0) (c .before .before .finish .ensures)
 
 pub emv-answer-spec : {M : Type 1} → statement M
 emv-answer-spec =

@@ -17,7 +17,9 @@ returns c =
     let m = k .before .before .before .before in
     record {
       word = sym (if-yes _ _ (sym (k .encode-record .ensures .enough) ∙ c .if1 .taken));
-      session = k .encode-record .ensures .bytes ∙ ap (λ (b : List ℕ). sessionWrittenOverFrontIfRoom (sessionOf Phase.Fresh 0 b) (m .before .before .args .session .now)) (m .empty .ensures);
+      session = k .encode-record .ensures .bytes ∙ ap
+          (λ (b : List ℕ). sessionWrittenOverFrontIfRoom (sessionOf Phase.Fresh 0 b)
+          (m .before .before .args .session .now)) (m .empty .ensures);
     }
 
 returns-2 : tie.Need-returns-2
@@ -25,11 +27,15 @@ returns-2 c =
     let k = c .before .before .before .before in
     let m = k .before .before .before .before in
     record {
-      word = c .refusal-word .ensures ∙ sym (if-no _ _ (sym (k .encode-record .ensures .enough) ∙ c .before .if1 .left));
-      session = k .encode-record .ensures .bytes ∙ ap (λ (b : List ℕ). sessionWrittenOverFrontIfRoom (sessionOf Phase.Fresh 0 b) (m .before .before .args .session .now)) (m .empty .ensures);
+      word = c .refusal-word .ensures ∙ sym
+          (if-no _ _ (sym (k .encode-record .ensures .enough) ∙ c .before .if1 .left));
+      session = k .encode-record .ensures .bytes ∙ ap
+          (λ (b : List ℕ). sessionWrittenOverFrontIfRoom (sessionOf Phase.Fresh 0 b)
+          (m .before .before .args .session .now)) (m .empty .ensures);
     }
 
 pub emv-open-spec : {M : Type 1} → statement M
 emv-open-spec =
     tie.close
-    (tie.spec (λ c κs. search needs) (λ c κs. search needs) (λ c. search needs) returns (λ c κs. search needs) (λ c. search needs) returns-2)
+    (tie.spec (λ c κs. search needs) (λ c κs. search needs) (λ c. search needs) returns (λ c κs. search needs)
+    (λ c. search needs) returns-2)

@@ -23,14 +23,16 @@ row-is c = let l = c .before .before .before in sym (l .lookup-row .ensures .0) 
 small : (c : tie.After-value) → length (c .value .result .now) ≤ 254
 small c =
     let k = c .before .before .before in
-    let h : k .before .found .given .0 .0 < rowCount = omega (arith, found dictionaryRows _ _ (row-is k) .0, rows-length) in
+    let h : k .before .found .given .0 .0 < rowCount =
+    omega (arith, found dictionaryRows _ _ (row-is k) .0, rows-length) in
     rw (c .value .ensures) (value-small _ _ h)
 
 returns : tie.Need-returns
 returns c = let l = c .before .before in object-unknown _ _ _ (sym (l .lookup-row .ensures .0) ∙ c .enum-told .given .1)
 
 returns-2 : tie.Need-returns-2
-returns-2 c = let k = c .before .before in object-absent _ _ _ _ (row-is k) (sym (c .before .is-present .ensures) ∙ not-true _ (c .if1 .taken))
+returns-2 c = let k = c .before .before in object-absent _ _ _ _ (row-is k)
+    (sym (c .before .is-present .ensures) ∙ not-true _ (c .if1 .taken))
 
 cast-size : tie.Need-cast-size
 cast-size c = omega (arith, small c)
@@ -42,7 +44,8 @@ returns-3 : tie.Need-returns-3
 returns-3 c =
     let v = c .before in
     let i = v .before in
-    object-needed _ _ _ _ (row-is (i .before .before)) (sym (i .before .is-present .ensures) ∙ not-false _ (i .if1 .left)) _ (v .value .ensures) (c .if2 .taken)
+    object-needed _ _ _ _ (row-is (i .before .before))
+    (sym (i .before .is-present .ensures) ∙ not-false _ (i .if1 .left)) _ (v .value .ensures) (c .if2 .taken)
 
 returns-4 : tie.Need-returns-4
 returns-4 c =
@@ -50,7 +53,9 @@ returns-4 c =
     let e = o .before .before in
     let v = e .before in
     let i = v .before in
-    object-copied _ _ _ _ (row-is (i .before .before)) (sym (i .before .is-present .ensures) ∙ not-false _ (i .if1 .left)) _ (v .value .ensures) _ (e .if2 .left) (o .copy .ensures .1)
+    object-copied _ _ _ _ (row-is (i .before .before))
+    (sym (i .before .is-present .ensures) ∙ not-false _ (i .if1 .left)) _ (v .value .ensures) _ (e .if2 .left)
+    (o .copy .ensures .1)
 
 pub object-in-spec : {M : Type 1} → statement M
 object-in-spec =

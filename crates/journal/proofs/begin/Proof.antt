@@ -18,7 +18,8 @@ holdingNone s = record { standing = s; held = replicate 1027 0; length = 0; reco
 
 returns : tie.Need-returns
 unfolding newChecker checkerAfterBytes
-returns c = let e = ap holdingNone (c .waiting .ensures ∙ ap (λ (f : Session). checkStateOf (expectedNext f [])) (c .before .fresh-session .ensures)) in (e, e)
+returns c = let e = ap holdingNone (c .waiting .ensures ∙ ap (λ (f : Session). checkStateOf (expectedNext f []))
+    (c .before .fresh-session .ensures)) in (e, e)
 
 pub begin-spec : {M : Type 1} → statement M
 begin-spec = tie.close (tie.spec (λ c κs. search needs) (λ c κs. search needs) returns)

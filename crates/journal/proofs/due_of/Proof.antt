@@ -11,15 +11,21 @@ use Rattle.journal.proofs.due_of.Tie as tie
 
 returns : tie.Need-returns
 returns c = let a = c .before .before .before .before .before .args in
-    stands-as _ (ap (λ (x : CallResult). expectReplyUnlessEmpty (a .reply .session) (replyRecordWithWholeBuffer x (a .buffer))) (sym (c .before .before .answer .given .1))) (c .command-due .ensures)
+    stands-as _
+    (ap (λ (x : CallResult). expectReplyUnlessEmpty (a .reply .session) (replyRecordWithWholeBuffer x (a .buffer)))
+    (sym (c .before .before .answer .given .1))) (c .command-due .ensures)
 
 returns-2 : tie.Need-returns-2
 returns-2 c = let a = c .before .before .before .before .before .args in
-    stands-as _ (ap (λ (x : CallResult). expectReplyUnlessEmpty (a .reply .session) (replyRecordWithWholeBuffer x (a .buffer))) (sym (c .before .before .answer2 .given .1))) (c .outcome-due .ensures)
+    stands-as _
+    (ap (λ (x : CallResult). expectReplyUnlessEmpty (a .reply .session) (replyRecordWithWholeBuffer x (a .buffer)))
+    (sym (c .before .before .answer2 .given .1))) (c .outcome-due .ensures)
 
 returns-3 : tie.Need-returns-3
 returns-3 c = let a = c .before .before .before .before .args in
-    stands-as _ (ap (λ (x : CallResult). expectReplyUnlessEmpty (a .reply .session) (replyRecordWithWholeBuffer x (a .buffer))) (sym (c .before .enum-told .given .1))) (c .wrong .ensures)
+    stands-as _
+    (ap (λ (x : CallResult). expectReplyUnlessEmpty (a .reply .session) (replyRecordWithWholeBuffer x (a .buffer)))
+    (sym (c .before .enum-told .given .1))) (c .wrong .ensures)
 
 pub due-of-spec : {M : Type 1} → statement M
 due-of-spec =

@@ -1,4 +1,5 @@
--- `journal::expected_reply_record` meets its contract: one law for each way out; a checker that was fed some bytes keeps what
+-- `journal::expected_reply_record` meets its contract: one law for each way out; a checker that was fed some bytes
+-- keeps what
 -- was expected there.
 -- Assumes nothing.
 use mathlib.Core.Logic.{inl, inr}
@@ -18,7 +19,8 @@ returns c =
 
 returns-2 : tie.Need-returns-2
 returns-2 c = let k = c .before .before .before .before .args .checker in
-    let l = ltb-false 264 (k .standing .size) (c .before .if2 .left) in wanted-told k _ (wants-due k (c .before .before .if1 .left) l) l
+    let l = ltb-false 264 (k .standing .size) (c .before .if2 .left) in
+    wanted-told k _ (wants-due k (c .before .before .if1 .left) l) l
 
 pub expected-reply-record-spec : {M : Type 1} → statement M
 expected-reply-record-spec = tie.close (tie.spec returns returns-2)

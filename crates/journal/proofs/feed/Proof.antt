@@ -20,7 +20,8 @@ abbrev μ-loop : tie.MeasureT-loop
 μ-loop part next₀ i₀ next i = length part - i
 
 returns : tie.Need-returns Inv-loop μ-loop
-returns c = let v = c .before .before .before .before .args .part .now in fed _ _ v v (stays-all _ v (not-true _ (c .if1 .taken))) refl
+returns c = let v = c .before .before .before .before .args .part .now in
+    fed _ _ v v (stays-all _ v (not-true _ (c .if1 .taken))) refl
 
 loop-holds : tie.Need-loop-holds Inv-loop μ-loop
 loop-holds c = let a = c .before .before .before .before .args in pushed-none (a .checker) (a .part .now)

@@ -15,10 +15,12 @@ returns-2 : tie.Need-returns-2
 returns-2 c = told _ _ (says-whole _ (not-false _ (c .before .before .if1 .left)) (c .if2 .taken))
 
 returns-3 : tie.Need-returns-3
-returns-3 c = told _ _ (says-many _ (not-false _ (c .before .before .before .before .if1 .left)) (c .before .before .if2 .left) (omega (arith, c .if3 .taken)))
+returns-3 c = told _ _ (says-many _ (not-false _ (c .before .before .before .before .if1 .left))
+    (c .before .before .if2 .left) (omega (arith, c .if3 .taken)))
 
 returns-4 : tie.Need-returns-4
-returns-4 c = told _ _ (says-held _ (not-false _ (c .before .before .before .before .before .if1 .left)) (c .before .before .before .if2 .left) (omega (arith, c .before .if3 .left)))
+returns-4 c = told _ _ (says-held _ (not-false _ (c .before .before .before .before .before .if1 .left))
+    (c .before .before .before .if2 .left) (omega (arith, c .before .if3 .left)))
 
 pub finish-spec : {M : Type 1} → statement M
 finish-spec = tie.close (tie.spec returns returns-2 returns-3 (λ c. search needs) returns-4)

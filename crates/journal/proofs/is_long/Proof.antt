@@ -11,7 +11,8 @@ returns c = let e = c .before .length-in .ensures .0 in
     sym (long-no _ (λ z. c .if1 .taken (e ∙ z)))
 
 returns-2 : tie.Need-returns-2
-returns-2 c = c .is-zero .ensures ∙ long-tail _ (sym (c .before .before .before .length-in .ensures .0) ∙ c .before .before .if1 .left)
+returns-2 c = c .is-zero .ensures ∙ long-tail _ (sym (c .before .before .before .length-in .ensures .0) ∙
+    c .before .before .if1 .left)
 
 pub is-long-spec : {M : Type 1} → statement M
 is-long-spec =

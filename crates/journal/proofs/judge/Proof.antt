@@ -14,27 +14,39 @@ use Rattle.journal.proofs.judge.Tie as tie
 
 returns : tie.Need-returns
 returns c = let a = c .before .before .before .before .args in
-    stands-as _ (ap (λ (k : ℕ). judgeRecord (expectedNext (a .standing .session) (take k (a .standing .due))) (a .whole .now)) (sym (c .before .if1 .taken))) (c .called .ensures)
+    stands-as _
+    (ap (λ (k : ℕ). judgeRecord (expectedNext (a .standing .session) (take k (a .standing .due))) (a .whole .now))
+    (sym (c .before .if1 .taken))) (c .called .ensures)
 
 array-share-prefix-due : tie.Need-array-share-prefix-due
-array-share-prefix-due c = let l : length (c .before .before .before .before .args .standing .due) ≡ 264 = search needs in omega (arith, c .before .before .before .before .pre .1)
+array-share-prefix-due c = let l : length (c .before .before .before .before .args .standing .due) ≡ 264 = search needs
+    in omega (arith, c .before .before .before .before .pre .1)
 
 slice-aggregate-same : tie.Need-slice-aggregate-bytes-equal
 slice-aggregate-same c = let a = c .before .before .before .before .before .args in
     let l : length (a .standing .due) ≡ 264 = search needs in
-    sym (length-take-le (a .standing .size) (a .standing .due) (omega (arith, c .before .before .before .before .before .pre .1)))
+    sym (length-take-le (a .standing .size) (a .standing .due)
+    (omega (arith, c .before .before .before .before .before .pre .1)))
 
 returns-2 : tie.Need-returns-2
 returns-2 c = let a = c .before .before .before .before .before .before .before .before .args in
     let l : length (a .standing .due) ≡ 264 = search needs in
-    let n = length-take-le (a .standing .size) (a .standing .due) (omega (arith, c .before .before .before .before .before .before .before .before .pre .1)) in
-    stands-as _ (sym (reply-due _ (take (a .standing .size) (a .standing .due)) (a .whole .now) (omega (arith, c .before .before .before .before .before .if1 .left)) ∙ if-yes _ _ (sym (c .before .before .bytes-equal .ensures) ∙ c .before .if2 .taken))) (c .waiting .ensures)
+    let n = length-take-le (a .standing .size) (a .standing .due)
+    (omega (arith, c .before .before .before .before .before .before .before .before .pre .1)) in
+    stands-as _
+    (sym (reply-due _ (take (a .standing .size) (a .standing .due)) (a .whole .now)
+    (omega (arith, c .before .before .before .before .before .if1 .left)) ∙ if-yes _ _
+    (sym (c .before .before .bytes-equal .ensures) ∙ c .before .if2 .taken))) (c .waiting .ensures)
 
 returns-3 : tie.Need-returns-3
 returns-3 c = let a = c .before .before .before .before .before .before .before .before .args in
     let l : length (a .standing .due) ≡ 264 = search needs in
-    let n = length-take-le (a .standing .size) (a .standing .due) (omega (arith, c .before .before .before .before .before .before .before .before .pre .1)) in
-    stands-as _ (sym (reply-due _ (take (a .standing .size) (a .standing .due)) (a .whole .now) (omega (arith, c .before .before .before .before .before .if1 .left)) ∙ if-no _ _ (sym (c .before .before .bytes-equal .ensures) ∙ c .before .if2 .left))) (c .wrong .ensures)
+    let n = length-take-le (a .standing .size) (a .standing .due)
+    (omega (arith, c .before .before .before .before .before .before .before .before .pre .1)) in
+    stands-as _
+    (sym (reply-due _ (take (a .standing .size) (a .standing .due)) (a .whole .now)
+    (omega (arith, c .before .before .before .before .before .if1 .left)) ∙ if-no _ _
+    (sym (c .before .before .bytes-equal .ensures) ∙ c .before .if2 .left))) (c .wrong .ensures)
 
 pub judge-spec : {M : Type 1} → statement M
 judge-spec =

@@ -10,7 +10,9 @@ use Rattle.journal.proofs.outcome_due.Statement.{statement}
 use Rattle.journal.proofs.outcome_due.Tie as tie
 
 returns : tie.Need-returns
-returns c = ap (λ (x : ℕ). checkStateOf (expectedNext (c .before .args .session) (6 ∷ x ∷ c .before .args .end .reason ∷ []))) (c .outcome-number .ensures)
+returns c =
+    ap (λ (x : ℕ). checkStateOf (expectedNext (c .before .args .session) (6 ∷ x ∷ c .before .args .end .reason ∷ [])))
+    (c .outcome-number .ensures)
 
 pub outcome-due-spec : {M : Type 1} → statement M
 outcome-due-spec =

@@ -18,8 +18,10 @@ padded-once : (form m n : ℕ) (v : List ℕ) → length v ≤ m → m ≤ n →
 padded-once form m n v h k = record { padding = padded-twice form m n v h k; fitting = fitted-twice form m n v h k }
 
 returns : tie.Need-returns
-returns c =
-    (refl, (filled-join, (contents-agree, (answers-agree, (padded-once, (whole, (accepted-whole, (room, most-held))))))))
+returns c = (
+  refl,
+  (filled-join, (contents-agree, (answers-agree, (padded-once, (whole, (accepted-whole, (room, most-held))))))),
+)
 
 pub records-in-any-order-spec : {M : Type 1} → statement M
 records-in-any-order-spec = tie.close (tie.spec returns)

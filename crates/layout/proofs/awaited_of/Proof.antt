@@ -31,4 +31,5 @@ returns-4 c =
     ∙ if-no _ _ (ne-eqb _ _ (c .if3 .left))))
 
 pub awaited-of-spec : {M : Type 1} → statement M
-awaited-of-spec = tie.close (tie.spec returns returns-2 (λ c κs. search needs) (λ c κs. search needs) returns-3 returns-4)
+awaited-of-spec = tie.close (tie.spec returns returns-2 (λ c κs. search needs) (λ c κs. search needs) returns-3
+    returns-4)

@@ -12,7 +12,8 @@ returns : tie.Need-returns
 returns c =
     let f = c .before .before .before .before in
     let l = f .before .before .before .args .bytes .now in
-    ap (phaseFields (getD l 1 0) (getD l 2 0) (getD l 3 0) (getD l 5 0)) (f .limit-from .ensures ∙ ap bigEndianNumber (f .before .limit-in .ensures))
+    ap (phaseFields (getD l 1 0) (getD l 2 0) (getD l 3 0) (getD l 5 0))
+    (f .limit-from .ensures ∙ ap bigEndianNumber (f .before .limit-in .ensures))
 
 pub code-in-spec : {M : Type 1} → statement M
 code-in-spec =

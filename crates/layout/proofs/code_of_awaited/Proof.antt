@@ -11,7 +11,11 @@ returns-2 : tie.Need-returns-2
 returns-2 c = rw (c .before .awaited .given .1)
 
 returns-3 : tie.Need-returns-3
-returns-3 c = rw (c .before .before .before .awaited2 .given .1, c .before .generate-ac-p1 .ensures, c .cvm-number .ensures)
+returns-3 c = rw (
+  c .before .before .before .awaited2 .given .1,
+  c .before .generate-ac-p1 .ensures,
+  c .cvm-number .ensures,
+)
 
 returns-4 : tie.Need-returns-4
 returns-4 c = rw (c .before .awaited3 .given .1)

@@ -16,12 +16,15 @@ use Rattle.layout.proofs.decode_record.Tie as tie
 returns : tie.Need-returns
 returns c =
     let h = c .before .before in
-    let a = h .before .before in
-    ( record {
+    let a = h .before .before in (
+      record {
         held = h .decode-record-head .ensures;
-        store = sym (ap (λ (x : Option Session). decodedStoreOrUnchanged x (a .args .store .now)) (held-none (decodedSession (a .args .bytes .now)) (sym (h .decode-record-head .ensures) ∙ c .enum-told2 .given .1)));
-      }
-    , a .pre )
+        store = sym (ap (λ (x : Option Session). decodedStoreOrUnchanged x (a .args .store .now))
+            (held-none (decodedSession (a .args .bytes .now))
+            (sym (h .decode-record-head .ensures) ∙ c .enum-told2 .given .1)));
+      },
+      a .pre,
+    )
 
 part-copy-end : tie.Need-part-copy-end
 part-copy-end c =
@@ -35,9 +38,14 @@ returns-2 c =
     let a = h .before .before in
     let l = a .args .bytes .now in
     let k = held-some l _ (sym (h .decode-record-head .ensures) ∙ t .enum-told .given .1) in
-    let s = take-store l (a .args .store .now) (c .copy .last .1 .0) (k .0) (a .pre) (c .copy .ensures .1) in
-    ( record { held = h .decode-record-head .ensures; store = s ∙ sym (ap (λ (x : Option Session). decodedStoreOrUnchanged x (a .args .store .now)) (k .1)) }
-    , ap length s ∙ simp (length-take, length-drop) (omega (arith, k .0)) )
+    let s = take-store l (a .args .store .now) (c .copy .last .1 .0) (k .0) (a .pre) (c .copy .ensures .1) in (
+      record {
+        held = h .decode-record-head .ensures;
+        store =
+            s ∙ sym (ap (λ (x : Option Session). decodedStoreOrUnchanged x (a .args .store .now)) (k .1));
+      },
+      ap length s ∙ simp (length-take, length-drop) (omega (arith, k .0)),
+    )
 
 pub decode-record-spec : {M : Type 1} → statement M
 decode-record-spec =

@@ -11,15 +11,19 @@ use Rattle.layout.proofs.decode_record_head.Statement.{statement}
 use Rattle.layout.proofs.decode_record_head.Tie as tie
 
 -- the phase is that of the bytes
-phased : (c : tie.After-phase-of) → c .phase-of .result ≡ phaseInHead (c .before .before .before .before .args .bytes .now)
+phased : (c : tie.After-phase-of)
+    → c .phase-of .result ≡ phaseInHead (c .before .before .before .before .args .bytes .now)
 phased c = c .phase-of .ensures ∙ ap phaseOfPhaseFields (c .before .code-in .ensures)
 
 -- the test of the head is that of the bytes
-tested : (c : tie.After-bytes-equal) → let l = c .before .before .before .before .before .before .before .before .before .before .args .bytes .now in
+tested : (c : tie.After-bytes-equal)
+    → let l = c .before .before .before .before .before .before .before .before .before .before .args .bytes .now in
     bytesEqual (ownHead l) (take recordHeadSize l) ≡ c .bytes-equal .result
 tested c =
     let h = c .before .before .before in
-    sym (c .bytes-equal .ensures ∙ rw (h .head-of .ensures, h .before .code-of .ensures, phased (h .before .before .before)) refl)
+    sym
+    (c .bytes-equal .ensures ∙ rw (h .head-of .ensures, h .before .code-of .ensures, phased (h .before .before .before))
+    refl)
 
 returns : tie.Need-returns
 returns c = sym (ap decodedRecordHead (decoded-short _ (c .if1 .taken)))
@@ -30,7 +34,10 @@ returns-2 c = sym (ap decodedRecordHead (decoded-head _ (tested (c .before) ∙ 
 returns-3 : tie.Need-returns-3
 returns-3 c =
     let p = c .before .before .before .before .before .before .before in
-    rw (phased p) (sym (ap decodedRecordHead (decoded-some _ (p .before .before .if1 .left) (tested (c .before) ∙ not-false _ (c .if2 .left)))))
+    rw (phased p)
+    (sym
+    (ap decodedRecordHead
+    (decoded-some _ (p .before .before .if1 .left) (tested (c .before) ∙ not-false _ (c .if2 .left)))))
 
 pub decode-record-head-spec : {M : Type 1} → statement M
 decode-record-head-spec =

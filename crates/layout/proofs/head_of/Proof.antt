@@ -12,7 +12,8 @@ use Rattle.layout.proofs.head_of.Tie as tie
 returns : tie.Need-returns
 returns c =
     let k = c .args .code in
-    ap (λ (x : List ℕ). layoutVersion ∷ k .number ∷ k .datum ∷ k .reason ∷ c .args .count ∷ k .cvm ∷ x) (eight-bytes (k .limit))
+    ap (λ (x : List ℕ). layoutVersion ∷ k .number ∷ k .datum ∷ k .reason ∷ c .args .count ∷ k .cvm ∷ x)
+    (eight-bytes (k .limit))
 
 pub head-of-spec : {M : Type 1} → statement M
 head-of-spec =

@@ -12,4 +12,5 @@ returns c = copied _ _ _ (simp (length-take, length-drop) (omega arith)) (c .bef
 
 pub limit-in-spec : {M : Type 1} → statement M
 limit-in-spec =
-    tie.close (tie.spec (λ c. search needs) (λ c. search needs) (λ c. search needs) (λ c. search needs) (λ c κs. search needs) returns)
+    tie.close (tie.spec (λ c. search needs) (λ c. search needs) (λ c. search needs) (λ c. search needs)
+    (λ c κs. search needs) returns)

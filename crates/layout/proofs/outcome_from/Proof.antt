@@ -29,7 +29,9 @@ returns-5 : tie.Need-returns-5
 unfolding elementWithNumber
 returns-5 c =
     let r = c .match .rest in
-    sym (if-no _ _ (ne-eqb _ _ (r .0 .0 .0 .1)) ∙ (if-no _ _ (ne-eqb _ _ (r .0 .0 .1)) ∙ (if-no _ _ (ne-eqb _ _ (r .0 .1)) ∙ if-no _ _ (ne-eqb _ _ (r .1)))))
+    sym
+    (if-no _ _ (ne-eqb _ _ (r .0 .0 .0 .1)) ∙
+    (if-no _ _ (ne-eqb _ _ (r .0 .0 .1)) ∙ (if-no _ _ (ne-eqb _ _ (r .0 .1)) ∙ if-no _ _ (ne-eqb _ _ (r .1)))))
 
 pub outcome-from-spec : {M : Type 1} → statement M
 outcome-from-spec = tie.close (tie.spec returns returns-2 returns-3 returns-4 returns-5)

@@ -28,9 +28,11 @@ written c =
     let copy = c .before .before in
     let h = copy .before .before .before in
     let a = h .before .before .before .before .args in
-    let size : length (h .head-of .result) ≡ recordHeadSize = ap length (made h) ∙ head-length (phaseFieldsOf (a .phase)) (a .count) in
+    let size : length (h .head-of .result) ≡ recordHeadSize = ap length (made h) ∙ head-length
+    (phaseFieldsOf (a .phase)) (a .count) in
     ap (putMid 0 recordHeadSize (a .bytes .now))
-    (copied (h .head-of .result) _ (copy .copy .last .1 .0) (simp (length-take, length-drop) (omega arith)) (copy .copy .ensures .1) ∙ made h)
+    (copied (h .head-of .result) _ (copy .copy .last .1 .0) (simp (length-take, length-drop) (omega arith))
+    (copy .copy .ensures .1) ∙ made h)
     ∙ sym (headed-yes (a .bytes .now) (a .phase) (a .count) (h .before .before .if1 .left))
 
 same-length : tie.Need-same-length

@@ -44,7 +44,7 @@ returns-5 c =
     let q = c .before .before .before in
     let a = q .before .before .before .before .before .before .before .args in
     let n : c .before .before .bit-count .result - c .before .widen .result ≡ unDigitCount (a .bitmaps) =
-        omega (arith, c .before .before .bit-count .ensures, c .before .widen .ensures) in
+    omega (arith, c .before .before .bit-count .ensures, c .before .widen .ensures) in
     ap (λ (n : ℕ). leb n 8) n
     ∙ by-eight (a .track .now) (a .bitmaps) _ (q .before .before .before .before .before .discretionary-of .ensures)
     (q .before .before .before .before .if1 .left)

@@ -9,13 +9,15 @@ use lib.ListN.{length}
 use Rattle.basics.specs.Number.{nibbles}
 use Rattle.mag_stripe.specs.Bitmap.{bitmapPlacesFromOne}
 use Rattle.mag_stripe.proofs.Nibbles.{length-nibbles}
-use Rattle.mag_stripe.proofs.Writing.{Copying, copying-start, copying-one, copying-some, copying-place, copying-end}
+use Rattle.mag_stripe.proofs.Writing.{Copying, copying-start, copying-one, copying-some, copying-place}
+use Rattle.mag_stripe.proofs.Writing.{copying-end}
 use Rattle.mag_stripe.proofs.copy.Statement.{statement}
 use Rattle.mag_stripe.proofs.copy.Tie as tie
 
 abbrev Inv-loop : tie.InvT-loop
 Inv-loop track₀ end bitmap count number base rest₀ left₀ copied₀ track rest left copied =
-    (length track ≡ length track₀) × Copying end base number count (bitmapPlacesFromOne bitmap) (nibbles track₀) copied left (bitmapPlacesFromOne rest) (nibbles track)
+    (length track ≡ length track₀) × Copying end base number count (bitmapPlacesFromOne bitmap) (nibbles track₀) copied
+    left (bitmapPlacesFromOne rest) (nibbles track)
 
 abbrev μ-loop : tie.MeasureT-loop
 μ-loop track₀ end bitmap count number base rest₀ left₀ copied₀ track rest left copied = count - copied
@@ -31,7 +33,8 @@ next-place-requires : tie.Need-next-place-requires Inv-loop μ-loop
 next-place-requires c κs = copying-some (c .before .loop .inv .1) (c .loop-test .taken)
 
 sub-put-nibble : tie.Need-sub-put-nibble Inv-loop μ-loop
-sub-put-nibble c = copying-place (c .before .before .before .before .loop .inv .1) _ _ (c .before .before .next-place .ensures .0)
+sub-put-nibble c = copying-place (c .before .before .before .before .loop .inv .1) _ _
+    (c .before .before .next-place .ensures .0)
 
 rem-put-nibble : tie.Need-rem-put-nibble Inv-loop μ-loop
 rem-put-nibble c = omega arith
@@ -46,10 +49,19 @@ put-nibble-requires : tie.Need-put-nibble-requires Inv-loop μ-loop
 put-nibble-requires c κs =
     let lp = c .before .before .before .before .loop in
     let s = c .before .before .before .before .before .before in
-    let place = copying-place (lp .inv .1) _ _ (c .before .before .next-place .ensures .0) in
-    (omega (arith, place, c .before .before .next-place .ensures .1, s .pre .1 .0 .0, lp .inv .0, length-nibbles (lp .track),
-     length-nibbles (s .args .track .now)),
-     digit (lp .left) (s .args .base) (s .pre .1 .1))
+    let place = copying-place (lp .inv .1) _ _ (c .before .before .next-place .ensures .0) in (
+      omega (
+        arith,
+        place,
+        c .before .before .next-place .ensures .1,
+        s .pre .1 .0 .0,
+        lp .inv .0,
+        length-nibbles
+            (lp .track),
+        length-nibbles (s .args .track .now),
+      ),
+      digit (lp .left) (s .args .base) (s .pre .1 .1),
+    )
 
 div-left : tie.Need-div-left Inv-loop μ-loop
 div-left c = omega arith
@@ -62,9 +74,11 @@ loop-less c = omega arith
 
 loop-again : tie.Need-loop-again Inv-loop μ-loop
 loop-again c =
-    let lp = c .before .before .before .before .before .before .before .loop in
-    (c .before .before .put-nibble .kept .0 ∙ lp .inv .0,
-     copying-one (lp .inv .1) _ _ _ (omega arith) (c .before .before .before .before .before .next-place .ensures .0) (c .before .before .put-nibble .ensures))
+    let lp = c .before .before .before .before .before .before .before .loop in (
+      c .before .before .put-nibble .kept .0 ∙ lp .inv .0,
+      copying-one (lp .inv .1) _ _ _ (omega arith) (c .before .before .before .before .before .next-place .ensures .0)
+          (c .before .before .put-nibble .ensures),
+    )
 
 same-length : tie.Need-same-length Inv-loop μ-loop
 same-length c = c .before .loop .inv .0

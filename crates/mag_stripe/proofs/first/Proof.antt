@@ -11,7 +11,8 @@ use Rattle.mag_stripe.proofs.first.Statement.{statement}
 use Rattle.mag_stripe.proofs.first.Tie as tie
 
 abbrev Inv-loop : tie.InvT-loop
-Inv-loop track from x i₀ i = from + nibblesBefore x (drop from (nibbles track)) ≡ i + nibblesBefore x (drop i (nibbles track))
+Inv-loop track from x i₀ i = from + nibblesBefore x (drop from (nibbles track)) ≡ i + nibblesBefore x
+    (drop i (nibbles track))
 
 abbrev μ-loop : tie.MeasureT-loop
 μ-loop track from x i₀ i = length track * 2 - i
@@ -44,7 +45,8 @@ loop-again c =
     let lp = c .before .before .before .loop in
     let a = c .before .before .before .before .before .args in
     let n : lp .i < length (nibbles (a .track .now)) = omega (arith, length-nibbles (a .track .now)) in
-    lp .inv ∙ before-next (a .x) (nibbles (a .track .now)) (lp .i) n (λ e. c .if1 .left (c .before .nibble .ensures ∙ e))
+    lp .inv ∙ before-next (a .x) (nibbles (a .track .now)) (lp .i) n
+    (λ e. c .if1 .left (c .before .nibble .ensures ∙ e))
 
 returns-2 : tie.Need-returns-2 Inv-loop μ-loop
 returns-2 c =

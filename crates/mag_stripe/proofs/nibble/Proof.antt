@@ -13,7 +13,8 @@ returns : tie.Need-returns
 returns c = sym (high-nibble _ _ (c .if1 .taken))
 
 returns-2 : tie.Need-returns-2
-returns-2 c = sym (low-nibble (c .before .before .args .track .now) (c .before .before .args .i) (omega (arith, c .if1 .left)))
+returns-2 c = sym (low-nibble (c .before .before .args .track .now) (c .before .before .args .i)
+    (omega (arith, c .if1 .left)))
 
 pub nibble-spec : {M : Type 1} → statement M
 nibble-spec = tie.close (tie.spec shared-slice-read-b returns returns-2)

@@ -13,9 +13,15 @@ write-digits-requires c κs = sym (c .before .before .can-take-digits .ensures) 
 returns : tie.Need-returns
 returns c =
     let a = c .before .before .before .before .before .before .before .before .args in
-    let s = sym (c .before .before .before .before .before .can-take-digits .ensures) ∙ c .before .before .before .before .if1 .taken in
-    let e = c .before .before .write-digits .ensures in
-    (filled-sound _ _ _ _ s e, (kept-sound (a .track .now) _ _ _ s (c .before .before .write-digits .kept .0) e, twice-sound (a .track .now) _ _ _ s e))
+    let s = sym (c .before .before .before .before .before .can-take-digits .ensures) ∙
+    c .before .before .before .before .if1 .taken in
+    let e = c .before .before .write-digits .ensures in (
+      filled-sound _ _ _ _ s e,
+      (
+        kept-sound (a .track .now) _ _ _ s (c .before .before .write-digits .kept .0) e,
+        twice-sound (a .track .now) _ _ _ s e,
+      ),
+    )
 
 returns-2 : tie.Need-returns-2
 returns-2 c =

@@ -38,7 +38,8 @@ same-length-2 : tie.Need-same-length-2
 same-length-2 c = search needs
 
 returns-2 : tie.Need-returns-2
-returns-2 c = low-set (c .before .before .args .track .now) (c .before .before .args .i) _ (omega (arith, c .if1 .left)) (c .before .before .pre .1)
+returns-2 c = low-set (c .before .before .args .track .now) (c .before .before .args .i) _ (omega (arith, c .if1 .left))
+    (c .before .before .pre .1)
 
 pub put-nibble-spec : {M : Type 1} → statement M
 put-nibble-spec =

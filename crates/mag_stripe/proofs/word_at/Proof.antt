@@ -17,7 +17,8 @@ two-bytes s i h l e f = rw (e, f, getD-drop i s 0 0, getD-drop i s 1 0, add-zero
 returns : tie.Need-returns
 returns c =
     let a = c .before .before .before .before .before .args in
-    two-bytes (a .s .now) (a .i) _ _ (c .before .before .widen .ensures .0 ∙ c .before .before .before .byte-at .ensures)
+    two-bytes (a .s .now) (a .i) _ _
+    (c .before .before .widen .ensures .0 ∙ c .before .before .before .byte-at .ensures)
     (c .widen2 .ensures .0 ∙ c .before .byte-at2 .ensures)
 
 pub word-at-spec : {M : Type 1} → statement M

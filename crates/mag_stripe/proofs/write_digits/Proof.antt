@@ -28,7 +28,8 @@ module _ (c : tie.After-bit-count2) where
   is-sound : Sound (at-start .args .track .now) (at-start .args .bitmaps)
   is-sound = sound-gives _ _ (at-start .pre)
 
-  has-room : Room (c .before .before .before .discretionary-of .result .end) (at-start .args .track .now) (at-start .args .bitmaps)
+  has-room : Room (c .before .before .before .discretionary-of .result .end) (at-start .args .track .now)
+      (at-start .args .bitmaps)
   has-room = room _ _ _ (c .before .before .before .discretionary-of .ensures) is-sound
 
 sub-n : tie.Need-sub-n
@@ -36,16 +37,19 @@ sub-n c = omega (arith, is-sound c .counter, c .bit-count2 .ensures, c .before .
 
 copy-requires : tie.Need-copy-requires
 copy-requires c κs =
-    let r = has-room (c .before .before) in
-    (omega (arith, c .before .before .before .before .bit-count .ensures), ((r .inside, r .code), (omega arith, omega arith)))
+    let r = has-room (c .before .before) in (
+      omega (arith, c .before .before .before .before .bit-count .ensures),
+      ((r .inside, r .code), (omega arith, omega arith)),
+    )
 
 copy-requires-2 : tie.Need-copy-requires-2
 copy-requires-2 c κs =
     let k₁ = c .before .before .before in
     let q = k₁ .before .before .before in
-    let r = has-room q in
-    (omega (arith, q .bit-count2 .ensures, q .before .widen .ensures),
-     ((longer _ _ _ (k₁ .copy .kept .0) (r .inside), r .number), (omega arith, omega arith)))
+    let r = has-room q in (
+      omega (arith, q .bit-count2 .ensures, q .before .widen .ensures),
+      ((longer _ _ _ (k₁ .copy .kept .0) (r .inside), r .number), (omega arith, omega arith)),
+    )
 
 copy-requires-3 : tie.Need-copy-requires-3
 copy-requires-3 c κs =
@@ -55,9 +59,20 @@ copy-requires-3 c κs =
     let r = has-room q in
     let n = q .bit-count2 .result - q .before .widen .result in
     let ps = bitmapPlacesFromOne (at-start q .args .bitmaps .punatc) in
-    let rest = k₂ .copy2 .ensures .0 in
-    (omega (arith, ap length rest ∙ length-drop n ps, q .bit-count2 .ensures, q .before .widen .ensures, is-sound q .counter),
-     ((longer _ _ _ (k₂ .copy2 .kept .0 ∙ k₁ .copy .kept .0) (r .inside), rw rest (upTo-drop _ n ps (r .number))), (omega arith, omega arith)))
+    let rest = k₂ .copy2 .ensures .0 in (
+      omega (
+        arith,
+        ap length rest ∙ length-drop n ps,
+        q .bit-count2 .ensures,
+        q .before .widen .ensures,
+        is-sound
+            q .counter,
+      ),
+      (
+        (longer _ _ _ (k₂ .copy2 .kept .0 ∙ k₁ .copy .kept .0) (r .inside), rw rest (upTo-drop _ n ps (r .number))),
+        (omega arith, omega arith),
+      ),
+    )
 
 -- the last digit
 module _ (c : tie.After-put-nibble-arg) where
@@ -94,12 +109,16 @@ returns c =
     let a = at-start q .args in
     all-written (a .bitmaps) (a .values) (q .before .before .before .discretionary-of .result .end)
     (q .before .before .bit-count .result) (q .bit-count2 .result - q .before .widen .result) (q .before .widen .result)
-    (nibbles (a .track .now)) (nibbles (k₁ .copy .last .0)) (nibbles (k₂ .copy2 .last .0)) (nibbles (k₃ .copy3 .last .0))
+    (nibbles (a .track .now)) (nibbles (k₁ .copy .last .0)) (nibbles (k₂ .copy2 .last .0))
+    (nibbles (k₃ .copy3 .last .0))
     (nibbles (p .put-nibble .last .0)) (bitmapPlacesFromOne (k₂ .copy2 .result))
-    (q .before .before .bit-count .ensures .0) (omega (arith, q .bit-count2 .ensures, q .before .widen .ensures)) (q .before .widen .ensures .0)
+    (q .before .before .bit-count .ensures .0) (omega (arith, q .bit-count2 .ensures, q .before .widen .ensures))
+    (q .before .widen .ensures .0)
     (is-sound q .counter)
-    (k₁ .copy .ensures .1) (k₂ .copy2 .ensures .1) (k₂ .copy2 .ensures .0) (k₃ .copy3 .ensures .1) (p .put-nibble .ensures)
-    ∙ ap (λ (d : DiscretionaryData). placedDigitsWrittenBeforeEnd (d .end) (trackDigits (a .bitmaps) (a .values)) (nibbles (a .track .now)))
+    (k₁ .copy .ensures .1) (k₂ .copy2 .ensures .1) (k₂ .copy2 .ensures .0) (k₃ .copy3 .ensures .1)
+    (p .put-nibble .ensures)
+    ∙ ap (λ (d : DiscretionaryData). placedDigitsWrittenBeforeEnd (d .end) (trackDigits (a .bitmaps) (a .values))
+    (nibbles (a .track .now)))
     (q .before .before .before .discretionary-of .ensures)
 
 pub write-digits-spec : {M : Type 1} → statement M

@@ -14,10 +14,15 @@ returns c =
     let p = c .before .before .before .before .before in
     let a = p .before .before .before .before .before .before .before .before .args in
     let q = p .personalise .ensures in
-    let w = sym (ap isPersonaliseWordOfWritten (c .word .ensures) ∙ says-written (p .personalise .result) (q .1 .1 .1 .0)) in (
+    let w = sym (ap isPersonaliseWordOfWritten (c .word .ensures) ∙ says-written (p .personalise .result)
+    (q .1 .1 .1 .0)) in (
       c .word .ensures ∙ ap personaliseWord (q .0),
-      (q .1 .0 ∙ ap (λ (b : Bool). recordsBufferAfter b (cardPlan (a .objects .now) (a .entries .now) (a .placements .now)) (a .records .now)) w,
-      q .1 .1 .0 ∙ ap (λ (b : Bool). aflBufferAfter b (a .entries .now) (a .afl .now)) w),
+      (
+        q .1 .0 ∙ ap
+            (λ (b : Bool). recordsBufferAfter b (cardPlan (a .objects .now) (a .entries .now) (a .placements .now))
+            (a .records .now)) w,
+        q .1 .1 .0 ∙ ap (λ (b : Bool). aflBufferAfter b (a .entries .now) (a .afl .now)) w,
+      ),
     )
 
 pub emv-personalise-spec : {M : Type 1} → statement M

@@ -21,9 +21,18 @@ write-all-requires c κs =
     let st = k .before .before .before .before .before .before in
     let a = st .args in
     let m = total-most (a .entries .now) (st .pre .1 .1) in
-    let e = k .count-records .ensures .0 in
-    (st .pre .0, (st .pre .1 .0, ((e, omega (arith, m, e), omega (arith, afl-most (a .entries .now) (st .pre .1 .1))),
-      fitting-of (parsedObjectsOrEmpty (a .objects .now)) (placementsIn (a .placements .now)) (k .count-records .result) (sym (b .bad-record .ensures) ∙ n .enum-told .given .1) (omega (arith, m, e)))))
+    let e = k .count-records .ensures .0 in (
+      st .pre .0,
+      (
+        st .pre .1 .0,
+        (
+          (e, omega (arith, m, e), omega (arith, afl-most (a .entries .now) (st .pre .1 .1))),
+          fitting-of (parsedObjectsOrEmpty (a .objects .now)) (placementsIn (a .placements .now))
+              (k .count-records .result)
+              (sym (b .bad-record .ensures) ∙ n .enum-told .given .1) (omega (arith, m, e)),
+        ),
+      ),
+    )
 
 returns : tie.Need-returns
 returns c =
@@ -31,8 +40,13 @@ returns c =
     let b = f .before .before in
     let k = b .before in
     let a = k .before .before .before .before .before .before .args in (
-      sym (record-stage (cardPlan (a .objects .now) (a .entries .now) (a .placements .now)) (k .count-records .result) (k .count-records .ensures .0) (b .bad-record .ensures) (f .fault .given .1)),
-      (records-stay (cardPlan (a .objects .now) (a .entries .now) (a .placements .now)) (a .records .now), afl-stays (a .entries .now) (a .afl .now)),
+      sym (record-stage (cardPlan (a .objects .now) (a .entries .now) (a .placements .now)) (k .count-records .result)
+          (k .count-records .ensures .0) (b .bad-record .ensures) (f .fault .given .1)),
+      (
+        records-stay (cardPlan (a .objects .now) (a .entries .now) (a .placements .now)) (a .records .now),
+        afl-stays
+            (a .entries .now) (a .afl .now),
+      ),
     )
 
 returns-2 : tie.Need-returns-2
@@ -43,7 +57,8 @@ returns-2 c =
     let k = b .before in
     let a = k .before .before .before .before .before .before .args in
     let q = w .write-all .ensures in (
-      q .0 ∙ sym (record-stage (cardPlan (a .objects .now) (a .entries .now) (a .placements .now)) (k .count-records .result) (k .count-records .ensures .0) (b .bad-record .ensures) (n .enum-told .given .1)),
+      q .0 ∙ sym (record-stage (cardPlan (a .objects .now) (a .entries .now) (a .placements .now))
+          (k .count-records .result) (k .count-records .ensures .0) (b .bad-record .ensures) (n .enum-told .given .1)),
       q .1,
     )
 

@@ -19,8 +19,13 @@ returns c =
     let f = c .before in
     let b = f .before .before in
     let a = b .before .before .before .before .before .before .args in (
-      sym (entry-stage (cardPlan (a .objects .now) (a .entries .now) (a .placements .now)) (b .bad-entry .ensures) (f .fault .given .1)),
-      (records-stay (cardPlan (a .objects .now) (a .entries .now) (a .placements .now)) (a .records .now), afl-stays (a .entries .now) (a .afl .now)),
+      sym (entry-stage (cardPlan (a .objects .now) (a .entries .now) (a .placements .now)) (b .bad-entry .ensures)
+          (f .fault .given .1)),
+      (
+        records-stay (cardPlan (a .objects .now) (a .entries .now) (a .placements .now)) (a .records .now),
+        afl-stays
+            (a .entries .now) (a .afl .now),
+      ),
     )
 
 returns-2 : tie.Need-returns-2
@@ -29,8 +34,12 @@ returns-2 c =
     let n = w .before .before .before in
     let b = n .before .before in
     let a = b .before .before .before .before .before .before .args in
-    let q = w .with-entries .ensures in
-    (q .0 ∙ sym (entry-stage (cardPlan (a .objects .now) (a .entries .now) (a .placements .now)) (b .bad-entry .ensures) (n .enum-told .given .1)), q .1)
+    let q = w .with-entries .ensures in (
+      q .0 ∙ sym (entry-stage (cardPlan (a .objects .now) (a .entries .now) (a .placements .now))
+          (b .bad-entry .ensures)
+          (n .enum-told .given .1)),
+      q .1,
+    )
 
 pub with-list-spec : {M : Type 1} → statement M
 with-list-spec =

@@ -12,8 +12,10 @@ word-spec =
     tie.close
     (tie.spec
     (λ c. search needs)
-    (λ c. let s = subst PersonaliseFieldsWithinBounds (c .before .answer .given .1) (c .before .before .before .pre) in omega (arith, s .afl))
-    (λ c. let s = subst PersonaliseFieldsWithinBounds (c .before .answer .given .1) (c .before .before .before .pre) in omega (arith, s .afl, s .number))
+    (λ c. let s = subst PersonaliseFieldsWithinBounds (c .before .answer .given .1) (c .before .before .before .pre) in
+    omega (arith, s .afl))
+    (λ c. let s = subst PersonaliseFieldsWithinBounds (c .before .answer .given .1) (c .before .before .before .pre) in
+    omega (arith, s .afl, s .number))
     (λ c. search needs)
     (λ c. search needs)
     (λ c. search needs)
@@ -21,10 +23,12 @@ word-spec =
     (λ c. search needs)
     (λ c. search needs)
     (λ c. search needs)
-    (λ c. let s = subst PersonaliseFieldsWithinBounds (c .before .answer2 .given .1) (c .before .before .before .pre) in omega (arith, s .number))
+    (λ c. let s = subst PersonaliseFieldsWithinBounds (c .before .answer2 .given .1) (c .before .before .before .pre) in
+    omega (arith, s .number))
     (λ c. search needs)
     (λ c. search needs)
-    (λ c. let s = subst PersonaliseFieldsWithinBounds (c .before .answer3 .given .1) (c .before .before .before .pre) in omega (arith, s .number))
+    (λ c. let s = subst PersonaliseFieldsWithinBounds (c .before .answer3 .given .1) (c .before .before .before .pre) in
+    omega (arith, s .number))
     (λ c. omega (arith, ap personaliseWord (c .before .answer .given .1)))
     (λ c. omega (arith, ap personaliseWord (c .enum-told .given .1)))
     (λ c. omega (arith, ap personaliseWord (c .enum-told2 .given .1)))

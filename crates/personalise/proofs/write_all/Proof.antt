@@ -32,11 +32,16 @@ returns c =
     let st = w .before .before .before .before .before .before .before in
     let a = st .args in
     let q = w .put-records .ensures in
-    let b : ℕ → List ℕ = λ n. concatenatedFirstRecords (parsedObjectsOrEmpty (a .objects .now)) (placementsIn (a .placements .now)) n in
+    let b : ℕ → List ℕ = λ n. concatenatedFirstRecords (parsedObjectsOrEmpty (a .objects .now))
+    (placementsIn (a .placements .now)) n in
     let e : b (a .count) ≡ b (aflRecordCount (a .entries .now)) = ap b (st .pre .1 .1 .0 .0) in (
-      ap (λ (n : ℕ). Written (record { records = n; afl = length (a .entries .now) })) (q .next ∙ zero-add _ ∙ ap length e),
-      (q .wrote ∙ over-front (a .records .now) (b (a .count)) ∙ ap (λ (v : List ℕ). writtenOverFront v (a .records .now)) e ∙ sym (if-yes _ _ refl),
-      afl-copied (a .entries .now) (a .afl .now) _ (k .copy .ensures .1)),
+      ap (λ (n : ℕ). Written (record { records = n; afl = length (a .entries .now) }))
+          (q .next ∙ zero-add _ ∙ ap length e),
+      (
+        q .wrote ∙ over-front (a .records .now) (b (a .count)) ∙ ap
+            (λ (v : List ℕ). writtenOverFront v (a .records .now)) e ∙ sym (if-yes _ _ refl),
+        afl-copied (a .entries .now) (a .afl .now) _ (k .copy .ensures .1),
+      ),
     )
 
 pub write-all-spec : {M : Type 1} → statement M

@@ -42,9 +42,14 @@ abbrev μ : walk-lts.MeasureT-loop
 μ bytes around levels items₀ end at₀ n₀ k₀ items at n k = end - at
 
 abbrev claims : ℕ → walk-lts.Claims
-claims t =
-    (object-header-reads.Asked, object-header-reads.Learnt, walk-below t, walk.Post, packed-item-reads.Asked,
-    packed-item-reads.Learnt)
+claims t = (
+  object-header-reads.Asked,
+  object-header-reads.Learnt,
+  walk-below t,
+  walk.Post,
+  packed-item-reads.Asked,
+  packed-item-reads.Learnt,
+)
 
 abbrev at : ℕ
     → (walk-lts.Claims → In 2 walk-kinds.ps → Out 2 walk-kinds.ps walk-kinds.r → walk-lts.InvT-loop
@@ -76,10 +81,12 @@ loop-again t c = padding (c .before .before .before .loop .inv) (c .before .befo
 
 returns : (t : ℕ) → at t walk-lts.Need-returns
 returns t c =
-    let r = c .before .before .before .before .before .before .before .loop .inv in
-    (failed r (c .before .before .before .before .before .before .loop-test .taken)
-        (c .before .before .before .before .if1 .left)
-        (sym (c .before .before .object-header .ensures) ∙ c .enum-told .given .1) _, r .fits .room)
+    let r = c .before .before .before .before .before .before .before .loop .inv in (
+      failed r (c .before .before .before .before .before .before .loop-test .taken)
+          (c .before .before .before .before .if1 .left)
+          (sym (c .before .before .object-header .ensures) ∙ c .enum-told .given .1) _,
+      r .fits .room,
+    )
 
 returns-2 : (t : ℕ) → at t walk-lts.Need-returns-2
 returns-2 t c = let x = next-at t (c .before .before .before) in
@@ -91,18 +98,20 @@ walk-requires t c κs = let x = next-at t (c .before .before .before .before) in
 
 returns-3 : (t : ℕ) → at t walk-lts.Need-returns-3
 returns-3 t c =
-    let d = c .before .before .walk .ensures in
-    (inner-broken (next-at t (c .before .before .before .before .before .before .before))
-        (c .before .before .before .before .before .if2 .taken) (c .before .before .before .before .if3 .left) _
-        (rw (c .enum-told2 .given .1) at (d .0)) _, d .1)
+    let d = c .before .before .walk .ensures in (
+      inner-broken (next-at t (c .before .before .before .before .before .before .before))
+          (c .before .before .before .before .before .if2 .taken) (c .before .before .before .before .if3 .left) _
+          (rw (c .enum-told2 .given .1) at (d .0)) _,
+      d .1,
+    )
 
 loop-again-2 : (t : ℕ) → at t walk-lts.Need-loop-again-2
 loop-again-2 t c =
     let i = c .before .inside .given in
     inner-whole (next-at t (c .before .before .before .before .before .before .before .before))
-        (c .before .before .before .before .before .before .if2 .taken)
-        (c .before .before .before .before .before .if3 .left) _ (i .0 .0)
-        (rw (i .1) at (c .before .before .before .walk .ensures .0))
+    (c .before .before .before .before .before .before .if2 .taken)
+    (c .before .before .before .before .before .if3 .left) _ (i .0 .0)
+    (rw (i .1) at (c .before .before .before .walk .ensures .0))
 
 loop-again-3 : (t : ℕ) → at t walk-lts.Need-loop-again-3
 loop-again-3 t c = rw (c .packed-item .ensures) (listed (next-at t (c .before .before .before)) (c .before .if2 .left))
@@ -124,12 +133,20 @@ pub +walk-spec : {M : Type 1} → statement M
     (λ c. search needs)
     (λ c. search needs)
     (returns t)
-    (λ c. omega (arith, bounds (next-at t c),
-        c .before .before .before .before .before .before .before .before .before .loop .inv .fits .short))
-    (λ c. omega (arith, bounds (next-at t (c .before)),
-        c .before .before .before .before .before .before .before .before .before .before .loop .inv .fits .short))
-    (λ c. omega (arith,
-        c .before .before .before .before .before .before .before .before .before .before .loop .inv .fits .half))
+    (λ c. omega (
+      arith,
+      bounds (next-at t c),
+      c .before .before .before .before .before .before .before .before .before .loop .inv .fits .short,
+    ))
+    (λ c. omega (
+      arith,
+      bounds (next-at t (c .before)),
+      c .before .before .before .before .before .before .before .before .before .before .loop .inv .fits .short,
+    ))
+    (λ c. omega (
+      arith,
+      c .before .before .before .before .before .before .before .before .before .before .loop .inv .fits .half,
+    ))
     (returns-2 t)
     (λ c. omega arith)
     (walk-requires t)
@@ -138,8 +155,11 @@ pub +walk-spec : {M : Type 1} → statement M
     (returns-3 t)
     (λ c κs. number-fits (next-at t (c .before .before)))
     (λ c. omega (arith, room (next-at t (c .before .before .before))))
-    (λ c. omega (arith, room (next-at t (c .before .before .before)),
-        list-length (next-at t (c .before .before .before))))
+    (λ c. omega (
+      arith,
+      room (next-at t (c .before .before .before)),
+      list-length (next-at t (c .before .before .before)),
+    ))
     (λ c. omega (arith, room (next-at t (c .before .before .before))))
     (λ c. omega (arith, bounds (next-at t (c .before .before .before .before .before .before .before .before))))
     (loop-again-2 t)

@@ -10,15 +10,17 @@ use Rattle.reading.proofs.add_pending.Tie as tie
 
 returns : tie.Need-returns
 returns c =
-    let a = c .before .before .before .args in
-    (ap (set (a .items .now) (a .pending)) (c .before .before .pending-of .ensures),
-        sym (if-no _ _ (ne-eqb _ _ (λ z. c .if1 .taken (c .before .len-in .ensures .0 ∙ z)))))
+    let a = c .before .before .before .args in (
+      ap (set (a .items .now) (a .pending)) (c .before .before .pending-of .ensures),
+      sym (if-no _ _ (ne-eqb _ _ (λ z. c .if1 .taken (c .before .len-in .ensures .0 ∙ z)))),
+    )
 
 returns-2 : tie.Need-returns-2
 returns-2 c =
-    let a = c .before .before .before .args in
-    (ap (set (a .items .now) (a .pending)) (c .before .before .pending-of .ensures),
-        sym (if-yes _ _ (eq-eqb _ _ (sym (c .before .len-in .ensures .0) ∙ c .if1 .left))))
+    let a = c .before .before .before .args in (
+      ap (set (a .items .now) (a .pending)) (c .before .before .pending-of .ensures),
+      sym (if-yes _ _ (eq-eqb _ _ (sym (c .before .len-in .ensures .0) ∙ c .if1 .left))),
+    )
 
 pub add-pending-spec : {M : Type 1} → statement M
 add-pending-spec =

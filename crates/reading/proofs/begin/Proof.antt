@@ -17,23 +17,23 @@ returns-2 c = sym (begin-long _ _ (c .if2 .taken))
 returns-3 : tie.Need-returns-3
 returns-3 c =
     sym (begin-status _ _ (c .before .before .before .if1 .left) (c .before .before .if2 .left)
-        (sym (c .before .is-good .ensures) ∙ not-true _ (c .if3 .taken)))
+    (sym (c .before .is-good .ensures) ∙ not-true _ (c .if3 .taken)))
 
 returns-4 : tie.Need-returns-4
 returns-4 c =
     sym
     (begin-unread _ _ (c .before .before .before .before .before .if1 .left)
-        (c .before .before .before .before .if2 .left)
+    (c .before .before .before .before .if2 .left)
     (sym (c .before .before .before .is-good .ensures) ∙ not-false _ (c .before .before .if3 .left))
-        (sym (c .before .is-read .ensures) ∙ not-true _ (c .if4 .taken)))
+    (sym (c .before .is-read .ensures) ∙ not-true _ (c .if4 .taken)))
 
 returns-5 : tie.Need-returns-5
 returns-5 c =
     sym
     (begin-body _ _ (c .before .before .before .before .before .if1 .left)
-        (c .before .before .before .before .if2 .left)
+    (c .before .before .before .before .if2 .left)
     (sym (c .before .before .before .is-good .ensures) ∙ not-false _ (c .before .before .if3 .left))
-        (sym (c .before .is-read .ensures) ∙ not-false _ (c .if4 .left)))
+    (sym (c .before .is-read .ensures) ∙ not-false _ (c .if4 .left)))
 
 pub begin-spec : {M : Type 1} → statement M
 begin-spec =

@@ -19,14 +19,14 @@ returns-2 c =
     let a = c .before .before .before .before .before .before .args in
     c .decided2 .ensures
     ∙ sym (ap (listingOfTemplate (a .awaited) (a .tag)) (c .before .before .before .before .walked .given .1)
-        ∙ if-no _ _ (ne-eqb _ _ (λ z. c .before .if1 .taken (z ∙ sym (c .before .before .template-tag .ensures)))))
+    ∙ if-no _ _ (ne-eqb _ _ (λ z. c .before .if1 .taken (z ∙ sym (c .before .before .template-tag .ensures)))))
 
 returns-3 : tie.Need-returns-3
 unfolding listingOfTemplate
 returns-3 c =
     let a = c .before .before .before .before .before .args in
     sym (ap (listingOfTemplate (a .awaited) (a .tag)) (c .before .before .before .walked .given .1)
-        ∙ if-yes _ _ (eq-eqb _ _ (c .if1 .left ∙ c .before .template-tag .ensures)))
+    ∙ if-yes _ _ (eq-eqb _ _ (c .if1 .left ∙ c .before .template-tag .ensures)))
 
 pub close-spec : {M : Type 1} → statement M
 close-spec =

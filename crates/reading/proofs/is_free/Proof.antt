@@ -17,8 +17,8 @@ returns-2 : tie.Need-returns-2
 returns-2 c =
     let st = c .before .before .before .before in
     ap (λ (n : ℕ). leb n 1) (c .length-plus-one-or-zero .ensures)
-        ∙ unmarked (st .args .store .now) (st .args .filled .now) (st .args .row) (st .pre .0) (st .pre .1)
-        (c .before .if1 .left)
+    ∙ unmarked (st .args .store .now) (st .args .filled .now) (st .args .row) (st .pre .0) (st .pre .1)
+    (c .before .if1 .left)
 
 pub is-free-spec : {M : Type 1} → statement M
 is-free-spec = tie.close (tie.spec (λ c. search needs) returns (λ c κs. search needs) returns-2)

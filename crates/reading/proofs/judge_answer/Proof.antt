@@ -14,6 +14,8 @@ judge-answer-spec =
     tie.close
     (tie.spec
     (λ c κs. search needs)
-    (λ c κs. let l = c .before .list-objects .ensures in ((c .before .before .before .before .before .pre, l .1),
-        l .0 .fits))
+    (λ c κs. let l = c .before .list-objects .ensures in (
+      (c .before .before .before .before .before .pre, l .1),
+      l .0 .fits,
+    ))
     returns)

@@ -32,8 +32,8 @@ returns-2 : tie.Need-returns-2
 returns-2 c =
     let k = c .before .before .before .before in
     said-skipped _ _ _ (k .before .before .before .before .before .tag-in .ensures)
-        (k .before .before .before .find-row .ensures .0) _ (k .before .found .given .1)
-        (attributes-at (c .before .before))
+    (k .before .before .before .find-row .ensures .0) _ (k .before .found .given .1)
+    (attributes-at (c .before .before))
     (c .before .is-skipped .ensures) (c .if1 .taken)
 
 -- where it is known whether it may come
@@ -44,12 +44,12 @@ said-at : (o : tie.After-may-come)
 said-at o =
     let k = o .before .before .before .before .before .before .before .before .before in
     said _ _ _ (k .before .before .before .before .before .tag-in .ensures)
-        (k .before .before .before .find-row .ensures .0) _ (k .before .found .given .1)
-        (attributes-at (o .before .before .before .before .before .before .before))
+    (k .before .before .before .find-row .ensures .0) _ (k .before .found .given .1)
+    (attributes-at (o .before .before .before .before .before .before .before))
     (o .before .before .before .before .before .before .is-skipped .ensures)
-        (o .before .before .before .before .before .if1 .left) (o .before .before .around-in .ensures)
+    (o .before .before .before .before .before .if1 .left) (o .before .before .around-in .ensures)
     (code-value _ _ _ _ (o .before .before .before .before .start-in .ensures .0)
-        (o .before .before .before .len-in .ensures .0)) (o .may-come .ensures)
+    (o .before .before .before .len-in .ensures .0)) (o .may-come .ensures)
 
 pub judge-item-spec : {M : Type 1} → statement M
 judge-item-spec =

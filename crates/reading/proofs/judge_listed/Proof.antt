@@ -14,27 +14,33 @@ judge-items-requires c κs =
 
 returns : tie.Need-returns
 returns c =
-    let p = c .before .before .before .before .before .pre in
-    (decided-given _ _ _ _ (c .before .before .before .before .before .args .items .now) _
-        (c .before .listing .given .1), record { room = p .0 .1; few = omega arith; fitting = tt })
+    let p = c .before .before .before .before .before .pre in (
+      decided-given _ _ _ _ (c .before .before .before .before .before .args .items .now) _
+          (c .before .listing .given .1),
+      record { room = p .0 .1; few = omega arith; fitting = tt },
+    )
 
 returns-2 : tie.Need-returns-2
 returns-2 c =
     let j = c .before .before .before .judge-items .ensures in
     let b = c .before .before .before .before .answer-bit .ensures .0 in
     let r = c .pending-reading .ensures in
-    let g = rw (c .before .enum-told .given .1, b) at (j .0) in
-    (refused-given _ _ _ _ _ _ (c .before .before .before .before .before .before .before .listing2 .given .1) g (r .0)
-        (r .1), rw (r .1) (record { room = j .1; few = omega arith; fitting = tt }))
+    let g = rw (c .before .enum-told .given .1, b) at (j .0) in (
+      refused-given _ _ _ _ _ _ (c .before .before .before .before .before .before .before .listing2 .given .1) g (r .0)
+          (r .1),
+      rw (r .1) (record { room = j .1; few = omega arith; fitting = tt }),
+    )
 
 returns-3 : tie.Need-returns-3
 returns-3 c =
     let j = c .before .before .before .before .judge-items .ensures in
     let b = c .before .before .before .before .before .answer-bit .ensures .0 in
     let r = c .pending-reading2 .ensures in
-    let g = rw (c .before .before .judged .given .1, b) at (j .0) in
-    (accepted-given _ _ _ _ _ _ (c .before .before .before .before .before .before .before .before .listing2 .given .1)
-        _ (g .0) (r .0) (r .1), rw (r .1) (g .1))
+    let g = rw (c .before .before .judged .given .1, b) at (j .0) in (
+      accepted-given _ _ _ _ _ _ (c .before .before .before .before .before .before .before .before .listing2 .given .1)
+          _ (g .0) (r .0) (r .1),
+      rw (r .1) (g .1),
+    )
 
 pub judge-listed-spec : {M : Type 1} → statement M
 judge-listed-spec =

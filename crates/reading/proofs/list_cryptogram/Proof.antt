@@ -25,7 +25,8 @@ abbrev three : List ℕ → List PrimitiveItem
 three v = primitiveItem 0x77 0x9F27 (take 1 v) ∷ primitiveItem 0x77 0x9F36
     (take 2 (drop 1 v)) ∷ primitiveItem 0x77 0x9F26 (take 8 (drop 3 v)) ∷ []
 
-three-room : (l : List ℕ) (x y z : ℕ) → length l ≡ mostListedItems → length (set (set (set l 0 x) 1 y) 2 z) ≡ mostListedItems
+three-room : (l : List ℕ) (x y z : ℕ) → length l ≡ mostListedItems → length (set (set (set l 0 x) 1 y) 2 z)
+    ≡ mostListedItems
 three-room l x y z e = set-room (set (set l 0 x) 1 y) 2 z (set-room (set l 0 x) 1 y (set-room l 0 x e))
 
 -- what is left of the value
@@ -41,7 +42,7 @@ some-parts v is a b e =
 
 module _ (l : List ℕ) (start n : ℕ) (e : length l ≡ mostListedItems) (a : 2 ≤ start) (b : start + n ≤ 256) {x y z : ℕ}
     (p : x ≡ packedItem 0x9F27 0x77 start 1) (q : y ≡ packedItem 0x9F36 0x77 (start + 1) 2)
-        (r : z ≡ packedItem 0x9F26 0x77 (start + 3) 8) where
+    (r : z ≡ packedItem 0x9F26 0x77 (start + 3) 8) where
   by-places : 11 ≤ n → (s : List ℕ) → start + n ≤ length s
       → PartList s 3 (set (set (set l 0 x) 1 y) 2 z) (three (value s start n))
   by-places m s i =
@@ -50,51 +51,61 @@ module _ (l : List ℕ) (start n : ℕ) (e : length l ≡ mostListedItems) (a : 
       rw (p, q, r) (next-part s start n a b i atc 0x9F26 3 (omega arith) 8 (omega arith))
 
   all-three : n ≡ 11
-      → ListingGivesPrimitiveBodyReading Cryptogram cryptogramItemsUnder80 start n (Objects (tally 1 3)) (set (set (set l 0 x) 1 y) 2 z)
+      → ListingGivesPrimitiveBodyReading Cryptogram cryptogramItemsUnder80 start n (Objects (tally 1 3))
+      (set (set (set l 0 x) 1 y) 2 z)
       × (length (set (set (set l 0 x) 1 y) 2 z) ≡ mostListedItems)
-  all-three m =
-      (parts-some Cryptogram cryptogramItemsUnder80 start n _ 3 three
-          (λ v u. some-parts v [] (omega arith) (omega arith) (iad-none (drop 11 v) (left v n u ∙ omega arith)))
-      (by-places (omega arith)),
-      three-room l x y z e)
+  all-three m = (
+    parts-some Cryptogram cryptogramItemsUnder80 start n _ 3 three
+        (λ v u. some-parts v [] (omega arith) (omega arith) (iad-none (drop 11 v) (left v n u ∙ omega arith)))
+        (by-places (omega arith)),
+    three-room l x y z e,
+  )
 
   and-rest : {w : ℕ} → w ≡ packedItem 0x9F10 0x77 (start + 11) (n - 11) → 11 ≤ n → n ≤ 43 → (n ≡ 11 → ⊥)
-      → ListingGivesPrimitiveBodyReading Cryptogram cryptogramItemsUnder80 start n (Objects (tally 1 4)) (set (set (set (set l 0 x) 1 y) 2 z) 3 w)
-          × (length (set (set (set (set l 0 x) 1 y) 2 z) 3 w) ≡ mostListedItems)
-  and-rest {w} o m k d =
-      (rw o
-      (parts-some Cryptogram cryptogramItemsUnder80 start n _ 4
-          (λ (v : List ℕ). three v ++ (primitiveItem 0x77 0x9F10 (drop 11 v) ∷ []))
-      (λ v u. some-parts v _ (omega arith) (omega arith) (iad-some (drop 11 v) (λ i. d (omega (arith, left v n u)))))
-      (λ s i. last-part s start n a b i (by-places m s i) 0x9F10 11 (omega arith) m)),
-      set-room (set (set (set l 0 x) 1 y) 2 z) 3 w (three-room l x y z e))
+      → ListingGivesPrimitiveBodyReading Cryptogram cryptogramItemsUnder80 start n (Objects (tally 1 4))
+      (set (set (set (set l 0 x) 1 y) 2 z) 3 w)
+      × (length (set (set (set (set l 0 x) 1 y) 2 z) 3 w) ≡ mostListedItems)
+  and-rest {w} o m k d = (
+    rw o
+        (parts-some Cryptogram cryptogramItemsUnder80 start n _ 4
+        (λ (v : List ℕ). three v ++ (primitiveItem 0x77 0x9F10 (drop 11 v) ∷ []))
+        (λ v u. some-parts v _ (omega arith) (omega arith) (iad-some (drop 11 v) (λ i. d (omega (arith, left v n u)))))
+        (λ s i. last-part s start n a b i (by-places m s i) 0x9F10 11 (omega arith) m)),
+    set-room (set (set (set l 0 x) 1 y) 2 z) 3 w (three-room l x y z e),
+  )
 
 returns : tie.Need-returns
-returns c =
-    (parts-none Cryptogram cryptogramItemsUnder80 _ _ _ (λ v e. cryptogram-short v (omega (arith, c .before .if1 .taken)))
-    (c .decided .ensures), c .before .before .pre .0)
+returns c = (
+  parts-none Cryptogram cryptogramItemsUnder80 _ _ _
+      (λ v e. cryptogram-short v (omega (arith, c .before .if1 .taken)))
+      (c .decided .ensures),
+  c .before .before .pre .0,
+)
 
 returns-2 : tie.Need-returns-2
-returns-2 c =
-    (parts-none Cryptogram cryptogramItemsUnder80 _ _ _ (λ v e. cryptogram-long v (omega (arith, c .before .if2 .taken)))
-    (c .decided2 .ensures), c .before .before .before .pre .0)
+returns-2 c = (
+  parts-none Cryptogram cryptogramItemsUnder80 _ _ _
+      (λ v e. cryptogram-long v (omega (arith, c .before .if2 .taken)))
+      (c .decided2 .ensures),
+  c .before .before .before .pre .0,
+)
 
 returns-3 : tie.Need-returns-3
 returns-3 c =
     let a = c .before .before .before .before .before .before .args in
     let p = c .before .before .before .before .before .before .pre in
     all-three (a .items .now) (a .start) (a .n) (p .0) (p .1) (p .2) (c .before .before .before .packed-item .ensures)
-        (c .before .before .packed-item2 .ensures) (c .before .packed-item3 .ensures) (c .if3 .taken)
+    (c .before .before .packed-item2 .ensures) (c .before .packed-item3 .ensures) (c .if3 .taken)
 
 returns-4 : tie.Need-returns-4
 returns-4 c =
     let a = c .before .before .before .before .before .before .before .args in
     let p = c .before .before .before .before .before .before .before .pre in
     and-rest (a .items .now) (a .start) (a .n) (p .0) (p .1) (p .2)
-        (c .before .before .before .before .packed-item .ensures) (c .before .before .before .packed-item2 .ensures)
-        (c .before .before .packed-item3 .ensures)
+    (c .before .before .before .before .packed-item .ensures) (c .before .before .before .packed-item2 .ensures)
+    (c .before .before .packed-item3 .ensures)
     (c .packed-item4 .ensures) (c .before .before .before .before .before .before .if1 .left)
-        (c .before .before .before .before .before .if2 .left) (c .before .if3 .left)
+    (c .before .before .before .before .before .if2 .left) (c .before .if3 .left)
 
 pub list-cryptogram-spec : {M : Type 1} → statement M
 list-cryptogram-spec =

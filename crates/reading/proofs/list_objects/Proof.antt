@@ -11,16 +11,18 @@ use Rattle.reading.proofs.list_objects.Tie as tie
 walk-requires : tie.Need-walk-requires
 walk-requires c κs =
     let o = c .before .before .before .before .before .open .ensures in
-    let i = rw (c .before .before .before .opened2 .given .1) at (o .0) in
-    (record {
-      begins = omega arith;
-      ends = i .ends;
-      short = i .short;
-      fewer = omega arith;
-      half = omega (arith, i .two, i .short);
-      room = o .1;
-      inside = tt;
-    }, i .tag)
+    let i = rw (c .before .before .before .opened2 .given .1) at (o .0) in (
+      record {
+        begins = omega arith;
+        ends = i .ends;
+        short = i .short;
+        fewer = omega arith;
+        half = omega (arith, i .two, i .short);
+        room = o .1;
+        inside = tt;
+      },
+      i .tag,
+    )
 
 returns : tie.Need-returns
 returns c = let o = c .before .before .before .open .ensures in (rw (c .before .opened .given .1) at (o .0), o .1)
@@ -29,7 +31,7 @@ returns-2 : tie.Need-returns-2
 unfolding unpackedItems
 returns-2 c =
     let i = rw (c .before .before .before .before .before .opened2 .given .1) at
-        (c .before .before .before .before .before .before .before .open .ensures .0) in
+    (c .before .before .before .before .before .before .before .open .ensures .0) in
     let w = c .before .walk .ensures in
     (template-listed _ _ _ _ i _ (w .0) (c .close .ensures), w .1)
 
@@ -41,7 +43,7 @@ list-objects-spec =
     (λ c. search needs)
     (λ c. search needs)
     (λ c. let i = rw (c .before .before .opened2 .given .1) at
-        (c .before .before .before .before .open .ensures .0) in omega (arith, i .short))
+    (c .before .before .before .before .open .ensures .0) in omega (arith, i .short))
     walk-requires
     (λ c κs. search needs)
     returns

@@ -31,7 +31,7 @@ returns-4 c =
     c .length-and-digits-fit-row .ensures
     ∙ sym (both-true _ (eq-eqb _ _ (c .before .before .before .before .before .if1 .left))
     ∙ both-true _ (sym (c .before .before .before .before .is-brought-by .ensures)
-        ∙ not-false _ (c .before .before .before .if2 .left))
+    ∙ not-false _ (c .before .before .before .if2 .left))
     ∙ both-true _ (sym (c .before .before .may-stand .ensures) ∙ not-false _ (c .before .if3 .left)))
 
 pub may-come-spec : {M : Type 1} → statement M

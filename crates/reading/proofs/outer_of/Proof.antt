@@ -17,20 +17,20 @@ returns c = sym (ap (outerObjectOfFront _) (sym (c .before .before .object-heade
 add-if1 : tie.Need-add-if1
 add-if1 c =
     let f = header-fits _ _ (sym (c .before .before .before .before .object-header .ensures)
-        ∙ c .before .before .front .given .1) in omega arith
+    ∙ c .before .before .front .given .1) in omega arith
 
 returns-2 : tie.Need-returns-2
 unfolding outerObject
 returns-2 c =
     sym (ap (outerObjectOfFront _) (sym (c .before .before .before .before .before .object-header .ensures)
-        ∙ c .before .before .before .front .given .1) ∙ if-no _ _ (ne-eqb _ _ (c .if1 .taken)))
+    ∙ c .before .before .before .front .given .1) ∙ if-no _ _ (ne-eqb _ _ (c .if1 .taken)))
 
 returns-3 : tie.Need-returns-3
 unfolding outerObject
 returns-3 c =
     sym
     (ap (outerObjectOfFront _) (sym (c .before .before .before .before .before .before .object-header .ensures)
-        ∙ c .before .before .before .before .front .given .1)
+    ∙ c .before .before .before .before .front .given .1)
     ∙ if-yes _ _ (eq-eqb _ _ (c .before .if1 .left)) ∙ if-yes _ _ (c .if2 .taken))
 
 returns-4 : tie.Need-returns-4
@@ -38,7 +38,7 @@ unfolding outerObject
 returns-4 c =
     sym
     (ap (outerObjectOfFront _) (sym (c .before .before .before .before .before .before .object-header .ensures)
-        ∙ c .before .before .before .before .front .given .1)
+    ∙ c .before .before .before .before .front .given .1)
     ∙ if-yes _ _ (eq-eqb _ _ (c .before .if1 .left)) ∙ if-no _ _ (c .if2 .left))
 
 pub outer-of-spec : {M : Type 1} → statement M

@@ -17,6 +17,6 @@ read-answer-spec =
     (tie.spec
     (λ c κs. search needs)
     (λ c κs. let l = c .before .before .list-objects .ensures in
-        ((c .before .before .before .before .before .before .pre, l .1), l .0 .fits))
+    ((c .before .before .before .before .before .before .pre, l .1), l .0 .fits))
     (λ c. search needs)
     returns)

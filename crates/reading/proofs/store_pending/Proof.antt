@@ -24,7 +24,8 @@ abbrev μ-loop : tie.MeasureT-loop
 
 -- the next value fits its row and lies in the bytes
 fits-at : (o : tie.After-row-in Inv-loop μ-loop)
-    → PendingEntryFitsRowAndBytes (o .before .before .before .before .before .before .before .before .before .args .bytes .now)
+    → PendingEntryFitsRowAndBytes
+    (o .before .before .before .before .before .before .before .before .before .args .bytes .now)
     (getD (o .before .before .before .before .before .before .before .before .before .args .pending .now)
     (o .before .before .before .before .before .before .loop .i) 0)
 fits-at o = value-fits _ _ _ (o .before .before .before .before .before .before .before .before .before .pre .1)
@@ -40,42 +41,48 @@ ends-at o = let f = fits-at o .inside in
 -- the bytes that are taken are the value's
 value-at : (o : tie.After-row-in Inv-loop μ-loop) → let a = o .before .before .before .start-in .result in
     take (a + o .before .before .len-in .result - a)
-        (drop a (o .before .before .before .before .before .before .before .before .before .args .bytes .now)) ≡
-        packedItemValueIn (o .before .before .before .before .before .before .before .before .before .args .bytes .now)
-        (getD (o .before .before .before .before .before .before .before .before .before .args .pending .now)
-        (o .before .before .before .before .before .before .loop .i) 0)
+    (drop a (o .before .before .before .before .before .before .before .before .before .args .bytes .now)) ≡
+    packedItemValueIn (o .before .before .before .before .before .before .before .before .before .args .bytes .now)
+    (getD (o .before .before .before .before .before .before .before .before .before .args .pending .now)
+    (o .before .before .before .before .before .before .loop .i) 0)
 value-at o = code-value _ _ _ _ (o .before .before .before .start-in .ensures .0)
     (o .before .before .len-in .ensures .0)
 
 put-requires : tie.Need-put-requires Inv-loop μ-loop
 put-requires c κs =
     let o = c .before in
-    let f = fits-at o in
-    (o .before .before .before .before .before .before .loop .inv .1 .0,
-        (rw (o .row-in .ensures) (f .row), rw (o .row-in .ensures, value-at o) (value-most _ _ f)))
+    let f = fits-at o in (
+      o .before .before .before .before .before .before .loop .inv .1 .0,
+      (rw (o .row-in .ensures) (f .row), rw (o .row-in .ensures, value-at o) (value-most _ _ f)),
+    )
 
 loop-again : tie.Need-loop-again Inv-loop μ-loop
 loop-again c =
     let o = c .before .before .before .before in
     let a = o .before .before .before .before .before .before .before .before .before .args in
     let x = getD (a .pending .now) (o .before .before .before .before .before .before .loop .i) 0 in
-    let p = c .before .before .put .ensures in
-    (omega (arith, o .before .before .before .before .before .loop-test .taken), (p .1,
-    p .0 ∙ ap₂ (putRow dictionaryRows _) (o .row-in .ensures) (value-at o) 
-    ∙ ap (λ (b : List ℕ). putRow dictionaryRows b (pendingEntryRow x) (packedItemValueIn (a .bytes .now) x))
-        (o .before .before .before .before .before .before .loop .inv .1 .1)
-    ∙ after-one _ (a .store .now) _ _
-        (o .before .before .before .before .before .before .before .before .before .pre .1)
-        (o .before .before .before .before .before .before .loop .i)
-        (o .before .before .before .before .before .loop-test .taken)))
+    let p = c .before .before .put .ensures in (
+      omega (arith, o .before .before .before .before .before .loop-test .taken),
+      (
+        p .1,
+        p .0 ∙ ap₂ (putRow dictionaryRows _) (o .row-in .ensures) (value-at o)
+            ∙ ap (λ (b : List ℕ). putRow dictionaryRows b (pendingEntryRow x) (packedItemValueIn (a .bytes .now) x))
+            (o .before .before .before .before .before .before .loop .inv .1 .1)
+            ∙ after-one _ (a .store .now) _ _
+            (o .before .before .before .before .before .before .before .before .before .pre .1)
+            (o .before .before .before .before .before .before .loop .i)
+            (o .before .before .before .before .before .loop-test .taken),
+      ),
+    )
 
 returns : tie.Need-returns Inv-loop μ-loop
 returns c =
     let a = c .before .before .before .before .args in
     let lp = c .before .loop in
-    let e : lp .i ≡ a .n = omega (arith, c .loop-test .left) in
-    (lp .inv .1 .1 ∙ ap (λ (i : ℕ). storeWithPending (a .bytes .now) (a .store .now) (take i (a .pending .now))) e,
-        lp .inv .1 .0)
+    let e : lp .i ≡ a .n = omega (arith, c .loop-test .left) in (
+      lp .inv .1 .1 ∙ ap (λ (i : ℕ). storeWithPending (a .bytes .now) (a .store .now) (take i (a .pending .now))) e,
+      lp .inv .1 .0,
+    )
 
 pub store-pending-spec : {M : Type 1} → statement M
 store-pending-spec =
@@ -83,11 +90,17 @@ store-pending-spec =
     (tie.spec
     Inv-loop
     μ-loop
-    (λ c. let a = c .before .before .args in (omega arith,
-        (c .before .before .pre .0, after-none (a .bytes .now) _ (a .pending .now))))
+    (λ c. let a = c .before .before .args in (
+      omega arith,
+      (c .before .before .pre .0, after-none (a .bytes .now) _ (a .pending .now)),
+    ))
     (λ c. omega (arith, c .loop-test .taken, c .before .before .before .before .pre .1 .few))
-    (λ c. omega (arith, c .loop-test .taken, c .before .before .before .before .pre .1 .few,
-        c .before .before .before .before .pre .1 .room))
+    (λ c. omega (
+      arith,
+      c .loop-test .taken,
+      c .before .before .before .before .pre .1 .few,
+      c .before .before .before .before .pre .1 .room,
+    ))
     (λ c κs. search needs)
     (λ c κs. search needs)
     (λ c. omega arith)
@@ -96,9 +109,11 @@ store-pending-spec =
     (λ c. omega (arith, ends-at c))
     (λ c. omega (arith, ends-at c))
     put-requires
-    (λ c. let o = c .before .before .before .before in omega (arith,
-        o .before .before .before .before .before .loop-test .taken,
-        o .before .before .before .before .before .before .before .before .before .pre .1 .few))
+    (λ c. let o = c .before .before .before .before in omega (
+      arith,
+      o .before .before .before .before .before .loop-test .taken,
+      o .before .before .before .before .before .before .before .before .before .pre .1 .few,
+    ))
     (λ c. omega (arith, c .before .before .before .before .before .before .before .before .before .loop-test .taken))
     loop-again
     (λ c. c .before .loop .inv .1 .0 ∙ sym (c .before .before .before .before .pre .0))

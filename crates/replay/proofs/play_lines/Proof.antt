@@ -13,7 +13,8 @@ abbrev μ-loop : tie.MeasureT-loop
 μ-loop part line₀ next₀ rest₀ line next rest = length rest
 
 -- keeping characters leaves the line's length
-kept : (c : tie.After-keep Inv-loop μ-loop) → length (c .keep .last .1 .1 .0) ≡ length (c .before .before .before .before .before .before .before .before .args .line .now)
+kept : (c : tie.After-keep Inv-loop μ-loop) → length (c .keep .last .1 .1 .0)
+    ≡ length (c .before .before .before .before .before .before .before .before .args .line .now)
 kept c = c .keep .ensures ∙ c .before .before .before .before .before .loop .inv
 
 loop-again : tie.Need-loop-again Inv-loop μ-loop

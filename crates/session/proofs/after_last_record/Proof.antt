@@ -9,12 +9,14 @@ use Rattle.session.proofs.after_last_record.Tie as tie
 returns : tie.Need-returns
 returns c =
     let t = c .before .before .before .before .before .before .before in
-    did-next _ _ (last-emv _ _ (sym (t .before .is-emv-mode .ensures) ∙ t .if1 .taken)) (c .before .before .before .before .emv-mode-analysis .ensures)
+    did-next _ _ (last-emv _ _ (sym (t .before .is-emv-mode .ensures) ∙ t .if1 .taken))
+    (c .before .before .before .before .emv-mode-analysis .ensures)
 
 returns-2 : tie.Need-returns-2
 returns-2 c =
     let t = c .before .before .before .before .before in
-    did-next _ _ (last-mag-stripe _ _ (sym (t .before .is-emv-mode .ensures) ∙ t .if1 .left)) (c .before .before .mag-stripe-checks .ensures)
+    did-next _ _ (last-mag-stripe _ _ (sym (t .before .is-emv-mode .ensures) ∙ t .if1 .left))
+    (c .before .before .mag-stripe-checks .ensures)
 
 pub after-last-record-spec : {M : Type 1} → statement M
 after-last-record-spec =

@@ -1,4 +1,5 @@
--- `session::answer_on_parts` meets its contract: the two refusals by their laws; past them the record is in its ranges and
+-- `session::answer_on_parts` meets its contract: the two refusals by their laws; past them the record is in its ranges
+-- and
 -- the phase decides.
 -- Assumes nothing.
 use borrow.Author.Needs.{needs}
@@ -18,40 +19,60 @@ use Rattle.session.proofs.answer_on_parts.Statement.{statement}
 use Rattle.session.proofs.answer_on_parts.Tie as tie
 
 -- past the refusals the record is in its ranges, and the phase decides
-ranged : (c : tie.Else2) → let a = c .before .before .before .before .before .before .before .args in sessionRecordInRanges (sessionOf (a .phase) (a .count) (a .store .now)) ≡ true
+ranged : (c : tie.Else2) → let a = c .before .before .before .before .before .before .before .args in
+    sessionRecordInRanges (sessionOf (a .phase) (a .count) (a .store .now)) ≡ true
 ranged c = sym (c .before .session-parts-in-ranges .ensures) ∙ not-false _ (c .if2 .left)
 
-by-phase : (c : tie.Else2) (p : Phase) → let a = c .before .before .before .before .before .before .before .args in a .phase ≡ p
+by-phase : (c : tie.Else2) (p : Phase) → let a = c .before .before .before .before .before .before .before .args in
+    a .phase ≡ p
     → answerStep (sessionOf (a .phase) (a .count) (a .store .now)) (a .card .now) (a .command .now)
-    ≡ stepOfEffect (sessionOf p (a .count) (a .store .now)) (a .command .now) (effectIfRunning p (nextOnResponse (a .store .now) (a .card .now)))
+    ≡ stepOfEffect (sessionOf p (a .count) (a .store .now)) (a .command .now)
+    (effectIfRunning p (nextOnResponse (a .store .now) (a .card .now)))
 by-phase c p e =
     let a = c .before .before .before .before .before .before .before .args in
     admitted-in _ _ _ (c .before .before .before .if1 .left) (ranged c)
-    ∙ ap (λ (q : Phase). stepOfEffect (sessionOf q (a .count) (a .store .now)) (a .command .now) (effectIfRunning q (nextOnResponse (a .store .now) (a .card .now)))) e
+    ∙ ap (λ (q : Phase). stepOfEffect (sessionOf q (a .count) (a .store .now)) (a .command .now)
+    (effectIfRunning q (nextOnResponse (a .store .now) (a .card .now)))) e
 
 returns : tie.Need-returns
 returns c = did-without-command _ (c .refuse-call .ensures) (admitted-short _ _ _ (c .before .if1 .taken))
 
 returns-2 : tie.Need-returns-2
 returns-2 c =
-    did-without-command _ (c .refuse-call2 .ensures) (admitted-ranges _ _ _ (c .before .before .before .before .if1 .left) (sym (c .before .before .session-parts-in-ranges .ensures) ∙ not-true _ (c .before .if2 .taken)))
+    did-without-command _ (c .refuse-call2 .ensures)
+    (admitted-ranges _ _ _ (c .before .before .before .before .if1 .left)
+    (sym (c .before .before .session-parts-in-ranges .ensures) ∙ not-true _ (c .before .if2 .taken)))
 
 take-response-requires : tie.Need-take-response-requires
-take-response-requires c κs = ((search needs, omega (arith, count-most _ (ranged (c .before .before .before .before .before)))), store-size _ (ranged (c .before .before .before .before .before)))
+take-response-requires c κs = (
+  (search needs, omega (arith, count-most _ (ranged (c .before .before .before .before .before)))),
+  store-size _
+      (ranged (c .before .before .before .before .before)),
+)
 
 returns-3 : tie.Need-returns-3
 returns-3 c =
     let e = c .before .enum-told .given .1 in
-    did-without-command _ (c .refuse-call3 .ensures ∙ ap (λ (q : Phase). refusedTransition q (c .before .before .before .before .before .before .before .before .before .before .args .count) refusalWrongPhase) e) (by-phase (c .before .before .before) _ e)
+    did-without-command _
+    (c .refuse-call3 .ensures ∙ ap
+    (λ (q : Phase). refusedTransition q
+    (c .before .before .before .before .before .before .before .before .before .before .args .count) refusalWrongPhase)
+    e) (by-phase (c .before .before .before) _ e)
 
 returns-4 : tie.Need-returns-4
 returns-4 c =
-    did-as (by-phase (c .before .before .before .before .before .before .before .before .before .before) _ (c .before .before .before .before .before .before .before .before .phase .given .1)) (c .before .before .before .before .take-response .ensures)
+    did-as (by-phase (c .before .before .before .before .before .before .before .before .before .before) _
+    (c .before .before .before .before .before .before .before .before .phase .given .1))
+    (c .before .before .before .before .take-response .ensures)
 
 returns-5 : tie.Need-returns-5
 returns-5 c =
     let e = c .before .enum-told2 .given .1 in
-    did-without-command _ (c .refuse-call4 .ensures ∙ ap (λ (q : Phase). refusedTransition q (c .before .before .before .before .before .before .before .before .before .before .args .count) refusalWrongPhase) e) (by-phase (c .before .before .before) _ e)
+    did-without-command _
+    (c .refuse-call4 .ensures ∙ ap
+    (λ (q : Phase). refusedTransition q
+    (c .before .before .before .before .before .before .before .before .before .before .args .count) refusalWrongPhase)
+    e) (by-phase (c .before .before .before) _ e)
 
 pub answer-on-parts-spec : {M : Type 1} → statement M
 answer-on-parts-spec =

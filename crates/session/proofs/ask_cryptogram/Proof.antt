@@ -19,11 +19,14 @@ returns c =
     let g = c .before .before .before .before .before .before in
     let a = c .before .before .before .before .before .before .before .before .before .before .before .args in
     let p = c .before .before .before .before .before .before .before .before .generate-ac-p1 .ensures in
-    handed-none (a .count) (a .bytes .now) (AwaitedResponse.Cryptogram (a .asked)) (a .command .now) (generateAc (generateAcP1 (a .asked .choice)) (a .bytes .now))
+    handed-none (a .count) (a .bytes .now) (AwaitedResponse.Cryptogram (a .asked)) (a .command .now)
+    (generateAc (generateAcP1 (a .asked .choice)) (a .bytes .now))
     (g .generate-ac .ensures .0 ∙ ap (λ (n : ℕ). dolCommandOf (generateAc n (a .bytes .now))) p)
-    (g .generate-ac .ensures .1 .0 ∙ ap (λ (n : ℕ). bufferWithCommand (generateAc n (a .bytes .now)) (a .command .now)) p)
+    (g .generate-ac .ensures .1 .0 ∙ ap (λ (n : ℕ). bufferWithCommand (generateAc n (a .bytes .now)) (a .command .now))
+    p)
     (c .before .before .enum-told .given .1)
-    (c .fail-session .ensures ∙ ap (λ (m : ℕ). failingTransition m (a .count) reasonDolBrokenOrBadLength) (c .before .requested-cvm .ensures))
+    (c .fail-session .ensures ∙ ap (λ (m : ℕ). failingTransition m (a .count) reasonDolBrokenOrBadLength)
+    (c .before .requested-cvm .ensures))
 
 returns-2 : tie.Need-returns-2
 unfolding requestCryptogram
@@ -31,9 +34,11 @@ returns-2 c =
     let g = c .before .before .before .before .before .before in
     let a = c .before .before .before .before .before .before .before .before .before .before .before .args in
     let p = c .before .before .before .before .before .before .before .before .generate-ac-p1 .ensures in
-    handed-some (a .count) (a .bytes .now) (AwaitedResponse.Cryptogram (a .asked)) (a .command .now) (generateAc (generateAcP1 (a .asked .choice)) (a .bytes .now))
+    handed-some (a .count) (a .bytes .now) (AwaitedResponse.Cryptogram (a .asked)) (a .command .now)
+    (generateAc (generateAcP1 (a .asked .choice)) (a .bytes .now))
     (g .generate-ac .ensures .0 ∙ ap (λ (n : ℕ). dolCommandOf (generateAc n (a .bytes .now))) p)
-    (g .generate-ac .ensures .1 .0 ∙ ap (λ (n : ℕ). bufferWithCommand (generateAc n (a .bytes .now)) (a .command .now)) p)
+    (g .generate-ac .ensures .1 .0 ∙ ap (λ (n : ℕ). bufferWithCommand (generateAc n (a .bytes .now)) (a .command .now))
+    p)
     (c .before .before .c .given .1) (c .issue-command .ensures)
 
 pub ask-cryptogram-spec : {M : Type 1} → statement M

@@ -13,14 +13,16 @@ unfolding requestGpo
 returns c =
     let a = c .before .before .before .before .before .before .before .before .before .args in
     let g = c .before .before .before .before .before .get-processing-options .ensures in
-    handed-none (a .count) (a .bytes .now) AwaitedResponse.Gpo (a .command .now) (getProcessingOptions (a .bytes .now)) (g .0) (g .1 .0) (c .before .enum-told .given .1) (c .fail-session .ensures)
+    handed-none (a .count) (a .bytes .now) AwaitedResponse.Gpo (a .command .now) (getProcessingOptions (a .bytes .now))
+    (g .0) (g .1 .0) (c .before .enum-told .given .1) (c .fail-session .ensures)
 
 returns-2 : tie.Need-returns-2
 unfolding requestGpo
 returns-2 c =
     let a = c .before .before .before .before .before .before .before .before .before .before .args in
     let g = c .before .before .before .before .before .before .get-processing-options .ensures in
-    handed-some (a .count) (a .bytes .now) AwaitedResponse.Gpo (a .command .now) (getProcessingOptions (a .bytes .now)) (g .0) (g .1 .0) (c .before .before .c .given .1) (c .issue-command .ensures)
+    handed-some (a .count) (a .bytes .now) AwaitedResponse.Gpo (a .command .now) (getProcessingOptions (a .bytes .now))
+    (g .0) (g .1 .0) (c .before .before .c .given .1) (c .issue-command .ensures)
 
 pub ask-gpo-spec : {M : Type 1} → statement M
 ask-gpo-spec =

@@ -15,8 +15,10 @@ returns : tie.Need-returns
 returns c =
     let s = c .before .before .before .before .before .before in
     let a = s .args in
-    let w = wrote-yes _ _ (a .wanted) (a .command .now) (c .before .before .before .read-record .ensures) (omega arith) (s .pre .1) in
+    let w = wrote-yes _ _ (a .wanted) (a .command .now) (c .before .before .before .read-record .ensures) (omega arith)
+    (s .pre .1) in
     (c .issue-command .ensures ∙ ap (commandTransition (AwaitedResponse.Record (a .place)) (a .count + 1)) (w .0), w .1)
 
 pub ask-record-spec : {M : Type 1} → statement M
-ask-record-spec = tie.close (tie.spec (λ c κs. search needs) (λ c. search needs) (λ c κs. search needs) (λ c. search needs) returns)
+ask-record-spec = tie.close (tie.spec (λ c κs. search needs) (λ c. search needs) (λ c κs. search needs)
+    (λ c. search needs) returns)

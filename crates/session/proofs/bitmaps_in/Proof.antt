@@ -12,8 +12,10 @@ use Rattle.session.proofs.bitmaps_in.Tie as tie
 returns : tie.Need-returns
 returns c =
     c .bitmaps-of .ensures
-    ∙ three bitmapsOf (c .before .before .before .value .ensures ∙ bytes-are _ _ _ at-9F65) (c .before .before .value2 .ensures ∙ bytes-are _ _ _ at-9F66)
+    ∙ three bitmapsOf (c .before .before .before .value .ensures ∙ bytes-are _ _ _ at-9F65)
+    (c .before .before .value2 .ensures ∙ bytes-are _ _ _ at-9F66)
     (c .before .value3 .ensures ∙ bytes-are _ _ _ at-9F67)
 
 pub bitmaps-in-spec : {M : Type 1} → statement M
-bitmaps-in-spec = tie.close (tie.spec (λ c κs. search needs) (λ c κs. search needs) (λ c κs. search needs) (λ c κs. search needs) returns)
+bitmaps-in-spec = tie.close (tie.spec (λ c κs. search needs) (λ c κs. search needs) (λ c κs. search needs)
+    (λ c κs. search needs) returns)

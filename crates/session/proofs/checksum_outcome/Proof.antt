@@ -13,22 +13,27 @@ use Rattle.session.proofs.checksum_outcome.Statement.{statement}
 use Rattle.session.proofs.checksum_outcome.Tie as tie
 
 -- after the first answer the counter is present
-counted : (c : tie.After-enum-told) → hasObject (c .before .before .before .before .before .args .store .now) 0x9F36 ≡ true
+counted : (c : tie.After-enum-told) → hasObject (c .before .before .before .before .before .args .store .now) 0x9F36
+    ≡ true
 counted c = is-passed _ (omega arith) (c .before .before .atc-present .ensures) (c .enum-told .given .1)
 
 returns : tie.Need-returns
-returns c buf = did-end _ _ _ (c .fail-session .ensures) (counter-missing _ (is-failed _ (omega arith) (c .before .before .before .atc-present .ensures) (c .before .enum-told2 .given .1)))
+returns c buf = did-end _ _ _ (c .fail-session .ensures)
+    (counter-missing _ (is-failed _ (omega arith) (c .before .before .before .atc-present .ensures)
+    (c .before .enum-told2 .given .1)))
 
 returns-2 : tie.Need-returns-2
 returns-2 c buf =
     did-end _ _ _ (c .end-session .ensures)
-    (code-missing _ (counted (c .before .before .before .before)) (held-is _ _ _ at-9F61 (c .before .before .is-present .ensures) (not-true _ (c .before .if1 .taken))))
+    (code-missing _ (counted (c .before .before .before .before))
+    (held-is _ _ _ at-9F61 (c .before .before .is-present .ensures) (not-true _ (c .before .if1 .taken))))
 
 returns-3 : tie.Need-returns-3
 returns-3 c buf =
     let e = c .before .before .before .before .before in
     did-end _ _ _ (c .end-session2 .ensures)
-    (digits-go-in _ (counted (e .before .before .before)) (held-is _ _ _ at-9F61 (e .before .is-present .ensures) (not-false _ (e .if1 .left))) (c .before .before .before .store-digits .ensures))
+    (digits-go-in _ (counted (e .before .before .before)) (held-is _ _ _ at-9F61 (e .before .is-present .ensures)
+    (not-false _ (e .if1 .left))) (c .before .before .before .store-digits .ensures))
 
 pub checksum-outcome-spec : {M : Type 1} → statement M
 checksum-outcome-spec =

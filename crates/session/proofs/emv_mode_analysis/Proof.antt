@@ -5,31 +5,38 @@ use native.Mathlib.Omega.{arith}
 use mathlib.Core.Path.{_≡_}
 use mathlib.Core.Bool.{false}
 use Rattle.analysis.specs.Action.{storedAmountAboveLimit}
-use Rattle.session.proofs.Laws.{did-next, did-end, is-passed, is-failed, is-above, is-within, records-limit, records-missing, records-analysed}
+use Rattle.session.proofs.Laws.{did-next, did-end, is-passed, is-failed, is-above, is-within, records-limit}
+use Rattle.session.proofs.Laws.{records-missing, records-analysed}
 use Rattle.session.proofs.emv_mode_analysis.Statement.{statement}
 use Rattle.session.proofs.emv_mode_analysis.Tie as tie
 
 -- what holds past the first test
-within : (c : tie.After-enum-told) → let a = c .before .before .before .before .before .before .args in storedAmountAboveLimit (a .limit) (a .store .now) ≡ false
+within : (c : tie.After-enum-told) → let a = c .before .before .before .before .before .before .args in
+    storedAmountAboveLimit (a .limit) (a .store .now) ≡ false
 within c = is-within _ (c .before .before .limit-in .ensures) (c .enum-told .given .1)
 
 returns : tie.Need-returns
 returns c =
     let a = c .before .before .before .before .before .before .before .args in
-    did-end _ _ _ (c .fail-session .ensures) (records-limit (a .store .now) (a .limit) (is-above _ (c .before .before .before .limit-in .ensures) (c .before .enum-told2 .given .1)))
+    did-end _ _ _ (c .fail-session .ensures)
+    (records-limit (a .store .now) (a .limit) (is-above _ (c .before .before .before .limit-in .ensures)
+    (c .before .enum-told2 .given .1)))
 
 returns-2 : tie.Need-returns-2
 returns-2 c =
     let k = c .before .before .before in
     let a = k .before .before .before .before .before .before .before .before .args in
     did-end _ _ _ (c .fail-session2 .ensures)
-    (records-missing (a .store .now) (a .limit) (within (k .before .before)) (is-failed _ (omega arith) (k .card-complete .ensures) (c .before .enum-told4 .given .1)))
+    (records-missing (a .store .now) (a .limit) (within (k .before .before))
+    (is-failed _ (omega arith) (k .card-complete .ensures) (c .before .enum-told4 .given .1)))
 
 returns-3 : tie.Need-returns-3
 returns-3 c =
     let k = c .before .before .before .before .before .before .before .before .before in
     let a = k .before .before .before .before .before .before .before .before .args in
-    did-next _ _ (records-analysed (a .store .now) (a .limit) (within (k .before .before)) (is-passed _ (omega arith) (k .card-complete .ensures) (c .before .before .before .before .before .before .before .enum-told3 .given .1)))
+    did-next _ _ (records-analysed (a .store .now) (a .limit) (within (k .before .before))
+    (is-passed _ (omega arith) (k .card-complete .ensures)
+    (c .before .before .before .before .before .before .before .enum-told3 .given .1)))
     (c .before .before .before .before .analyse .ensures)
 
 pub emv-mode-analysis-spec : {M : Type 1} → statement M

@@ -11,7 +11,9 @@ use Rattle.session.proofs.gpo_data_present.Tie as tie
 returns : tie.Need-returns
 returns c =
     let e1 = c .before .before in
-    sym (if-yes _ _ (both-yes _ _ (held-is _ _ _ at-82 (e1 .before .is-present .ensures) (e1 .if1 .taken)) (held-is _ _ _ at-94 (c .before .is-present2 .ensures) (c .if2 .taken))))
+    sym
+    (if-yes _ _ (both-yes _ _ (held-is _ _ _ at-82 (e1 .before .is-present .ensures) (e1 .if1 .taken))
+    (held-is _ _ _ at-94 (c .before .is-present2 .ensures) (c .if2 .taken))))
 
 returns-2 : tie.Need-returns-2
 returns-2 c = sym (if-no _ _ (both-no-right _ _ (held-is _ _ _ at-94 (c .before .is-present2 .ensures) (c .if2 .left))))

@@ -12,16 +12,26 @@ use Rattle.session.proofs.load_objects.Tie as tie
 returns : tie.Need-returns
 returns c =
     let a = c .before .before .before .before .before .before .before .before .before .before .before .args in
-    did-without-command _ (c .refuse-call .ensures ∙ ap (refusedTransition Phase.Fresh (a .count)) (c .before .refusal-number .ensures))
-    (loading-refused (a .count) (a .store .now) _ _ (c .before .before .before .before .before .before .load .ensures .0) (c .before .before .enum-told2 .given .1))
+    did-without-command _ (c .refuse-call .ensures ∙ ap (refusedTransition Phase.Fresh (a .count))
+    (c .before .refusal-number .ensures))
+    (loading-refused (a .count) (a .store .now) _ _
+    (c .before .before .before .before .before .before .load .ensures .0) (c .before .before .enum-told2 .given .1))
 
 put-requires : tie.Need-put-requires
-put-requires c κs = (c .before .before .before .before .before .before .load .ensures .1, (omega arith, omega (arith, results-fit)))
+put-requires c κs =
+    (c .before .before .before .before .before .before .load .ensures .1, (omega arith, omega (arith, results-fit)))
 
 returns-2 : tie.Need-returns-2
 returns-2 c =
-    let a = c .before .before .before .before .before .before .before .before .before .before .before .before .before .before .before .before .before .before .before .args in
-    did-as (loading-taken (a .count) (a .store .now) _ _ (c .before .before .before .before .before .before .before .before .before .before .before .before .before .before .load .ensures .0) (c .before .before .before .before .before .before .before .before .before .before .enum-told .given .1) (c .before .before .before .before .before .before .before .put .ensures .0))
+    let a =
+    c .before .before .before .before .before .before .before .before .before .before .before .before .before .before
+    .before .before .before .before .before .args in
+    did-as
+    (loading-taken (a .count) (a .store .now) _ _
+    (c .before .before .before .before .before .before .before .before .before .before .before .before .before .before
+    .load .ensures .0)
+    (c .before .before .before .before .before .before .before .before .before .before .enum-told .given .1)
+    (c .before .before .before .before .before .before .before .put .ensures .0))
     (c .before .before .ask-gpo .ensures)
 
 pub load-objects-spec : {M : Type 1} → statement M

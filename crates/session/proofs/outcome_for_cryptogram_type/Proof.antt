@@ -11,13 +11,16 @@ use Rattle.session.proofs.outcome_for_cryptogram_type.Statement.{statem
 use Rattle.session.proofs.outcome_for_cryptogram_type.Tie as tie
 
 -- a cryptogram of type 10, and of type 01, by what was requested
-online : {x y : Choice} {kind : ℕ} → (kind ≡ 0 → ⊥) → kind ≡ 2 → x ≡ y → endingForDecision (outcomeForArqc y) ≡ endingForDecision (outcomeForCryptogramType x kind)
+online : {x y : Choice} {kind : ℕ} → (kind ≡ 0 → ⊥) → kind ≡ 2 → x ≡ y → endingForDecision (outcomeForArqc y)
+    ≡ endingForDecision (outcomeForCryptogramType x kind)
 unfolding outcomeForCryptogramType
 online n e f = ap endingForDecision (sym (if-no _ _ (ne-eqb _ 0 n) ∙ if-yes _ _ (eq-eqb _ 2 e) ∙ ap outcomeForArqc f))
 
-approved : {x y : Choice} {kind : ℕ} → (kind ≡ 0 → ⊥) → (kind ≡ 2 → ⊥) → kind ≡ 1 → x ≡ y → endingForDecision (outcomeForTc y) ≡ endingForDecision (outcomeForCryptogramType x kind)
+approved : {x y : Choice} {kind : ℕ} → (kind ≡ 0 → ⊥) → (kind ≡ 2 → ⊥) → kind ≡ 1 → x ≡ y
+    → endingForDecision (outcomeForTc y) ≡ endingForDecision (outcomeForCryptogramType x kind)
 unfolding outcomeForCryptogramType
-approved n m e f = ap endingForDecision (sym (if-no _ _ (ne-eqb _ 0 n) ∙ if-no _ _ (ne-eqb _ 2 m) ∙ if-yes _ _ (eq-eqb _ 1 e) ∙ ap outcomeForTc f))
+approved n m e f = ap endingForDecision
+    (sym (if-no _ _ (ne-eqb _ 0 n) ∙ if-no _ _ (ne-eqb _ 2 m) ∙ if-yes _ _ (eq-eqb _ 1 e) ∙ ap outcomeForTc f))
 
 returns : tie.Need-returns
 unfolding outcomeForCryptogramType
@@ -33,17 +36,22 @@ returns-4 : tie.Need-returns-4
 returns-4 c = online (c .before .before .before .if1 .left) (c .before .before .if2 .taken) (c .enum-told3 .given .1)
 
 returns-5 : tie.Need-returns-5
-returns-5 c = approved (c .before .before .before .before .if1 .left) (c .before .before .before .if2 .left) (c .before .before .if3 .taken) (c .enum-told4 .given .1)
+returns-5 c = approved (c .before .before .before .before .if1 .left) (c .before .before .before .if2 .left)
+    (c .before .before .if3 .taken) (c .enum-told4 .given .1)
 
 returns-6 : tie.Need-returns-6
-returns-6 c = approved (c .before .before .before .before .if1 .left) (c .before .before .before .if2 .left) (c .before .before .if3 .taken) (c .enum-told5 .given .1)
+returns-6 c = approved (c .before .before .before .before .if1 .left) (c .before .before .before .if2 .left)
+    (c .before .before .if3 .taken) (c .enum-told5 .given .1)
 
 returns-7 : tie.Need-returns-7
-returns-7 c = approved (c .before .before .before .before .if1 .left) (c .before .before .before .if2 .left) (c .before .before .if3 .taken) (c .enum-told6 .given .1)
+returns-7 c = approved (c .before .before .before .before .if1 .left) (c .before .before .before .if2 .left)
+    (c .before .before .if3 .taken) (c .enum-told6 .given .1)
 
 returns-8 : tie.Need-returns-8
 unfolding outcomeForCryptogramType
-returns-8 c = ap endingForDecision (sym (if-no _ _ (ne-eqb _ 0 (c .before .before .if1 .left)) ∙ if-no _ _ (ne-eqb _ 2 (c .before .if2 .left)) ∙ if-no _ _ (ne-eqb _ 1 (c .if3 .left))))
+returns-8 c = ap endingForDecision
+    (sym (if-no _ _ (ne-eqb _ 0 (c .before .before .if1 .left)) ∙ if-no _ _ (ne-eqb _ 2 (c .before .if2 .left)) ∙ if-no
+    _ _ (ne-eqb _ 1 (c .if3 .left))))
 
 pub outcome-for-cryptogram-type-spec : {M : Type 1} → statement M
 outcome-for-cryptogram-type-spec =

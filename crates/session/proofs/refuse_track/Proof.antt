@@ -13,14 +13,17 @@ returns : tie.Need-returns
 returns c buf =
     let j = c .before .before .before in
     let st = j .before .before .before in
-    did-end _ _ _ (c .fail-session .ensures ∙ ap (failingTransition cvmNumberNotApplicable (st .args .count)) (c .before .verdict-number .ensures))
-    (unsound-read (st .args .bytes .now) (st .args .card .now) (j .judge-answer .result) (st .pre .1) (j .judge-answer .ensures) (c .before .before .match .keys2))
+    did-end _ _ _ (c .fail-session .ensures ∙ ap (failingTransition cvmNumberNotApplicable (st .args .count))
+    (c .before .verdict-number .ensures))
+    (unsound-read (st .args .bytes .now) (st .args .card .now) (j .judge-answer .result) (st .pre .1)
+    (j .judge-answer .ensures) (c .before .before .match .keys2))
 
 returns-2 : tie.Need-returns-2
 returns-2 c buf =
     let j = c .before .before .before in
     let st = j .before .before .before in
-    did-end _ _ _ (c .fail-session2 .ensures) (unsound-kept (st .args .bytes .now) (st .args .card .now) (j .judge-answer .result) (st .pre .1) (j .judge-answer .ensures) (c .before .enum-told .given .1))
+    did-end _ _ _ (c .fail-session2 .ensures) (unsound-kept (st .args .bytes .now) (st .args .card .now)
+    (j .judge-answer .result) (st .pre .1) (j .judge-answer .ensures) (c .before .enum-told .given .1))
 
 pub refuse-track-spec : {M : Type 1} → statement M
 refuse-track-spec =

@@ -14,11 +14,16 @@ use Rattle.session.proofs.take_checksum.Statement.{statement}
 use Rattle.session.proofs.take_checksum.Tie as tie
 
 -- past the test the stored track can take the digits
-sound : (c : tie.After-enum-told) → storedTrackCanTakeDigits (c .before .before .before .before .before .before .args .store .now) ≡ true
+sound : (c : tie.After-enum-told)
+    → storedTrackCanTakeDigits (c .before .before .before .before .before .before .args .store .now) ≡ true
 sound c = is-passed _ (omega arith) (c .before .before .track-in .ensures) (c .enum-told .given .1)
 
 refuse-track-requires : tie.Need-refuse-track-requires
-refuse-track-requires c κs = (search needs, is-failed _ (omega arith) (c .before .before .before .track-in .ensures) (c .before .enum-told2 .given .1))
+refuse-track-requires c κs = (
+  search needs,
+  is-failed _ (omega arith) (c .before .before .before .track-in .ensures)
+      (c .before .enum-told2 .given .1),
+)
 
 returns : tie.Need-returns
 returns c buf = c .refuse-track .ensures buf
@@ -26,18 +31,27 @@ returns c buf = c .refuse-track .ensures buf
 returns-2 : tie.Need-returns-2
 unfolding nextOnChecksumResponse
 returns-2 c buf =
-    let a = c .before .before .before .before .before .before .before .before .before .before .before .before .before .args in
-    did-end _ _ _ (c .fail-session .ensures ∙ ap (failingTransition cvmNumberNotApplicable (a .count)) (c .before .verdict-number .ensures))
-    (read-ends Awaited.Checksum cvmNumberNotApplicable (a .store .now) (a .card .now) (nextIfTrackTakesDigits (a .store .now)) (c .before .before .before .before .before .read-answer .ensures .0) (c .before .before .match2 .keys2))
+    let a =
+    c .before .before .before .before .before .before .before .before .before .before .before .before .before .args in
+    did-end _ _ _ (c .fail-session .ensures ∙ ap (failingTransition cvmNumberNotApplicable (a .count))
+    (c .before .verdict-number .ensures))
+    (read-ends Awaited.Checksum cvmNumberNotApplicable (a .store .now) (a .card .now)
+    (nextIfTrackTakesDigits (a .store .now)) (c .before .before .before .before .before .read-answer .ensures .0)
+    (c .before .before .match2 .keys2))
 
 returns-3 : tie.Need-returns-3
 unfolding nextOnChecksumResponse
 returns-3 c buf =
-    let a = c .before .before .before .before .before .before .before .before .before .before .before .before .before .before .before .before .args in
+    let a =
+    c .before .before .before .before .before .before .before .before .before .before .before .before .before .before
+    .before .before .args in
     did-next _ _
-    (read-goes Awaited.Checksum cvmNumberNotApplicable (a .store .now) (a .card .now) (nextIfTrackTakesDigits (a .store .now)) (c .before .before .before .before .before .before .before .before .read-answer .ensures .0)
+    (read-goes Awaited.Checksum cvmNumberNotApplicable (a .store .now) (a .card .now)
+    (nextIfTrackTakesDigits (a .store .now))
+    (c .before .before .before .before .before .before .before .before .read-answer .ensures .0)
     (c .before .before .before .before .enum-told3 .given .1)
-    ∙ taken-sound (a .store .now) _ (sound (c .before .before .before .before .before .before .before .before .before .before)))
+    ∙ taken-sound (a .store .now) _
+    (sound (c .before .before .before .before .before .before .before .before .before .before)))
     (c .before .before .checksum-outcome .ensures buf)
 
 pub take-checksum-spec : {M : Type 1} → statement M

@@ -14,15 +14,21 @@ returns : tie.Need-returns
 unfolding nextOnGpoResponse
 returns c =
     let a = c .before .before .before .before .before .before .before .before .before .before .args in
-    did-end _ _ _ (c .fail-session .ensures ∙ ap (failingTransition cvmNumberNotApplicable (a .count)) (c .before .verdict-number .ensures))
-    (read-ends Awaited.Gpo cvmNumberNotApplicable (a .store .now) (a .card .now) nextAfterGpoRead (c .before .before .before .before .before .read-answer .ensures .0) (c .before .before .match .keys2))
+    did-end _ _ _ (c .fail-session .ensures ∙ ap (failingTransition cvmNumberNotApplicable (a .count))
+    (c .before .verdict-number .ensures))
+    (read-ends Awaited.Gpo cvmNumberNotApplicable (a .store .now) (a .card .now) nextAfterGpoRead
+    (c .before .before .before .before .before .read-answer .ensures .0) (c .before .before .match .keys2))
 
 returns-2 : tie.Need-returns-2
 unfolding nextOnGpoResponse
 returns-2 c =
-    let a = c .before .before .before .before .before .before .before .before .before .before .before .before .before .before .args in
+    let a =
+    c .before .before .before .before .before .before .before .before .before .before .before .before .before .before
+    .args in
     did-next _ _
-    (read-goes Awaited.Gpo cvmNumberNotApplicable (a .store .now) (a .card .now) nextAfterGpoRead (c .before .before .before .before .before .before .before .before .before .read-answer .ensures .0) (c .before .before .before .before .before .enum-told .given .1))
+    (read-goes Awaited.Gpo cvmNumberNotApplicable (a .store .now) (a .card .now) nextAfterGpoRead
+    (c .before .before .before .before .before .before .before .before .before .read-answer .ensures .0)
+    (c .before .before .before .before .before .enum-told .given .1))
     (c .before .before .after-gpo .ensures)
 
 pub take-gpo-spec : {M : Type 1} → statement M

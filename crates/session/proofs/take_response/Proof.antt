@@ -9,17 +9,23 @@ use Rattle.session.proofs.take_response.Tie as tie
 
 returns : tie.Need-returns
 returns c =
-    did-next _ _ (ap (nextOnResponse _ _) (c .before .before .before .before .before .before .before .enum-told .given .1)) (c .before .before .before .before .take-gpo .ensures)
+    did-next _ _
+    (ap (nextOnResponse _ _) (c .before .before .before .before .before .before .before .enum-told .given .1))
+    (c .before .before .before .before .take-gpo .ensures)
 
 returns-2 : tie.Need-returns-2
 returns-2 c =
-    did-next _ _ (ap (nextOnResponse _ _) (c .before .before .before .before .before .before .before .before .awaited .given .1)) (c .before .before .before .before .take-record .ensures)
+    did-next _ _
+    (ap (nextOnResponse _ _) (c .before .before .before .before .before .before .before .before .awaited .given .1))
+    (c .before .before .before .before .take-record .ensures)
 
 returns-3 : tie.Need-returns-3
-returns-3 c = did-next _ _ (ap (nextOnResponse _ _) (c .before .before .before .before .before .awaited2 .given .1)) (c .before .before .take-cryptogram .ensures _)
+returns-3 c = did-next _ _ (ap (nextOnResponse _ _) (c .before .before .before .before .before .awaited2 .given .1))
+    (c .before .before .take-cryptogram .ensures _)
 
 returns-4 : tie.Need-returns-4
-returns-4 c = did-next _ _ (ap (nextOnResponse _ _) (c .before .before .before .before .enum-told2 .given .1)) (c .before .before .take-checksum .ensures _)
+returns-4 c = did-next _ _ (ap (nextOnResponse _ _) (c .before .before .before .before .enum-told2 .given .1))
+    (c .before .before .take-checksum .ensures _)
 
 pub take-response-spec : {M : Type 1} → statement M
 take-response-spec =

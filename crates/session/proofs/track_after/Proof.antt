@@ -14,15 +14,25 @@ use Rattle.session.proofs.track_after.Statement.{statement}
 use Rattle.session.proofs.track_after.Tie as tie
 
 copy-requires : tie.Need-copy-requires
-copy-requires c κs = omega (arith, ap length (c .before .value .ensures ∙ bytes-are _ _ _ at-9F6B), c .before .before .before .before .pre)
+copy-requires c κs = omega (
+  arith,
+  ap length (c .before .value .ensures ∙ bytes-are _ _ _ at-9F6B),
+  c .before .before .before .before .pre,
+)
 
 returns : tie.Need-returns
 returns c =
-    let st = c .before .before .before .before .before .before .before .before .before .before .before .before .before in
-    let v = c .before .before .before .before .before .before .before .before .before .before .value .ensures ∙ bytes-are _ _ _ at-9F6B in
-    let e = copied _ (st .args .track .now) _ (ap length v ∙ sym (st .pre)) (c .before .before .before .before .before .before .before .before .copy .ensures .1) ∙ v in
-    let p = c .before .before .put-digits .ensures in
-    (p .0 ∙ (λ i. trackWithDigitsIfPossible (e i) (c .before .before .before .before .before .bitmaps-in .ensures i) (c .before .before .before .before .values-in .ensures i)), p .1 .0 .size ∙ ap length e ∙ sym (st .pre))
+    let st = c .before .before .before .before .before .before .before .before .before .before .before .before .before
+    in
+    let v = c .before .before .before .before .before .before .before .before .before .before .value .ensures ∙
+    bytes-are _ _ _ at-9F6B in
+    let e = copied _ (st .args .track .now) _ (ap length v ∙ sym (st .pre))
+    (c .before .before .before .before .before .before .before .before .copy .ensures .1) ∙ v in
+    let p = c .before .before .put-digits .ensures in (
+      p .0 ∙ (λ i. trackWithDigitsIfPossible (e i) (c .before .before .before .before .before .bitmaps-in .ensures i)
+          (c .before .before .before .before .values-in .ensures i)),
+      p .1 .0 .size ∙ ap length e ∙ sym (st .pre),
+    )
 
 pub track-after-spec : {M : Type 1} → statement M
 track-after-spec =

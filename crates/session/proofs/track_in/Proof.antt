@@ -13,10 +13,12 @@ use Rattle.session.specs.MagStripe.{storedTrackCanTakeDigits}
 use Rattle.session.proofs.track_in.Statement.{statement}
 use Rattle.session.proofs.track_in.Tie as tie
 
-tested : (c : tie.After-can-take-digits) → c .can-take-digits .result ≡ storedTrackCanTakeDigits (c .before .before .before .before .args .bytes .now)
+tested : (c : tie.After-can-take-digits) → c .can-take-digits .result ≡ storedTrackCanTakeDigits
+    (c .before .before .before .before .args .bytes .now)
 tested c =
     c .can-take-digits .ensures
-    ∙ ap₂ (λ (t : List ℕ) (b : Bitmaps). trackCanTakeDigits t b) (c .before .value .ensures ∙ bytes-are _ _ _ at-9F6B) (c .before .before .bitmaps-in .ensures)
+    ∙ ap₂ (λ (t : List ℕ) (b : Bitmaps). trackCanTakeDigits t b) (c .before .value .ensures ∙ bytes-are _ _ _ at-9F6B)
+    (c .before .before .bitmaps-in .ensures)
 
 returns : tie.Need-returns
 returns c = sym (if-yes _ _ (sym (tested (c .before)) ∙ c .if1 .taken))
@@ -25,4 +27,5 @@ returns-2 : tie.Need-returns-2
 returns-2 c = sym (if-no _ _ (sym (tested (c .before)) ∙ c .if1 .left))
 
 pub track-in-spec : {M : Type 1} → statement M
-track-in-spec = tie.close (tie.spec (λ c κs. search needs) (λ c κs. search needs) (λ c κs. search needs) returns returns-2)
+track-in-spec = tie.close (tie.spec (λ c κs. search needs) (λ c κs. search needs) (λ c κs. search needs) returns
+    returns-2)

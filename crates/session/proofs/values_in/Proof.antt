@@ -12,8 +12,10 @@ use Rattle.session.proofs.values_in.Tie as tie
 returns : tie.Need-returns
 returns c =
     c .digit-values-of .ensures
-    ∙ three digitValuesOf (c .before .before .before .value .ensures ∙ bytes-are _ _ _ at-9F61) (c .before .before .value2 .ensures ∙ bytes-are _ _ _ at-9F6A)
+    ∙ three digitValuesOf (c .before .before .before .value .ensures ∙ bytes-are _ _ _ at-9F61)
+    (c .before .before .value2 .ensures ∙ bytes-are _ _ _ at-9F6A)
     (c .before .value3 .ensures ∙ bytes-are _ _ _ at-9F36)
 
 pub values-in-spec : {M : Type 1} → statement M
-values-in-spec = tie.close (tie.spec (λ c κs. search needs) (λ c κs. search needs) (λ c κs. search needs) (λ c κs. search needs) returns)
+values-in-spec = tie.close (tie.spec (λ c κs. search needs) (λ c κs. search needs) (λ c κs. search needs)
+    (λ c κs. search needs) returns)

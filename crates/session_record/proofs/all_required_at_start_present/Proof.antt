@@ -1,4 +1,5 @@
--- `session_record::all_required_at_start_present` meets its contract. The invariant: the rows from here on, of those that a
+-- `session_record::all_required_at_start_present` meets its contract. The invariant: the rows from here on, of those
+-- that a
 -- start must bring, decide.
 -- Assumes nothing.
 use borrow.Author.Tests.{not-true, not-false}
@@ -28,19 +29,22 @@ Claims = (is-there.Asked, is-there.Learnt)
 
 -- what is said of the row at hand
 told : (c : lts.After-is-there Claims reads.Pre reads.Post Inv-loop μ-loop)
-    → thereAt (c .before .before .before .before .args .bytes .now) (getD rowNumbersRequiredAtStart (c .before .before .loop .i) 0) ≡ c .is-present .result
+    → thereAt (c .before .before .before .before .args .bytes .now)
+    (getD rowNumbersRequiredAtStart (c .before .before .loop .i) 0) ≡ c .is-present .result
 unfolding rowNumbersRequiredAtStart
 told c = sym (c .is-present .ensures)
 
 returns : tie.Need-returns Inv-loop μ-loop
 returns c =
     let lp = c .before .before .before .loop in
-    sym (lp .inv ∙ every-no (thereAt _) rowNumbersRequiredAtStart 0 (lp .i) (omega (arith, rows-many)) (told (c .before) ∙ not-true _ (c .if1 .taken)))
+    sym (lp .inv ∙ every-no (thereAt _) rowNumbersRequiredAtStart 0 (lp .i) (omega (arith, rows-many))
+    (told (c .before) ∙ not-true _ (c .if1 .taken)))
 
 loop-again : tie.Need-loop-again Inv-loop μ-loop
 loop-again c =
     let lp = c .before .before .before .loop in
-    lp .inv ∙ every-yes (thereAt _) rowNumbersRequiredAtStart 0 (lp .i) (omega (arith, rows-many)) (told (c .before) ∙ not-false _ (c .if1 .left))
+    lp .inv ∙ every-yes (thereAt _) rowNumbersRequiredAtStart 0 (lp .i) (omega (arith, rows-many))
+    (told (c .before) ∙ not-false _ (c .if1 .left))
 
 returns-2 : tie.Need-returns-2 Inv-loop μ-loop
 returns-2 c =

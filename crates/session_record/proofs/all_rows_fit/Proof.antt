@@ -25,7 +25,8 @@ use Rattle.session_record.proofs.next_held.Reads as next-held
 use Rattle.session_record.proofs.row_fits.Reads as place-keeps
 
 abbrev Inv-loop : tie.InvT-loop
-Inv-loop bytes asked codes row₀ at₀ brought₀ row at brought = (row ≤ rowCount) × (at ≡ rowOffset dictionaryRows row) × Walk bytes row brought
+Inv-loop bytes asked codes row₀ at₀ brought₀ row at brought = (row ≤ rowCount) × (at ≡ rowOffset dictionaryRows row)
+    × Walk bytes row brought
 
 abbrev μ-loop : tie.MeasureT-loop
 μ-loop bytes asked codes row₀ at₀ brought₀ row at brought = rowCount - row
@@ -52,25 +53,32 @@ Claims = (
 
 next-held-requires : tie.Need-next-held-requires Inv-loop μ-loop
 next-held-requires c κs =
-    let lp = c .before .loop in
-    (c .before .before .before .before .pre, (c .before .before .packed-row-attributes .ensures, (lp .inv .0, lp .inv .1)))
+    let lp = c .before .loop in (
+      c .before .before .before .before .pre,
+      (c .before .before .packed-row-attributes .ensures, (lp .inv .0, lp .inv .1)),
+    )
 
 -- the walk comes to the next object that is present
 come : (c : lts.After-next-held Claims reads.Pre reads.Post Inv-loop μ-loop)
-    → Walk (c .before .before .before .before .before .args .bytes .now) (c .next-held .result .row) (c .before .before .loop .brought)
-come c = walk-on _ (c .before .before .loop .row) _ _ _ (c .before .before .loop .inv .2) (c .next-held .ensures .passed)
+    → Walk (c .before .before .before .before .before .args .bytes .now) (c .next-held .result .row)
+    (c .before .before .loop .brought)
+come c = walk-on _ (c .before .before .loop .row) _ _ _ (c .before .before .loop .inv .2)
+    (c .next-held .ensures .passed)
 
 -- or to the end, and the count decides
 returns : tie.Need-returns Inv-loop μ-loop
 returns c =
     let n = c .before .before in
-    c .is-enough .ensures ∙ sym (walk-end (n .before .before .before .before .before .args .asked) _ (n .next-held .result .row) _ (come n) (omega arith))
+    c .is-enough .ensures ∙ sym (walk-end (n .before .before .before .before .before .args .asked) _
+    (n .next-held .result .row) _ (come n) (omega arith))
 
 -- what the row at hand says, and where its place is
-read : (c : lts.After-unpacked Claims reads.Pre reads.Post Inv-loop μ-loop) → c .unpack-row-attributes .result ≡ attributesOf (rowAt (c .before .before .next-held .result .row))
+read : (c : lts.After-unpacked Claims reads.Pre reads.Post Inv-loop μ-loop) → c .unpack-row-attributes .result
+    ≡ attributesOf (rowAt (c .before .before .next-held .result .row))
 read c =
     let n = c .before .before in
-    row-read _ (n .next-held .result .row) _ (omega arith) (n .before .before .before .packed-row-attributes .ensures) (c .unpack-row-attributes .ensures)
+    row-read _ (n .next-held .result .row) _ (omega arith) (n .before .before .before .packed-row-attributes .ensures)
+    (c .unpack-row-attributes .ensures)
 
 stood : (c : lts.After-unpacked Claims reads.Pre reads.Post Inv-loop μ-loop)
     → let h = c .before .before .next-held .result in
@@ -85,22 +93,26 @@ place-keeps-requires c κs =
     let n = u .before .before in
     let s = stood u in
     let t = n .next-held .ensures .there (omega arith) in
-    let f = part-first (n .before .before .before .before .before .args .bytes .now) (n .next-held .result .at) (u .unpack-row-attributes .result .greatest) in
+    let f = part-first (n .before .before .before .before .before .args .bytes .now) (n .next-held .result .at)
+    (u .unpack-row-attributes .result .greatest) in
     (simp (length-take, length-drop) (omega arith), omega arith)
 
 -- what is said of the place is said of the row's object
 told : (c : lts.After-row-fits Claims reads.Pre reads.Post Inv-loop μ-loop)
     → let n = c .before .before .before .before .before in
-    storedObjectAbsentOrFitsRow (n .before .before .before .before .before .args .bytes .now) (rowAt (n .next-held .result .row)) ≡ c .row-fits .result
+    storedObjectAbsentOrFitsRow (n .before .before .before .before .before .args .bytes .now)
+    (rowAt (n .next-held .result .row)) ≡ c .row-fits .result
 told c =
     let u = c .before .before .before in
     let n = u .before .before .next-held in
-    object-part _ (n .result .row) (n .result .at) _ (omega arith) (n .ensures .passed .place) (read u) ∙ sym (c .row-fits .ensures)
+    object-part _ (n .result .row) (n .result .at) _ (omega arith) (n .ensures .passed .place) (read u) ∙ sym
+    (c .row-fits .ensures)
 
 returns-2 : tie.Need-returns-2 Inv-loop μ-loop
 returns-2 c =
     let n = c .before .before .before .before .before .before in
-    sym (walk-no _ (n .next-held .result .row) _ (come n) (omega arith) (n .before .before .before .before .before .args .asked) (told (c .before) ∙ not-true _ (c .if2 .taken)))
+    sym (walk-no _ (n .next-held .result .row) _ (come n) (omega arith)
+    (n .before .before .before .before .before .args .asked) (told (c .before) ∙ not-true _ (c .if2 .taken)))
 
 add-brought : tie.Need-add-brought Inv-loop μ-loop
 add-brought c =
@@ -117,7 +129,8 @@ loop-again c =
     let m = c .widen .ensures .0 ∙ ap (λ (a : RowAttributes). a .must) (read u) in (
       omega arith,
       stood u .next,
-      walk-held _ (h .result .row) _ (come n) (omega arith) (h .result .at) _ (h .ensures .passed .place) (h .ensures .there (omega arith)) m (told p ∙ not-false _ (c .before .if2 .left)),
+      walk-held _ (h .result .row) _ (come n) (omega arith) (h .result .at) _ (h .ensures .passed .place)
+          (h .ensures .there (omega arith)) m (told p ∙ not-false _ (c .before .if2 .left)),
     )
 
 pub all-rows-fit-spec : {M : Type 1} → statement M

@@ -25,7 +25,8 @@ abbrev μ-loop : tie.MeasureT-loop
 μ-loop v most₀ i₀ most i = length v - i
 
 -- a byte that is no greater than the greatest so far changes nothing
-no-greater : (v : List ℕ) (i m : ℕ) → i < length v → getD v i 0 ≤ m → both (eqb m 0) (every isZeroByte (drop i v)) ≡ both (eqb m 0) (every isZeroByte (drop (i + 1) v))
+no-greater : (v : List ℕ) (i m : ℕ) → i < length v → getD v i 0 ≤ m → both (eqb m 0) (every isZeroByte (drop i v))
+    ≡ both (eqb m 0) (every isZeroByte (drop (i + 1) v))
 no-greater v i m h l =
     elim (equal-or-not m 0) [
       | inl e ↦ ap (both (eqb m 0)) (every-yes isZeroByte v 0 i h (eq-eqb (getD v i 0) 0 (omega arith)))
@@ -38,12 +39,13 @@ loop-again c =
     let v = c .before .before .before .before .args .v .now in
     elim (c .if1 .came) [
       | inl w ↦
-        let lt : lp .most < getD v (lp .i) 0 = w .0 .taken in
-        let is : c .if1 .most ≡ getD v (lp .i) 0 = w .1 in
-        lp .inv ∙ both-no-right _ _ (every-no isZeroByte v 0 (lp .i) (omega arith) (ne-eqb (getD v (lp .i) 0) 0 (λ e. omega arith)))
-        ∙ sym (both-no-left _ _ (ne-eqb (c .if1 .most) 0 (λ e. omega arith)))
+          let lt : lp .most < getD v (lp .i) 0 = w .0 .taken in
+          let is : c .if1 .most ≡ getD v (lp .i) 0 = w .1 in
+          lp .inv ∙ both-no-right _ _
+          (every-no isZeroByte v 0 (lp .i) (omega arith) (ne-eqb (getD v (lp .i) 0) 0 (λ e. omega arith)))
+          ∙ sym (both-no-left _ _ (ne-eqb (c .if1 .most) 0 (λ e. omega arith)))
       | inr w ↦ lp .inv ∙ no-greater v (lp .i) (lp .most) (omega arith) (omega arith)
-        ∙ ap (λ (n : ℕ). both (eqb n 0) (every isZeroByte (drop (lp .i + 1) v))) (sym (w .1))
+          ∙ ap (λ (n : ℕ). both (eqb n 0) (every isZeroByte (drop (lp .i + 1) v))) (sym (w .1))
     ]
 
 returns : tie.Need-returns Inv-loop μ-loop

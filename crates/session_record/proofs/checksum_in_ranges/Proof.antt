@@ -13,7 +13,8 @@ use Rattle.dictionary.proofs.Named.{at-95}
 use Rattle.afl.specs.Records.{acceptsAfl}
 use Rattle.analysis.specs.Action.{transactionLimit}
 use Rattle.store.specs.Held.{isObjectZeroOrAbsent}
-use Rattle.session_record.specs.Ranges.{allStoredObjectsFitRows, magStripeMode, track2AndBitmapsNonEmpty, storedAfl, storedAflRecordCount, inChecksumRanges}
+use Rattle.session_record.specs.Ranges.{allStoredObjectsFitRows, magStripeMode, track2AndBitmapsNonEmpty}
+use Rattle.session_record.specs.Ranges.{storedAfl, storedAflRecordCount, inChecksumRanges}
 use Rattle.session_record.proofs.Tags.{zero-is, located-no, located-yes}
 use Rattle.session_record.proofs.Tests.{two-less}
 use Rattle.session_record.proofs.checksum_in_ranges.Statement.{statement}
@@ -23,7 +24,10 @@ past-running : (c : tie.Else1)
     → let a = c .before .before .before .args in
     let b = a .bytes .now in
     both (allStoredObjectsFitRows b) (inChecksumRanges (a .checksum) (a .count) b)
-    ≡ both (magStripeMode b) (both (isObjectZeroOrAbsent b 0x95) (both (track2AndBitmapsNonEmpty b) (both (eqb (a .checksum .limit) (transactionLimit b)) (both (acceptsAfl (storedAfl b)) (eqb (a .count) (2 + storedAflRecordCount b))))))
+    ≡ both (magStripeMode b)
+    (both (isObjectZeroOrAbsent b 0x95)
+    (both (track2AndBitmapsNonEmpty b) (both (eqb (a .checksum .limit) (transactionLimit b))
+    (both (acceptsAfl (storedAfl b)) (eqb (a .count) (2 + storedAflRecordCount b))))))
 unfolding inChecksumRanges
 past-running c = both-assoc _ _ _ ∙ both-true _ (sym (c .before .is-running .ensures) ∙ not-false _ (c .if1 .left))
 
@@ -31,36 +35,48 @@ past-mode : (c : tie.Else2)
     → let a = c .before .before .before .before .before .args in
     let b = a .bytes .now in
     both (allStoredObjectsFitRows b) (inChecksumRanges (a .checksum) (a .count) b)
-    ≡ both (isObjectZeroOrAbsent b 0x95) (both (track2AndBitmapsNonEmpty b) (both (eqb (a .checksum .limit) (transactionLimit b)) (both (acceptsAfl (storedAfl b)) (eqb (a .count) (2 + storedAflRecordCount b)))))
-past-mode c = past-running (c .before .before) ∙ both-true _ (sym (c .before .is-mag-stripe-mode .ensures) ∙ not-false _ (c .if2 .left))
+    ≡ both (isObjectZeroOrAbsent b 0x95)
+    (both (track2AndBitmapsNonEmpty b) (both (eqb (a .checksum .limit) (transactionLimit b))
+    (both (acceptsAfl (storedAfl b)) (eqb (a .count) (2 + storedAflRecordCount b)))))
+past-mode c = past-running (c .before .before) ∙ both-true _ (sym (c .before .is-mag-stripe-mode .ensures) ∙ not-false _
+    (c .if2 .left))
 
 past-95 : (c : tie.Else3)
     → let a = c .before .before .before .before .before .before .before .before .args in
     let b = a .bytes .now in
     both (allStoredObjectsFitRows b) (inChecksumRanges (a .checksum) (a .count) b)
-    ≡ both (track2AndBitmapsNonEmpty b) (both (eqb (a .checksum .limit) (transactionLimit b)) (both (acceptsAfl (storedAfl b)) (eqb (a .count) (2 + storedAflRecordCount b))))
+    ≡ both (track2AndBitmapsNonEmpty b) (both (eqb (a .checksum .limit) (transactionLimit b))
+    (both (acceptsAfl (storedAfl b)) (eqb (a .count) (2 + storedAflRecordCount b))))
 past-95 c =
     let z = c .before in
-    past-mode (z .before .before) ∙ both-true _ (zero-is _ _ _ at-95 (z .before .value .ensures) (z .all-zero .ensures) (not-false _ (c .if3 .left)))
+    past-mode (z .before .before) ∙ both-true _ (zero-is _ _ _ at-95 (z .before .value .ensures) (z .all-zero .ensures)
+    (not-false _ (c .if3 .left)))
 
 past-track : (c : tie.Else4)
     → let a = c .before .before .before .before .before .before .before .before .before .before .args in
     let b = a .bytes .now in
     both (allStoredObjectsFitRows b) (inChecksumRanges (a .checksum) (a .count) b)
-    ≡ both (eqb (a .checksum .limit) (transactionLimit b)) (both (acceptsAfl (storedAfl b)) (eqb (a .count) (2 + storedAflRecordCount b)))
-past-track c = past-95 (c .before .before) ∙ both-true _ (sym (c .before .track2-and-bitmaps-non-empty .ensures) ∙ not-false _ (c .if4 .left))
+    ≡ both (eqb (a .checksum .limit) (transactionLimit b))
+    (both (acceptsAfl (storedAfl b)) (eqb (a .count) (2 + storedAflRecordCount b)))
+past-track c = past-95 (c .before .before) ∙ both-true _ (sym (c .before .track2-and-bitmaps-non-empty .ensures) ∙
+    not-false _ (c .if4 .left))
 
 past-limit : (c : tie.Else5)
-    → let a = c .before .before .before .before .before .before .before .before .before .before .before .before .before .args in
+    → let a =
+    c .before .before .before .before .before .before .before .before .before .before .before .before .before .args in
     let b = a .bytes .now in
     both (allStoredObjectsFitRows b) (inChecksumRanges (a .checksum) (a .count) b)
     ≡ both (acceptsAfl (storedAfl b)) (eqb (a .count) (2 + storedAflRecordCount b))
-past-limit c = past-track (c .before .before .before) ∙ both-true _ (eq-eqb _ _ (c .if5 .left ∙ c .before .before .transaction-limit .ensures))
+past-limit c = past-track (c .before .before .before) ∙ both-true _
+    (eq-eqb _ _ (c .if5 .left ∙ c .before .before .transaction-limit .ensures))
 
 -- where the AFL is accepted, the count decides
 counted : (c : tie.After-known-told)
-    → let a = c .before .before .before .before .before .before .before .before .before .before .before .before .before .before .before .before .before .before .args in
-    (both (allStoredObjectsFitRows (a .bytes .now)) (inChecksumRanges (a .checksum) (a .count) (a .bytes .now)) ≡ eqb (a .count) (2 + storedAflRecordCount (a .bytes .now)))
+    → let a =
+    c .before .before .before .before .before .before .before .before .before .before .before .before .before .before
+    .before .before .before .before .args in
+    (both (allStoredObjectsFitRows (a .bytes .now)) (inChecksumRanges (a .checksum) (a .count) (a .bytes .now))
+    ≡ eqb (a .count) (2 + storedAflRecordCount (a .bytes .now)))
     × (c .before .c .given .0 .0 .records ≡ storedAflRecordCount (a .bytes .now))
 counted c =
     let k = c .before .before .before in
@@ -69,31 +85,46 @@ counted c =
 
 returns : tie.Need-returns
 unfolding inChecksumRanges
-returns c = sym (both-assoc _ _ _ ∙ both-no-left _ _ (sym (c .before .is-running .ensures) ∙ not-true _ (c .if1 .taken)))
+returns c =
+    sym (both-assoc _ _ _ ∙ both-no-left _ _ (sym (c .before .is-running .ensures) ∙ not-true _ (c .if1 .taken)))
 
 returns-2 : tie.Need-returns-2
-returns-2 c = sym (past-running (c .before .before) ∙ both-no-left _ _ (sym (c .before .is-mag-stripe-mode .ensures) ∙ not-true _ (c .if2 .taken)))
+returns-2 c =
+    sym (past-running (c .before .before) ∙ both-no-left _ _ (sym (c .before .is-mag-stripe-mode .ensures) ∙ not-true _
+    (c .if2 .taken)))
 
 returns-3 : tie.Need-returns-3
 returns-3 c =
     let z = c .before in
-    sym (past-mode (z .before .before) ∙ both-no-left _ _ (zero-is _ _ _ at-95 (z .before .value .ensures) (z .all-zero .ensures) (not-true _ (c .if3 .taken))))
+    sym
+    (past-mode (z .before .before) ∙ both-no-left _ _
+    (zero-is _ _ _ at-95 (z .before .value .ensures) (z .all-zero .ensures) (not-true _ (c .if3 .taken))))
 
 returns-4 : tie.Need-returns-4
-returns-4 c = sym (past-95 (c .before .before) ∙ both-no-left _ _ (sym (c .before .track2-and-bitmaps-non-empty .ensures) ∙ not-true _ (c .if4 .taken)))
+returns-4 c =
+    sym
+    (past-95 (c .before .before) ∙ both-no-left _ _ (sym (c .before .track2-and-bitmaps-non-empty .ensures) ∙ not-true _
+    (c .if4 .taken)))
 
 returns-5 : tie.Need-returns-5
-returns-5 c = sym (past-track (c .before .before .before) ∙ both-no-left _ _ (ne-eqb _ _ (λ e. c .if5 .taken (e ∙ sym (c .before .before .transaction-limit .ensures)))))
+returns-5 c =
+    sym (past-track (c .before .before .before) ∙ both-no-left _ _
+    (ne-eqb _ _ (λ e. c .if5 .taken (e ∙ sym (c .before .before .transaction-limit .ensures)))))
 
 returns-6 : tie.Need-returns-6
 returns-6 c =
     let k = c .before .before in
-    sym (past-limit (k .before .before) ∙ both-no-left _ _ (located-no _ (k .before .value2 .ensures) (sym (k .check-afl .ensures .0) ∙ c .enum-told .given .1)))
+    sym
+    (past-limit (k .before .before) ∙ both-no-left _ _
+    (located-no _ (k .before .value2 .ensures) (sym (k .check-afl .ensures .0) ∙ c .enum-told .given .1)))
 
 returns-7 : tie.Need-returns-7
 returns-7 c =
-    let a = c .before .before .before .before .before .before .before .before .before .before .before .before .before .before .before .before .before .before .before .before .args in
-    sym (counted (c .before .before) .0 ∙ ne-eqb (a .count) (2 + storedAflRecordCount (a .bytes .now)) (λ e. omega (arith, c .before .widen .ensures .0)))
+    let a =
+    c .before .before .before .before .before .before .before .before .before .before .before .before .before .before
+    .before .before .before .before .before .before .args in
+    sym (counted (c .before .before) .0 ∙ ne-eqb (a .count) (2 + storedAflRecordCount (a .bytes .now))
+    (λ e. omega (arith, c .before .widen .ensures .0)))
 
 returns-8 : tie.Need-returns-8
 returns-8 c =

@@ -11,7 +11,8 @@ use Rattle.basics.specs.Choice.{both}
 use Rattle.basics.proofs.Laws.{both-true, both-assoc, both-no-left}
 use Rattle.afl.specs.Records.{acceptsAfl}
 use Rattle.analysis.specs.Action.{transactionLimit}
-use Rattle.session_record.specs.Ranges.{allStoredObjectsFitRows, emvMode, expiryPanAndCdol1NonEmpty, storedAfl, storedAflRecordCount, inCryptogramRanges}
+use Rattle.session_record.specs.Ranges.{allStoredObjectsFitRows, emvMode, expiryPanAndCdol1NonEmpty, storedAfl}
+use Rattle.session_record.specs.Ranges.{storedAflRecordCount, inCryptogramRanges}
 use Rattle.dictionary.proofs.Named.{at-9F34}
 use Rattle.store.specs.Held.{hasObject}
 use Rattle.session_record.proofs.Tags.{held-is, located-no, located-yes}
@@ -22,38 +23,57 @@ use Rattle.session_record.proofs.cryptogram_in_ranges.Tie as tie
 past-running : (c : tie.Else1)
     → let a = c .before .before .before .args in
     let b = a .bytes .now in
-    both (allStoredObjectsFitRows b) (inCryptogramRanges (a .asked) (a .count) b) ≡ both (emvMode b) (both (expiryPanAndCdol1NonEmpty b) (both (hasObject b 0x9F34) (both (eqb (a .asked .limit) (transactionLimit b)) (both (acceptsAfl (storedAfl b)) (eqb (a .count) (2 + storedAflRecordCount b))))))
+    both (allStoredObjectsFitRows b) (inCryptogramRanges (a .asked) (a .count) b) ≡ both (emvMode b)
+    (both (expiryPanAndCdol1NonEmpty b)
+    (both (hasObject b 0x9F34)
+    (both (eqb (a .asked .limit) (transactionLimit b))
+    (both (acceptsAfl (storedAfl b)) (eqb (a .count) (2 + storedAflRecordCount b))))))
 unfolding inCryptogramRanges
 past-running c = both-assoc _ _ _ ∙ both-true _ (sym (c .before .is-running .ensures) ∙ not-false _ (c .if1 .left))
 
 past-mode : (c : tie.Else2)
     → let a = c .before .before .before .before .before .args in
     let b = a .bytes .now in
-    both (allStoredObjectsFitRows b) (inCryptogramRanges (a .asked) (a .count) b) ≡ both (expiryPanAndCdol1NonEmpty b) (both (hasObject b 0x9F34) (both (eqb (a .asked .limit) (transactionLimit b)) (both (acceptsAfl (storedAfl b)) (eqb (a .count) (2 + storedAflRecordCount b)))))
-past-mode c = past-running (c .before .before) ∙ both-true _ (sym (c .before .is-emv-mode .ensures) ∙ not-false _ (c .if2 .left))
+    both (allStoredObjectsFitRows b) (inCryptogramRanges (a .asked) (a .count) b) ≡ both (expiryPanAndCdol1NonEmpty b)
+    (both (hasObject b 0x9F34)
+    (both (eqb (a .asked .limit) (transactionLimit b))
+    (both (acceptsAfl (storedAfl b)) (eqb (a .count) (2 + storedAflRecordCount b)))))
+past-mode c = past-running (c .before .before) ∙ both-true _
+    (sym (c .before .is-emv-mode .ensures) ∙ not-false _ (c .if2 .left))
 
 past-completed : (c : tie.Else3)
     → let a = c .before .before .before .before .before .before .before .args in
     let b = a .bytes .now in
-    both (allStoredObjectsFitRows b) (inCryptogramRanges (a .asked) (a .count) b) ≡ both (hasObject b 0x9F34) (both (eqb (a .asked .limit) (transactionLimit b)) (both (acceptsAfl (storedAfl b)) (eqb (a .count) (2 + storedAflRecordCount b))))
-past-completed c = past-mode (c .before .before) ∙ both-true _ (sym (c .before .expiry-pan-and-cdol1-non-empty .ensures) ∙ not-false _ (c .if3 .left))
+    both (allStoredObjectsFitRows b) (inCryptogramRanges (a .asked) (a .count) b) ≡ both (hasObject b 0x9F34)
+    (both (eqb (a .asked .limit) (transactionLimit b))
+    (both (acceptsAfl (storedAfl b)) (eqb (a .count) (2 + storedAflRecordCount b))))
+past-completed c = past-mode (c .before .before) ∙ both-true _ (sym (c .before .expiry-pan-and-cdol1-non-empty .ensures)
+    ∙ not-false _ (c .if3 .left))
 
 past-verified : (c : tie.Else4)
     → let a = c .before .before .before .before .before .before .before .before .before .args in
     let b = a .bytes .now in
-    both (allStoredObjectsFitRows b) (inCryptogramRanges (a .asked) (a .count) b) ≡ both (eqb (a .asked .limit) (transactionLimit b)) (both (acceptsAfl (storedAfl b)) (eqb (a .count) (2 + storedAflRecordCount b)))
-past-verified c = past-completed (c .before .before) ∙ both-true _ (held-is _ _ _ at-9F34 (c .before .is-present .ensures) (not-false _ (c .if4 .left)))
+    both (allStoredObjectsFitRows b) (inCryptogramRanges (a .asked) (a .count) b)
+    ≡ both (eqb (a .asked .limit) (transactionLimit b))
+    (both (acceptsAfl (storedAfl b)) (eqb (a .count) (2 + storedAflRecordCount b)))
+past-verified c = past-completed (c .before .before) ∙ both-true _
+    (held-is _ _ _ at-9F34 (c .before .is-present .ensures) (not-false _ (c .if4 .left)))
 
 past-limit : (c : tie.Else5)
     → let a = c .before .before .before .before .before .before .before .before .before .before .before .before .args in
     let b = a .bytes .now in
-    both (allStoredObjectsFitRows b) (inCryptogramRanges (a .asked) (a .count) b) ≡ both (acceptsAfl (storedAfl b)) (eqb (a .count) (2 + storedAflRecordCount b))
-past-limit c = past-verified (c .before .before .before) ∙ both-true _ (eq-eqb _ _ (c .if5 .left ∙ c .before .before .transaction-limit .ensures))
+    both (allStoredObjectsFitRows b) (inCryptogramRanges (a .asked) (a .count) b) ≡ both (acceptsAfl (storedAfl b))
+    (eqb (a .count) (2 + storedAflRecordCount b))
+past-limit c = past-verified (c .before .before .before) ∙ both-true _
+    (eq-eqb _ _ (c .if5 .left ∙ c .before .before .transaction-limit .ensures))
 
 -- where the AFL is accepted, the count decides
 counted : (c : tie.After-known-told)
-    → let a = c .before .before .before .before .before .before .before .before .before .before .before .before .before .before .before .before .before .args in
-    (both (allStoredObjectsFitRows (a .bytes .now)) (inCryptogramRanges (a .asked) (a .count) (a .bytes .now)) ≡ eqb (a .count) (2 + storedAflRecordCount (a .bytes .now)))
+    → let a =
+    c .before .before .before .before .before .before .before .before .before .before .before .before .before .before
+    .before .before .before .args in
+    (both (allStoredObjectsFitRows (a .bytes .now)) (inCryptogramRanges (a .asked) (a .count) (a .bytes .now))
+    ≡ eqb (a .count) (2 + storedAflRecordCount (a .bytes .now)))
     × (c .before .c .given .0 .0 .records ≡ storedAflRecordCount (a .bytes .now))
 counted c =
     let k = c .before .before .before in
@@ -62,29 +82,44 @@ counted c =
 
 returns : tie.Need-returns
 unfolding inCryptogramRanges
-returns c = sym (both-assoc _ _ _ ∙ both-no-left _ _ (sym (c .before .is-running .ensures) ∙ not-true _ (c .if1 .taken)))
+returns c =
+    sym (both-assoc _ _ _ ∙ both-no-left _ _ (sym (c .before .is-running .ensures) ∙ not-true _ (c .if1 .taken)))
 
 returns-2 : tie.Need-returns-2
-returns-2 c = sym (past-running (c .before .before) ∙ both-no-left _ _ (sym (c .before .is-emv-mode .ensures) ∙ not-true _ (c .if2 .taken)))
+returns-2 c =
+    sym
+    (past-running (c .before .before) ∙ both-no-left _ _
+    (sym (c .before .is-emv-mode .ensures) ∙ not-true _ (c .if2 .taken)))
 
 returns-3 : tie.Need-returns-3
-returns-3 c = sym (past-mode (c .before .before) ∙ both-no-left _ _ (sym (c .before .expiry-pan-and-cdol1-non-empty .ensures) ∙ not-true _ (c .if3 .taken)))
+returns-3 c =
+    sym (past-mode (c .before .before) ∙ both-no-left _ _ (sym (c .before .expiry-pan-and-cdol1-non-empty .ensures) ∙
+    not-true _ (c .if3 .taken)))
 
 returns-4 : tie.Need-returns-4
-returns-4 c = sym (past-completed (c .before .before) ∙ both-no-left _ _ (held-is _ _ _ at-9F34 (c .before .is-present .ensures) (not-true _ (c .if4 .taken))))
+returns-4 c =
+    sym (past-completed (c .before .before) ∙ both-no-left _ _ (held-is _ _ _ at-9F34 (c .before .is-present .ensures)
+    (not-true _ (c .if4 .taken))))
 
 returns-5 : tie.Need-returns-5
-returns-5 c = sym (past-verified (c .before .before .before) ∙ both-no-left _ _ (ne-eqb _ _ (λ e. c .if5 .taken (e ∙ sym (c .before .before .transaction-limit .ensures)))))
+returns-5 c =
+    sym (past-verified (c .before .before .before) ∙ both-no-left _ _
+    (ne-eqb _ _ (λ e. c .if5 .taken (e ∙ sym (c .before .before .transaction-limit .ensures)))))
 
 returns-6 : tie.Need-returns-6
 returns-6 c =
     let k = c .before .before in
-    sym (past-limit (k .before .before) ∙ both-no-left _ _ (located-no _ (k .before .value .ensures) (sym (k .check-afl .ensures .0) ∙ c .enum-told .given .1)))
+    sym
+    (past-limit (k .before .before) ∙ both-no-left _ _
+    (located-no _ (k .before .value .ensures) (sym (k .check-afl .ensures .0) ∙ c .enum-told .given .1)))
 
 returns-7 : tie.Need-returns-7
 returns-7 c =
-    let a = c .before .before .before .before .before .before .before .before .before .before .before .before .before .before .before .before .before .before .before .args in
-    sym (counted (c .before .before) .0 ∙ ne-eqb (a .count) (2 + storedAflRecordCount (a .bytes .now)) (λ e. omega (arith, c .before .widen .ensures .0)))
+    let a =
+    c .before .before .before .before .before .before .before .before .before .before .before .before .before .before
+    .before .before .before .before .before .args in
+    sym (counted (c .before .before) .0 ∙ ne-eqb (a .count) (2 + storedAflRecordCount (a .bytes .now))
+    (λ e. omega (arith, c .before .widen .ensures .0)))
 
 returns-8 : tie.Need-returns-8
 returns-8 c =

@@ -10,7 +10,8 @@ use Rattle.session_record.proofs.ended_in_ranges.Statement.{statement}
 use Rattle.session_record.proofs.ended_in_ranges.Tie as tie
 
 -- a walk that requires nothing more
-fit-is : (c : tie.After-all-rows-fit) → c .all-rows-fit .result ≡ allStoredObjectsFitRows (c .before .before .args .bytes .now)
+fit-is : (c : tie.After-all-rows-fit) → c .all-rows-fit .result ≡ allStoredObjectsFitRows
+    (c .before .before .args .bytes .now)
 fit-is c = c .all-rows-fit .ensures ∙ both-right-true _ (either-left _ _ refl)
 
 returns : tie.Need-returns
@@ -25,7 +26,8 @@ unfolding inEndedRanges
 returns-3 c =
     let e1 = c .before .before in
     c .reason-matches-outcome .ensures
-    ∙ sym (both-true _ (sym (fit-is (e1 .before)) ∙ not-false _ (e1 .if1 .left)) ∙ both-true _ (le-leb _ _ (c .before .if2 .left)))
+    ∙ sym (both-true _ (sym (fit-is (e1 .before)) ∙ not-false _ (e1 .if1 .left)) ∙ both-true _
+    (le-leb _ _ (c .before .if2 .left)))
 
 pub ended-in-ranges-spec : {M : Type 1} → statement M
 ended-in-ranges-spec = tie.close (tie.spec (λ c κs. search needs) returns returns-2 (λ c κs. search needs) returns-3)

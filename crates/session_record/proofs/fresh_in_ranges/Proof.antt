@@ -19,7 +19,8 @@ returns-2 : tie.Need-returns-2
 unfolding inFreshRanges
 returns-2 c =
     c .all-zero .ensures
-    ∙ sym (both-implied _ _ (λ e. zeros-fit _ (c .before .before .before .pre) (both-right _ _ e)) ∙ both-true _ (eq-eqb _ _ (c .before .if1 .left)))
+    ∙ sym (both-implied _ _ (λ e. zeros-fit _ (c .before .before .before .pre) (both-right _ _ e)) ∙ both-true _
+    (eq-eqb _ _ (c .before .if1 .left)))
 
 pub fresh-in-ranges-spec : {M : Type 1} → statement M
 fresh-in-ranges-spec = tie.close (tie.spec returns (λ c κs. search needs) returns-2)

@@ -13,7 +13,8 @@ use Rattle.session_record.proofs.is_emv_mode.Tie as tie
 
 returns : tie.Need-returns
 returns c =
-    ap (λ (n : ℕ). eqb (n / 128 % 2) 1) (c .byte-at .ensures ∙ ap (λ (v : List ℕ). getD v 1 0) (c .before .value .ensures ∙ bytes-are _ _ _ at-82))
+    ap (λ (n : ℕ). eqb (n / 128 % 2) 1) (c .byte-at .ensures ∙ ap (λ (v : List ℕ). getD v 1 0)
+    (c .before .value .ensures ∙ bytes-are _ _ _ at-82))
 
 pub is-emv-mode-spec : {M : Type 1} → statement M
 is-emv-mode-spec = tie.close (tie.spec (λ c κs. search needs) (λ c κs. search needs) returns)

@@ -10,7 +10,8 @@ returns : tie.Need-returns
 returns c = sym (either-left _ _ (sym (c .before .is-emv-mode .ensures) ∙ c .if1 .taken))
 
 returns-2 : tie.Need-returns-2
-returns-2 c = c .is-mag-stripe-mode .ensures ∙ sym (either-false _ (sym (c .before .before .is-emv-mode .ensures) ∙ c .before .if1 .left))
+returns-2 c = c .is-mag-stripe-mode .ensures ∙ sym
+    (either-false _ (sym (c .before .before .is-emv-mode .ensures) ∙ c .before .if1 .left))
 
 pub is-emv-or-mag-stripe-mode-spec : {M : Type 1} → statement M
 is-emv-or-mag-stripe-mode-spec = tie.close (tie.spec (λ c κs. search needs) returns (λ c κs. search needs) returns-2)

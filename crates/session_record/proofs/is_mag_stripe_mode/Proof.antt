@@ -1,4 +1,5 @@
--- `session_record::is_mag_stripe_mode` meets its contract: 82 is present, its bit clear, and then the configuration's b8
+-- `session_record::is_mag_stripe_mode` meets its contract: 82 is present, its bit clear, and then the configuration's
+-- b8
 -- decides, its weight 128.
 -- Assumes nothing.
 use borrow.Author.Needs.{needs}
@@ -28,12 +29,15 @@ returns : tie.Need-returns
 returns c = sym (both-no-left _ _ (held-is _ _ _ at-82 (c .before .is-present .ensures) (not-true _ (c .if1 .taken))))
 
 returns-2 : tie.Need-returns-2
-returns-2 c = sym (past-82 (c .before .before) ∙ both-no-left _ _ (ap not (sym (c .before .is-emv-mode .ensures) ∙ c .if2 .taken)))
+returns-2 c =
+    sym
+    (past-82 (c .before .before) ∙ both-no-left _ _ (ap not (sym (c .before .is-emv-mode .ensures) ∙ c .if2 .taken)))
 
 returns-3 : tie.Need-returns-3
 returns-3 c =
     let e2 = c .before .before in
-    ap (λ (n : ℕ). not (eqb (n / 128 % 2) 1)) (c .byte-at .ensures ∙ ap (λ (v : List ℕ). getD v 0 0) (c .before .value .ensures ∙ bytes-are _ _ _ at-DF811B))
+    ap (λ (n : ℕ). not (eqb (n / 128 % 2) 1)) (c .byte-at .ensures ∙ ap (λ (v : List ℕ). getD v 0 0)
+    (c .before .value .ensures ∙ bytes-are _ _ _ at-DF811B))
     ∙ sym (past-82 (e2 .before .before) ∙ both-true _ (ap not (sym (e2 .before .is-emv-mode .ensures) ∙ e2 .if2 .left)))
 
 pub is-mag-stripe-mode-spec : {M : Type 1} → statement M

@@ -24,7 +24,8 @@ loop-holds : tie.Need-loop-holds Inv-loop μ-loop
 loop-holds c = let s = c .before in passed-none _ (s .args .from) (s .args .start) (omega arith) (s .pre .1 .1 .1)
 
 shared-slice-read-if1 : tie.Need-shared-slice-read-if1 Inv-loop μ-loop
-shared-slice-read-if1 c = let lp = c .before .before .loop in omega (arith, row-inside (lp .row) (omega arith), lp .inv .place)
+shared-slice-read-if1 c = let lp = c .before .before .loop in
+    omega (arith, row-inside (lp .row) (omega arith), lp .inv .place)
 
 -- the object of the row at hand is there
 returns : tie.Need-returns Inv-loop μ-loop
@@ -37,7 +38,8 @@ stood : (c : lts.After-unpacked (unpacked.Asked, unpacked.Learnt) reads.Pre read
 stood c =
     let lp = c .before .before .before .before .before .loop in
     let s = c .before .before .before .before .before .before .before in
-    stands (lp .row) _ _ (omega arith) (lp .inv .place) (row-read _ (lp .row) _ (omega arith) (s .pre .1 .0) (c .unpack-row-attributes .ensures))
+    stands (lp .row) _ _ (omega arith) (lp .inv .place)
+    (row-read _ (lp .row) _ (omega arith) (s .pre .1 .0) (c .unpack-row-attributes .ensures))
 
 loop-again : tie.Need-loop-again Inv-loop μ-loop
 loop-again c =

@@ -12,12 +12,14 @@ use Rattle.session_record.proofs.row_fits.Statement.{statement}
 use Rattle.session_record.proofs.row_fits.Tie as tie
 
 returns : tie.Need-returns
-returns c = let s = c .before .before .before .before in sym (place-long (rowWithAttributesAndTagZero (s .args .a)) _ (sym (s .pre .0)) (omega arith))
+returns c = let s = c .before .before .before .before in
+    sym (place-long (rowWithAttributesAndTagZero (s .args .a)) _ (sym (s .pre .0)) (omega arith))
 
 returns-2 : tie.Need-returns-2
 returns-2 c =
     let s = c .before .before .before .before .before .before in
-    sym (place-short (rowWithAttributesAndTagZero (s .args .a)) _ (sym (s .pre .0)) (λ e. omega arith) (omega arith) (omega arith))
+    sym (place-short (rowWithAttributesAndTagZero (s .args .a)) _ (sym (s .pre .0)) (λ e. omega arith) (omega arith)
+    (omega arith))
 
 -- its digits decide
 returns-3 : tie.Need-returns-3
@@ -27,7 +29,8 @@ returns-3 c =
     let st = c .before .before .before .before .before .widen in
     c .digits-match-form .ensures
     ∙ ap (λ (n : ℕ). digitsMatchForm (s .args .a .form) (take (n - 1) (drop 1 p))) (st .ensures .0)
-    ∙ sym (place-digits (rowWithAttributesAndTagZero (s .args .a)) p (sym (s .pre .0)) (λ e. omega arith) (omega arith) (omega arith))
+    ∙ sym (place-digits (rowWithAttributesAndTagZero (s .args .a)) p (sym (s .pre .0)) (λ e. omega arith) (omega arith)
+    (omega arith))
 
 pub row-fits-spec : {M : Type 1} → statement M
 row-fits-spec =

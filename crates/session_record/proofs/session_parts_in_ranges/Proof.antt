@@ -20,7 +20,8 @@ by-phase : (c : tie.Else1) (p : Phase) {r : Bool} → let a = c .before .before 
 unfolding sessionRecordInRanges
 by-phase c p e h =
     let a = c .before .before .args in
-    h ∙ ap (λ (q : Phase). both (allStoredObjectsFitRows (a .bytes .now)) (inPhaseRanges q (a .count) (a .bytes .now))) (sym e)
+    h ∙ ap (λ (q : Phase). both (allStoredObjectsFitRows (a .bytes .now)) (inPhaseRanges q (a .count) (a .bytes .now)))
+    (sym e)
     ∙ sym (both-true _ (eq-eqb _ _ (c .if1 .left)))
 
 returns : tie.Need-returns
@@ -31,10 +32,12 @@ returns-2 : tie.Need-returns-2
 returns-2 c = by-phase (c .before .before .before) _ (c .before .enum-told .given .1) (c .fresh-in-ranges .ensures)
 
 returns-3 : tie.Need-returns-3
-returns-3 c = by-phase (c .before .before .before .before) _ (c .before .before .phase .given .1) (c .waiting-in-ranges .ensures)
+returns-3 c = by-phase (c .before .before .before .before) _ (c .before .before .phase .given .1)
+    (c .waiting-in-ranges .ensures)
 
 returns-4 : tie.Need-returns-4
-returns-4 c = by-phase (c .before .before .before .before) _ (c .before .before .phase2 .given .1) (c .ended-in-ranges .ensures)
+returns-4 c = by-phase (c .before .before .before .before) _ (c .before .before .phase2 .given .1)
+    (c .ended-in-ranges .ensures)
 
 pub session-parts-in-ranges-spec : {M : Type 1} → statement M
 session-parts-in-ranges-spec =

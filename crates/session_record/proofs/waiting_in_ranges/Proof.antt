@@ -11,7 +11,9 @@ use Rattle.session_record.specs.Ranges.{allStoredObjectsFitRows, inWaiti
 use Rattle.session_record.proofs.waiting_in_ranges.Statement.{statement}
 use Rattle.session_record.proofs.waiting_in_ranges.Tie as tie
 
-by-awaited : {v w : AwaitedResponse} (n : ℕ) (b : List ℕ) {r : Bool} → v ≡ w → r ≡ both (allStoredObjectsFitRows b) (inWaitingRanges w n b) → r ≡ both (allStoredObjectsFitRows b) (inWaitingRanges v n b)
+by-awaited : {v w : AwaitedResponse} (n : ℕ) (b : List ℕ) {r : Bool} → v ≡ w
+    → r ≡ both (allStoredObjectsFitRows b) (inWaitingRanges w n b)
+    → r ≡ both (allStoredObjectsFitRows b) (inWaitingRanges v n b)
 by-awaited n b e h = h ∙ ap (λ (x : AwaitedResponse). both (allStoredObjectsFitRows b) (inWaitingRanges x n b)) (sym e)
 
 returns : tie.Need-returns

@@ -16,7 +16,8 @@ returns c = sym (if-no _ _ (ne-eqb _ _ (c .if1 .taken)))
 returns-2 : tie.Need-returns-2
 unfolding isListedIfTerminalType
 returns-2 c =
-    c .is-listed-terminal-type .ensures ∙ ap listedTerminalType (c .before .byte-at .ensures) ∙ sym (if-yes _ _ (eq-eqb _ _ (c .before .before .if1 .left)))
+    c .is-listed-terminal-type .ensures ∙ ap listedTerminalType (c .before .byte-at .ensures) ∙ sym
+    (if-yes _ _ (eq-eqb _ _ (c .before .before .if1 .left)))
 
 pub is-type-listed-spec : {M : Type 1} → statement M
 is-type-listed-spec = tie.close (tie.spec returns (λ c κs. search needs) (λ c κs. search needs) returns-2)

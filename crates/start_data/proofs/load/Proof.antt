@@ -8,7 +8,8 @@ use mathlib.Core.List.{List}
 use Prim.Native.Nat.{ℕ}
 use lib.ListN.{length, replicate, length-replicate}
 use Rattle.dictionary.specs.Rows.{storeSize}
-use Rattle.start_data.proofs.Ways.{refuses, refuses-as, loads, load-long, load-broken, load-object, load-absent, load-taken}
+use Rattle.start_data.proofs.Ways.{refuses, refuses-as, loads, load-long, load-broken, load-object, load-absent}
+use Rattle.start_data.proofs.Ways.{load-taken}
 use Rattle.start_data.proofs.Setting.{was-set, was-not}
 use Rattle.start_data.proofs.load.Statement.{statement}
 use Rattle.start_data.proofs.load.Tie as tie
@@ -23,8 +24,11 @@ sized b e = ap length e ∙ length-replicate {A = ℕ} storeSize 0
 returns : tie.Need-returns
 returns c =
     let st = c .before .before .before .before in
-    let a = st .args in
-    (refuses (a .store .now) (c .refused .ensures) (load-long (a .store .now) (a .terminal .now) (c .before .if1 .taken)), sized _ (st .pre))
+    let a = st .args in (
+      refuses (a .store .now) (c .refused .ensures)
+          (load-long (a .store .now) (a .terminal .now) (c .before .if1 .taken)),
+      sized _ (st .pre),
+    )
 
 returns-2 : tie.Need-returns-2
 returns-2 c =
@@ -32,12 +36,20 @@ returns-2 c =
     let st = r .before .before .before .before in
     let a = st .args in (
       refuses (a .store .now) (c .refused2 .ensures)
-          (load-broken (a .store .now) (a .terminal .now) (r .before .if1 .left) (sym (r .is-primitive-list .ensures) ∙ not-true _ (c .before .if2 .taken))),
+          (load-broken (a .store .now) (a .terminal .now) (r .before .if1 .left)
+          (sym (r .is-primitive-list .ensures) ∙ not-true _ (c .before .if2 .taken))),
       sized _ (st .pre),
     )
 
 set-objects-requires : tie.Need-set-objects-requires
-set-objects-requires c κs = (sized _ (c .before .before .before .before .before .before .before .before .before .before .pre), record { tags = c .before .before .before .before .dictionary-tags .ensures; codes = c .before .before .before .packed-row-attributes .ensures })
+set-objects-requires c κs = (
+  sized _ (c .before .before .before .before .before .before .before .before .before .before .pre),
+  record {
+    tags = c .before .before .before .before .dictionary-tags .ensures;
+    codes =
+        c .before .before .before .packed-row-attributes .ensures;
+  },
+)
 
 returns-3 : tie.Need-returns-3
 returns-3 c =
@@ -50,7 +62,8 @@ returns-3 c =
     let a = st .args in
     let e = empty (so .set-objects .ensures .1) (k .cleared .ensures .1) in (
       refuses-as (a .store .now) _ (e ∙ sym (st .pre)) (k .cleared .ensures .0)
-          (load-object (a .store .now) (a .terminal .now) (r .before .if1 .left) (sym (r .is-primitive-list .ensures) ∙ not-false _ (run .if2 .left))
+          (load-object (a .store .now) (a .terminal .now) (r .before .if1 .left)
+          (sym (r .is-primitive-list .ensures) ∙ not-false _ (run .if2 .left))
           (was-not _ _ (so .set-objects .ensures .0) (not-true _ (t .if3 .taken)))),
       sized _ e,
     )
@@ -75,9 +88,13 @@ returns-4 c =
 returns-5 : tie.Need-returns-5
 returns-5 c =
     let so = c .before .before .before .before .before .before in
-    let a = c .before .before .before .before .before .before .before .before .before .before .before .before .before .before .before .before .before .args in (
+    let a =
+    c .before .before .before .before .before .before .before .before .before .before .before .before .before .before
+    .before .before .before .args in (
       loads
-          (load-taken (a .store .now) (a .terminal .now) (c .before .before .before .before .before .before .before .before .before .before .before .before .before .before .if1 .left) _
+          (load-taken (a .store .now) (a .terminal .now)
+          (c .before .before .before .before .before .before .before .before .before .before .before .before .before
+          .before .if1 .left) _
           (was-set _ (so .set-objects .ensures .0) (not-false _ (c .before .before .before .if3 .left)))
           (sym (c .before .all-required-at-start-present .ensures) ∙ not-false _ (c .if4 .left))),
       so .set-objects .ensures .1,
@@ -96,11 +113,21 @@ load-spec =
     (λ c κs. search needs)
     set-objects-requires
     (λ c κs. search needs)
-    (λ c. ap length (empty (c .before .before .before .before .before .before .before .set-objects .ensures .1) (c .before .before .cleared .ensures .1) ∙ sym (c .before .before .before .before .before .before .before .before .before .before .before .before .before .before .before .before .before .before .pre)))
+    (λ c. ap length (empty (c .before .before .before .before .before .before .before .set-objects .ensures .1)
+    (c .before .before .cleared .ensures .1) ∙ sym
+    (c .before .before .before .before .before .before .before .before .before .before .before .before .before .before
+    .before .before .before .before .pre)))
     returns-3
     (λ c κs. search needs)
     (λ c κs. search needs)
-    (λ c. ap length (empty (c .before .before .before .before .before .before .before .before .before .before .set-objects .ensures .1) (c .before .before .cleared2 .ensures .1) ∙ sym (c .before .before .before .before .before .before .before .before .before .before .before .before .before .before .before .before .before .before .before .before .before .pre)))
+    (λ c. ap length
+    (empty (c .before .before .before .before .before .before .before .before .before .before .set-objects .ensures .1)
+    (c .before .before .cleared2 .ensures .1) ∙ sym
+    (c .before .before .before .before .before .before .before .before .before .before .before .before .before .before
+    .before .before .before .before .before .before .before .pre)))
     returns-4
-    (λ c. c .before .before .before .before .before .before .set-objects .ensures .1 ∙ sym (sized _ (c .before .before .before .before .before .before .before .before .before .before .before .before .before .before .before .before .before .pre)))
+    (λ c. c .before .before .before .before .before .before .set-objects .ensures .1 ∙ sym
+    (sized _
+    (c .before .before .before .before .before .before .before .before .before .before .before .before .before .before
+    .before .before .before .pre)))
     returns-5)

@@ -17,13 +17,17 @@ returns c =
     let st = c .before .before .before .before .before .before in
     let a = st .args in
     let s = c .before .before .search-tags in
-    let e = lent-found (a .tag) (st .pre .1 .tags) (s .ensures .1 .0) in
-    (says-set (set-unknown (a .store .now) (tlvObject (a .tag) (a .v .now)) (s .result .found) e (c .enum-told .given .1)) refl, st .pre .0)
+    let e = lent-found (a .tag) (st .pre .1 .tags) (s .ensures .1 .0) in (
+      says-set (set-unknown (a .store .now) (tlvObject (a .tag) (a .v .now)) (s .result .found) e
+          (c .enum-told .given .1)) refl,
+      st .pre .0,
+    )
 
 is-settable-requires : tie.Need-is-settable-requires
 is-settable-requires c κs =
     let st = c .before .before .before .before .before .before .before .before in
-    let e = lent-found (st .args .tag) (st .pre .1 .tags) (c .before .before .before .before .search-tags .ensures .1 .0) in
+    let e = lent-found (st .args .tag) (st .pre .1 .tags)
+    (c .before .before .before .before .search-tags .ensures .1 .0) in
     (row-found (st .args .tag) (sym e ∙ c .before .before .found .given .1), st .pre .1 .codes)
 
 returns-2 : tie.Need-returns-2
@@ -32,27 +36,36 @@ returns-2 c =
     let a = st .args in
     let s = c .before .before .before .before .before .before .search-tags in
     let e = lent-found (a .tag) (st .pre .1 .tags) (s .ensures .1 .0) in
-    let f = c .before .before .before .before .found .given in
-    (says-not _ (set-refused (a .store .now) (tlvObject (a .tag) (a .v .now)) (s .result .found) e (f .0 .0) (f .1) (sym (c .before .is-settable .ensures) ∙ not-true _ (c .if1 .taken))) refl, st .pre .0)
+    let f = c .before .before .before .before .found .given in (
+      says-not _ (set-refused (a .store .now) (tlvObject (a .tag) (a .v .now)) (s .result .found) e (f .0 .0) (f .1)
+          (sym (c .before .is-settable .ensures) ∙ not-true _ (c .if1 .taken))) refl,
+      st .pre .0,
+    )
 
 put-requires : tie.Need-put-requires
 put-requires c κs =
     let st = c .before .before .before .before .before .before .before .before .before .before .before in
     let a = st .args in
-    let e = lent-found (a .tag) (st .pre .1 .tags) (c .before .before .before .before .before .before .before .search-tags .ensures .1 .0) in
+    let e = lent-found (a .tag) (st .pre .1 .tags)
+    (c .before .before .before .before .before .before .before .search-tags .ensures .1 .0) in
     let f = c .before .before .before .before .before .found .given in
-    let fit = fits-length (rowAt (f .0 .0)) (a .v .now) (settable-fits (a .store .now) (f .0 .0) (tlvObject (a .tag) (a .v .now)) (sym (c .before .before .is-settable .ensures) ∙ not-false _ (c .before .if1 .left))) in
+    let fit = fits-length (rowAt (f .0 .0)) (a .v .now)
+    (settable-fits (a .store .now) (f .0 .0) (tlvObject (a .tag) (a .v .now))
+    (sym (c .before .before .is-settable .ensures) ∙ not-false _ (c .before .if1 .left))) in
     (st .pre .0, (row-found (a .tag) (sym e ∙ f .1), fit .1))
 
 returns-3 : tie.Need-returns-3
 returns-3 c =
-    let st = c .before .before .before .before .before .before .before .before .before .before .before .before .before .before in
+    let st =
+    c .before .before .before .before .before .before .before .before .before .before .before .before .before .before in
     let a = st .args in
     let s = c .before .before .before .before .before .before .before .before .before .before .search-tags in
     let e = lent-found (a .tag) (st .pre .1 .tags) (s .ensures .1 .0) in
     let f = c .before .before .before .before .before .before .before .before .found .given in
     let put = c .before .before .put .ensures in
-    let taken = set-taken (a .store .now) (tlvObject (a .tag) (a .v .now)) (s .result .found) e (f .0 .0) (f .1) (sym (c .before .before .before .before .before .is-settable .ensures) ∙ not-false _ (c .before .before .before .before .if1 .left)) in
+    let taken = set-taken (a .store .now) (tlvObject (a .tag) (a .v .now)) (s .result .found) e (f .0 .0) (f .1)
+    (sym (c .before .before .before .before .before .is-settable .ensures) ∙ not-false _
+    (c .before .before .before .before .if1 .left)) in
     (says-set (taken ∙ ap some (sym (put .0))) refl, put .1)
 
 pub set-object-spec : {M : Type 1} → statement M
@@ -67,5 +80,7 @@ set-object-spec =
     (λ c. search needs)
     returns-2
     put-requires
-    (λ c. c .before .before .put .ensures .1 ∙ sym (c .before .before .before .before .before .before .before .before .before .before .before .before .before .before .pre .0))
+    (λ c. c .before .before .put .ensures .1 ∙ sym
+    (c .before .before .before .before .before .before .before .before .before .before .before .before .before .before
+    .pre .0))
     returns-3)

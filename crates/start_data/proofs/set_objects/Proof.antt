@@ -12,7 +12,8 @@ use Rattle.tlv.proofs.Laws.{HeaderFits}
 use Rattle.tlv.proofs.Primitives.{primitive-fits}
 use Rattle.dictionary.specs.Rows.{storeSize}
 use Rattle.start_data.specs.StartData.{setParsedStartObjects}
-use Rattle.start_data.proofs.Setting.{says-set, says-not, was-set, was-not, set-end, set-broken, set-on, set-stopped}
+use Rattle.start_data.proofs.Setting.{says-set, says-not, was-set, was-not, set-end, set-broken, set-on}
+use Rattle.start_data.proofs.Setting.{set-stopped}
 use Rattle.start_data.proofs.set_objects.Statement.{statement}
 use Rattle.start_data.proofs.set_objects.Tie as tie
 use Rattle.start_data.proofs.set_objects.Reads as reads
@@ -21,7 +22,9 @@ use Rattle.tlv.proofs.primitive_at_front.Reads as primitive
 use Rattle.start_data.proofs.set_object.Reads as set-object
 
 abbrev Inv-loop : tie.InvT-loop
-Inv-loop terminal store₀ tags codes s₀ store s = (setParsedStartObjects store₀ (primitiveObjects s₀) ≡ setParsedStartObjects store (primitiveObjects s)) × ((length store ≡ storeSize) × (length s ≤ length s₀))
+Inv-loop terminal store₀ tags codes s₀ store s =
+    (setParsedStartObjects store₀ (primitiveObjects s₀) ≡ setParsedStartObjects store (primitiveObjects s))
+    × ((length store ≡ storeSize) × (length s ≤ length s₀))
 
 abbrev μ-loop : tie.MeasureT-loop
 μ-loop terminal store₀ tags codes s₀ store s = length s
@@ -29,9 +32,11 @@ abbrev μ-loop : tie.MeasureT-loop
 -- where an object is next
 abbrev At-object : Type 0
 At-object =
-    lts.After-front (primitive.Asked, primitive.Learnt, set-object.Asked, set-object.Learnt) reads.Pre reads.Post Inv-loop μ-loop
+    lts.After-front (primitive.Asked, primitive.Learnt, set-object.Asked, set-object.Learnt) reads.Pre reads.Post
+    Inv-loop μ-loop
 
-next-at : (c : At-object) → primitiveAtFront (c .before .before .before .before .loop .s .now) ≡ front.Object (c .front .given .0 .0)
+next-at : (c : At-object) → primitiveAtFront (c .before .before .before .before .loop .s .now)
+    ≡ front.Object (c .front .given .0 .0)
 next-at c = sym (c .before .before .primitive-at-front .ensures) ∙ c .front .given .1
 
 fits-at : (c : At-object) → HeaderFits (c .before .before .before .before .loop .s .now) (c .front .given .0 .0)
@@ -39,14 +44,20 @@ fits-at c = primitive-fits _ _ (next-at c)
 
 returns : tie.Need-returns Inv-loop μ-loop
 returns c =
-    let lp = c .before .before .before .before .loop in
-    (says-not _ (lp .inv .0 ∙ set-broken _ (c .before .before .before .loop-test .taken) _ (sym (c .before .before .primitive-at-front .ensures) ∙ c .enum-told .given .1)) refl, lp .inv .1 .0)
+    let lp = c .before .before .before .before .loop in (
+      says-not _ (lp .inv .0 ∙ set-broken _ (c .before .before .before .loop-test .taken) _
+          (sym (c .before .before .primitive-at-front .ensures) ∙ c .enum-told .given .1)) refl,
+      lp .inv .1 .0,
+    )
 
 returns-2 : tie.Need-returns-2 Inv-loop μ-loop
 returns-2 c =
     let o = c .before .before .before .before .before .before .before .before .before in
     let set = c .before .before .before .set-object .ensures in (
-      says-not _ (o .before .before .before .before .loop .inv .0 ∙ set-stopped _ (o .before .before .before .loop-test .taken) _ (next-at o) _ (was-not _ _ (set .0) (not-true _ (c .if1 .taken)))) refl,
+      says-not _ (o .before .before .before .before .loop .inv .0 ∙ set-stopped _
+          (o .before .before .before .loop-test .taken) _ (next-at o) _
+          (was-not _ _ (set .0) (not-true _ (c .if1 .taken))))
+          refl,
       set .1,
     )
 
@@ -55,7 +66,8 @@ loop-again c =
     let o = c .before .before .before .before .before .before .before .before .before in
     let set = c .before .before .before .set-object .ensures in
     let h = fits-at o in (
-      o .before .before .before .before .loop .inv .0 ∙ set-on _ (o .before .before .before .loop-test .taken) _ (next-at o) _ _ (was-set _ (set .0) (not-false _ (c .if1 .left))),
+      o .before .before .before .before .loop .inv .0 ∙ set-on _ (o .before .before .before .loop-test .taken) _
+          (next-at o) _ _ (was-set _ (set .0) (not-false _ (c .if1 .left))),
       (set .1, simp (length-take, length-drop) (omega arith)),
     )
 
@@ -74,7 +86,8 @@ set-objects-spec =
     (λ c κs. search needs)
     (λ c. search needs)
     (λ c. search needs)
-    (λ c. c .before .before .before .before .loop .inv .1 .0 ∙ sym (c .before .before .before .before .before .before .before .pre .0))
+    (λ c. c .before .before .before .before .loop .inv .1 .0 ∙ sym
+    (c .before .before .before .before .before .before .before .pre .0))
     returns
     (λ c. let h = fits-at (c .before .before) in omega arith)
     (λ c. omega arith)
@@ -83,10 +96,16 @@ set-objects-spec =
     (λ c. let h = fits-at (c .before .before .before) in omega arith)
     (λ c. let h = fits-at (c .before .before .before) in omega arith)
     (λ c. omega arith)
-    (λ c κs. (c .before .before .before .before .before .before .before .before .before .loop .inv .1 .0, c .before .before .before .before .before .before .before .before .before .before .before .before .pre .1))
-    (λ c. c .before .before .before .set-object .ensures .1 ∙ sym (c .before .before .before .before .before .before .before .before .before .before .before .before .before .before .before .before .pre .0))
+    (λ c κs. (
+      c .before .before .before .before .before .before .before .before .before .loop .inv .1 .0,
+      c .before .before .before .before .before .before .before .before .before .before .before .before .pre .1,
+    ))
+    (λ c. c .before .before .before .set-object .ensures .1 ∙ sym
+    (c .before .before .before .before .before .before .before .before .before .before .before .before .before .before
+    .before .before .pre .0))
     returns-2
-    (λ c. let h = fits-at (c .before .before .before .before .before .before .before .before .before) in simp (length-take, length-drop) (omega arith))
+    (λ c. let h = fits-at (c .before .before .before .before .before .before .before .before .before) in
+    simp (length-take, length-drop) (omega arith))
     loop-again
     (λ c. c .before .loop .inv .1 .0 ∙ sym (c .before .before .before .before .pre .0))
     returns-3)

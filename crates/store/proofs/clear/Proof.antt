@@ -16,8 +16,12 @@ abbrev μ-loop : tie.MeasureT-loop
 
 loop-again : tie.Need-loop-again Inv-loop μ-loop
 loop-again c =
-    let g = c .before .loop in
-    (simp length-set (g .inv .0), simp length-set (omega arith), clear-next (g .bytes) (g .i) (c .loop-test .taken) (g .inv .2))
+    let g = c .before .loop in (
+      simp length-set (g .inv .0),
+      simp length-set (omega arith),
+      clear-next (g .bytes) (g .i) (c .loop-test .taken)
+          (g .inv .2),
+    )
 
 returns : tie.Need-returns Inv-loop μ-loop
 returns c =

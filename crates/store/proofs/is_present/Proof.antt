@@ -13,7 +13,8 @@ use Rattle.store.proofs.is_present.Tie as tie
 returns : tie.Need-returns
 returns c =
     let a = c .before .before .args in
-    ap (λ (n : ℕ). not (eqb n 0)) (c .length-plus-one-or-zero .ensures) ∙ sym (there-is dictionaryRows (a .bytes .now) (a .row))
+    ap (λ (n : ℕ). not (eqb n 0)) (c .length-plus-one-or-zero .ensures) ∙ sym
+    (there-is dictionaryRows (a .bytes .now) (a .row))
 
 pub is-present-spec : {M : Type 1} → statement M
 is-present-spec = tie.close (tie.spec (λ c κs. search needs) returns)

@@ -25,7 +25,8 @@ returns c =
     let st = c .before .before .before .before .before .before .before in
     let a = st .args in
     let f = fits-row (a .bytes .now) (a .row) (a .v .now) (st .pre .0) (st .pre .1 .0) (st .pre .1 .1) in
-    let p = c .before .before .write .ensures ∙ ap (λ (n : ℕ). lengthAndValueWrittenAt (a .bytes .now) n (a .v .now)) (c .before .before .before .before .start-of .ensures) in
+    let p = c .before .before .write .ensures ∙ ap (λ (n : ℕ). lengthAndValueWrittenAt (a .bytes .now) n (a .v .now))
+    (c .before .before .before .before .start-of .ensures) in
     (p, ap length p ∙ put-length dictionaryRows (a .bytes .now) (a .row) (a .v .now) f ∙ st .pre .0)
 
 pub put-spec : {M : Type 1} → statement M

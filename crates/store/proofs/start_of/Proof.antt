@@ -7,7 +7,8 @@ use Rattle.store.proofs.start_of.Statement.{statement}
 use Rattle.store.proofs.start_of.Tie as tie
 
 returns : tie.Need-returns
-returns c = ap (λ (p : RowOffsetAndMaxLength). p .at) (row-placed (c .before .before .args .row) _ _ (c .before .place-at .ensures) (c .unpacked .ensures) .0)
+returns c = ap (λ (p : RowOffsetAndMaxLength). p .at)
+    (row-placed (c .before .before .args .row) _ _ (c .before .place-at .ensures) (c .unpacked .ensures) .0)
 
 pub start-of-spec : {M : Type 1} → statement M
 start-of-spec = tie.close (tie.spec (λ c κs. search needs) (λ c κs. search needs) returns)

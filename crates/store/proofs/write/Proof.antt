@@ -12,7 +12,8 @@ use Rattle.store.proofs.write.Statement.{statement}
 use Rattle.store.proofs.write.Tie as tie
 
 abbrev Inv-loop : tie.InvT-loop
-Inv-loop bytes₀ at v start i₀ bytes i = (i ≤ length v) × ((length bytes ≡ length bytes₀) × (bytes ≡ paste bytes₀ start v i))
+Inv-loop bytes₀ at v start i₀ bytes i = (i ≤ length v)
+    × ((length bytes ≡ length bytes₀) × (bytes ≡ paste bytes₀ start v i))
 
 abbrev μ-loop : tie.MeasureT-loop
 μ-loop bytes₀ at v start i₀ bytes i = length v - i
@@ -29,8 +30,14 @@ loop-again c =
     let d = set (st .args .bytes .now) (st .args .at) (length (st .args .v .now) + 1) in
     let l : length d ≡ length (st .args .bytes .now) = simp length-set in
     let hd : st .args .at + 1 + lp .i < length d = omega arith in
-    let hs : lp .i < length (st .args .v .now) = omega arith in
-    (omega arith, (simp length-set (lp .inv .1 .0 ∙ l), rw (lp .inv .1 .1, add-one (lp .i)) (paste-suc d (st .args .at + 1) (st .args .v .now) (lp .i) 0 hd hs)))
+    let hs : lp .i < length (st .args .v .now) = omega arith in (
+      omega arith,
+      (
+        simp length-set (lp .inv .1 .0 ∙ l),
+        rw (lp .inv .1 .1, add-one (lp .i))
+            (paste-suc d (st .args .at + 1) (st .args .v .now) (lp .i) 0 hd hs),
+      ),
+    )
 
 returns : tie.Need-returns Inv-loop μ-loop
 returns c =

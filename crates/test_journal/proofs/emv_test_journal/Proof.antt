@@ -24,14 +24,18 @@ abbrev μ-loop : tie.MeasureT-loop
 μ-loop bytes first part at₀ checker₀ at checker = length bytes - at
 
 loop-holds : tie.Need-loop-holds Inv-loop μ-loop
-loop-holds c = (c .before .before .before .least .ensures, c .feed .ensures .1 [] (c .before .before .begin .ensures .1))
+loop-holds c =
+    (c .before .before .before .least .ensures, c .feed .ensures .1 [] (c .before .before .begin .ensures .1))
 
 loop-again : tie.Need-loop-again Inv-loop μ-loop
 loop-again c =
     let b = c .before .before .before .before .before .before .before .before .before .before .args .bytes .now in
     let lp = c .before .before .before .before .loop in
-    let e = c .before .before .end-of in
-    (e .ensures .1, subst (CheckerWasFed (c .feed2 .result)) (parted b (lp .at) (e .result) (e .ensures .0)) (c .feed2 .ensures .1 (take (lp .at) b) (lp .inv .1)))
+    let e = c .before .before .end-of in (
+      e .ensures .1,
+      subst (CheckerWasFed (c .feed2 .result)) (parted b (lp .at) (e .result) (e .ensures .0))
+          (c .feed2 .ensures .1 (take (lp .at) b) (lp .inv .1)),
+    )
 
 returns : tie.Need-returns Inv-loop μ-loop
 returns c =
@@ -39,7 +43,8 @@ returns c =
     let lp = c .before .before .before .loop in
     c .word .ensures
     ∙ ap verdictWord (c .before .finish .ensures .1 .0 (take (lp .at) b) (lp .inv .1))
-    ∙ ap (λ (s : List ℕ). verdictWord (journalVerdictOf s)) (take-all (lp .at) b (omega (arith, c .before .before .loop-test .left)))
+    ∙ ap (λ (s : List ℕ). verdictWord (journalVerdictOf s))
+    (take-all (lp .at) b (omega (arith, c .before .before .loop-test .left)))
 
 pub emv-test-journal-spec : {M : Type 1} → statement M
 emv-test-journal-spec =

@@ -18,11 +18,13 @@ returns c = let f = lt-ltb _ _ (c .if1 .taken) in record { size = sym (if-yes _ 
 returns-2 : tie.Need-returns-2
 returns-2 c =
     let a = c .before .before .before .before .before .before .before .args in
-    let f = le-ltb (length (a .out .now)) (length (a .s .now)) (omega (arith, c .before .before .before .before .if1 .left)) in
+    let f = le-ltb (length (a .out .now)) (length (a .s .now))
+    (omega (arith, c .before .before .before .before .if1 .left)) in
     let e = c .before .before .copy .ensures in
     record {
       size = e .0 ∙ sym (if-no _ _ f);
-      bytes = e .1 ∙ ap (λ (t : List ℕ). t ++ drop (length (a .s .now)) (a .out .now)) (take-length (a .s .now)) ∙ sym (if-no _ _ f);
+      bytes = e .1 ∙ ap (λ (t : List ℕ). t ++ drop (length (a .s .now)) (a .out .now)) (take-length (a .s .now)) ∙ sym
+          (if-no _ _ f);
     }
 
 pub put-spec : {M : Type 1} → statement M

@@ -10,11 +10,16 @@ returns : tie.Need-returns
 returns c = unread _ _ _ _ (sym (c .before .before .awaited-by-number .ensures) ∙ c .enum-told .given .1)
 
 read-answer-requires : tie.Need-read-answer-requires
-read-answer-requires c κs = asked-sized _ _ _ _ (sym (c .before .before .before .before .awaited-by-number .ensures) ∙ c .before .before .answer .given .1)
+read-answer-requires c κs = asked-sized _ _ _ _ (sym (c .before .before .before .before .awaited-by-number .ensures) ∙
+    c .before .before .answer .given .1)
 
 returns-2 : tie.Need-returns-2
 returns-2 c =
-    read _ _ _ _ _ _ _ _ (sym (c .before .before .before .before .before .before .before .before .awaited-by-number .ensures) ∙ c .before .before .before .before .before .before .answer .given .1) (c .before .before .before .read-answer .ensures .0) (c .before .before .before .read-answer .ensures .1 .1 .0) (c .reading-word .ensures)
+    read _ _ _ _ _ _ _ _
+    (sym (c .before .before .before .before .before .before .before .before .awaited-by-number .ensures) ∙
+    c .before .before .before .before .before .before .answer .given .1)
+    (c .before .before .before .read-answer .ensures .0) (c .before .before .before .read-answer .ensures .1 .1 .0)
+    (c .reading-word .ensures)
 
 pub emv-test-read-spec : {M : Type 1} → statement M
 emv-test-read-spec =

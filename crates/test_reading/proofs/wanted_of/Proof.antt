@@ -17,18 +17,21 @@ returns-2 c = sym (if-no _ _ (ne-eqb _ _ (c .before .if1 .left)) ∙ if-yes _ _ 
 
 returns-3 : tie.Need-returns-3
 unfolding awaitedByNumber
-returns-3 c = sym (if-no _ _ (ne-eqb _ _ (c .before .before .if1 .left)) ∙ if-no _ _ (ne-eqb _ _ (c .before .if2 .left)) ∙ if-yes _ _ (eq-eqb _ _ (c .if3 .taken)))
+returns-3 c = sym (if-no _ _ (ne-eqb _ _ (c .before .before .if1 .left)) ∙ if-no _ _ (ne-eqb _ _ (c .before .if2 .left))
+    ∙ if-yes _ _ (eq-eqb _ _ (c .if3 .taken)))
 
 returns-4 : tie.Need-returns-4
 unfolding awaitedByNumber
 returns-4 c =
-    sym (if-no _ _ (ne-eqb _ _ (c .before .before .before .if1 .left)) ∙ if-no _ _ (ne-eqb _ _ (c .before .before .if2 .left)) ∙ if-no _ _ (ne-eqb _ _ (c .before .if3 .left))
+    sym (if-no _ _ (ne-eqb _ _ (c .before .before .before .if1 .left)) ∙ if-no _ _
+    (ne-eqb _ _ (c .before .before .if2 .left)) ∙ if-no _ _ (ne-eqb _ _ (c .before .if3 .left))
     ∙ if-yes _ _ (eq-eqb _ _ (c .if4 .taken)))
 
 returns-5 : tie.Need-returns-5
 unfolding awaitedByNumber
 returns-5 c =
-    sym (if-no _ _ (ne-eqb _ _ (c .before .before .before .if1 .left)) ∙ if-no _ _ (ne-eqb _ _ (c .before .before .if2 .left)) ∙ if-no _ _ (ne-eqb _ _ (c .before .if3 .left))
+    sym (if-no _ _ (ne-eqb _ _ (c .before .before .before .if1 .left)) ∙ if-no _ _
+    (ne-eqb _ _ (c .before .before .if2 .left)) ∙ if-no _ _ (ne-eqb _ _ (c .before .if3 .left))
     ∙ if-no _ _ (ne-eqb _ _ (c .if4 .left)))
 
 pub wanted-of-spec : {M : Type 1} → statement M

@@ -10,7 +10,8 @@ use Rattle.text_line.proofs.after_first_word.Tie as tie
 
 returns : tie.Need-returns
 returns c =
-    past-is _ _ _ (c .before .front-length .ensures .0) ∙ ap (afterLongestPrefix (isCharacterOfKind CharacterKind.NotBlank)) (c .before .before .past-blanks .ensures)
+    past-is _ _ _ (c .before .front-length .ensures .0) ∙ ap
+    (afterLongestPrefix (isCharacterOfKind CharacterKind.NotBlank)) (c .before .before .past-blanks .ensures)
 
 pub after-first-word-spec : {M : Type 1} → statement M
 after-first-word-spec =

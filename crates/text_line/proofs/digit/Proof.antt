@@ -25,7 +25,8 @@ returns c =
 returns-2 : tie.Need-returns-2
 unfolding hexDigitValueOr16
 returns-2 c =
-    let k = ends _ 65 (c .before .before .before .before .args .c) 70 (c .before .is-between2 .ensures) (c .if2 .taken) in (
+    let k = ends _ 65 (c .before .before .before .before .args .c) 70 (c .before .is-between2 .ensures) (c .if2 .taken)
+    in (
       sym (if-no _ _ (sym (c .before .before .before .is-between .ensures) ∙ c .before .before .if1 .left)
           ∙ if-yes _ _ (sym (c .before .is-between2 .ensures) ∙ c .if2 .taken)),
       omega arith,
@@ -34,8 +35,11 @@ returns-2 c =
 returns-3 : tie.Need-returns-3
 unfolding hexDigitValueOr16
 returns-3 c =
-    let k = ends _ 97 (c .before .before .before .before .before .before .args .c) 102 (c .before .is-between3 .ensures) (c .if3 .taken) in (
-      sym (if-no _ _ (sym (c .before .before .before .before .before .is-between .ensures) ∙ c .before .before .before .before .if1 .left)
+    let k = ends _ 97 (c .before .before .before .before .before .before .args .c) 102 (c .before .is-between3 .ensures)
+    (c .if3 .taken) in (
+      sym
+          (if-no _ _ (sym (c .before .before .before .before .before .is-between .ensures) ∙
+          c .before .before .before .before .if1 .left)
           ∙ if-no _ _ (sym (c .before .before .before .is-between2 .ensures) ∙ c .before .before .if2 .left)
           ∙ if-yes _ _ (sym (c .before .is-between3 .ensures) ∙ c .if3 .taken)),
       omega arith,
@@ -44,7 +48,9 @@ returns-3 c =
 returns-4 : tie.Need-returns-4
 unfolding hexDigitValueOr16
 returns-4 c = (
-  sym (if-no _ _ (sym (c .before .before .before .before .before .is-between .ensures) ∙ c .before .before .before .before .if1 .left)
+  sym
+      (if-no _ _ (sym (c .before .before .before .before .before .is-between .ensures) ∙
+      c .before .before .before .before .if1 .left)
       ∙ if-no _ _ (sym (c .before .before .before .is-between2 .ensures) ∙ c .before .before .if2 .left)
       ∙ if-no _ _ (sym (c .before .is-between3 .ensures) ∙ c .if3 .left)),
   omega arith,
@@ -55,12 +61,15 @@ digit-spec =
     tie.close
     (tie.spec
     (λ c κs. search needs)
-    (λ c. let k = ends _ 48 (c .before .before .args .c) 57 (c .before .is-between .ensures) (c .if1 .taken) in omega arith)
+    (λ c. let k = ends _ 48 (c .before .before .args .c) 57 (c .before .is-between .ensures) (c .if1 .taken) in
+    omega arith)
     returns
     (λ c κs. search needs)
-    (λ c. let k = ends _ 65 (c .before .before .before .before .args .c) 70 (c .before .is-between2 .ensures) (c .if2 .taken) in omega arith)
+    (λ c. let k = ends _ 65 (c .before .before .before .before .args .c) 70 (c .before .is-between2 .ensures)
+    (c .if2 .taken) in omega arith)
     returns-2
     (λ c κs. search needs)
-    (λ c. let k = ends _ 97 (c .before .before .before .before .before .before .args .c) 102 (c .before .is-between3 .ensures) (c .if3 .taken) in omega arith)
+    (λ c. let k = ends _ 97 (c .before .before .before .before .before .before .args .c) 102
+    (c .before .is-between3 .ensures) (c .if3 .taken) in omega arith)
     returns-3
     returns-4)

@@ -12,7 +12,8 @@ use Rattle.text_line.proofs.first_word.Tie as tie
 
 returns : tie.Need-returns
 returns c =
-    front-is _ _ _ (c .before .front-length .ensures .0) ∙ ap (longestPrefix (isCharacterOfKind CharacterKind.NotBlank)) (c .before .before .past-blanks .ensures)
+    front-is _ _ _ (c .before .front-length .ensures .0) ∙ ap (longestPrefix (isCharacterOfKind CharacterKind.NotBlank))
+    (c .before .before .past-blanks .ensures)
 
 pub first-word-spec : {M : Type 1} → statement M
 first-word-spec =

@@ -12,20 +12,28 @@ use Rattle.text_line.proofs.front_length.Statement.{statement}
 use Rattle.text_line.proofs.front_length.Tie as tie
 
 abbrev Inv-loop : tie.InvT-loop
-Inv-loop s kind i₀ i = (i ≤ length s) × (length (longestPrefix (isCharacterOfKind kind) s) ≡ i + length (longestPrefix (isCharacterOfKind kind) (drop i s)))
+Inv-loop s kind i₀ i = (i ≤ length s) × (length (longestPrefix (isCharacterOfKind kind) s) ≡ i
+    + length (longestPrefix (isCharacterOfKind kind) (drop i s)))
 
 abbrev μ-loop : tie.MeasureT-loop
 μ-loop s kind i₀ i = length s - i
 
 returns : tie.Need-returns Inv-loop μ-loop
 returns c =
-    let lp = c .before .before .before .before .loop in
-    (sym (lp .inv .1 ∙ front-stops _ _ (lp .i) (omega arith) (sym (c .before .is-of .ensures) ∙ not-true _ (c .if1 .taken))), omega arith)
+    let lp = c .before .before .before .before .loop in (
+      sym
+          (lp .inv .1 ∙ front-stops _ _ (lp .i) (omega arith)
+          (sym (c .before .is-of .ensures) ∙ not-true _ (c .if1 .taken))),
+      omega arith,
+    )
 
 loop-again : tie.Need-loop-again Inv-loop μ-loop
 loop-again c =
-    let lp = c .before .before .before .before .loop in
-    (omega arith, lp .inv .1 ∙ front-goes-on _ _ (lp .i) (omega arith) (sym (c .before .is-of .ensures) ∙ not-false _ (c .if1 .left)))
+    let lp = c .before .before .before .before .loop in (
+      omega arith,
+      lp .inv .1 ∙ front-goes-on _ _ (lp .i) (omega arith)
+          (sym (c .before .is-of .ensures) ∙ not-false _ (c .if1 .left)),
+    )
 
 returns-2 : tie.Need-returns-2 Inv-loop μ-loop
 returns-2 c =

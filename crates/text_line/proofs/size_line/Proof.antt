@@ -5,7 +5,8 @@ use mathlib.Core.Path.{sym, _∙_}
 use Prim.Native.Nat.{_-_, _<_}
 use native.Mathlib.Omega.{arith}
 use lib.ListN.{length}
-use Rattle.text_line.proofs.Digits.{Reading, reading-start, reading-on, not-digit, too-large, sized-none, sized-is}
+use Rattle.text_line.proofs.Digits.{Reading, reading-start, reading-on, not-digit, too-large, sized-none}
+use Rattle.text_line.proofs.Digits.{sized-is}
 use Rattle.text_line.proofs.size_line.Statement.{statement}
 use Rattle.text_line.proofs.size_line.Tie as tie
 
@@ -18,17 +19,25 @@ abbrev μ-loop : tie.MeasureT-loop
 returns-2 : tie.Need-returns-2 Inv-loop μ-loop
 returns-2 c =
     let lp = c .before .before .before .before .before .loop in
-    sym (not-digit _ _ _ (lp .inv .1) (omega arith) _ (c .before .widen .ensures .0 ∙ c .before .before .digit .ensures .0) (c .if2 .taken))
+    sym
+    (not-digit _ _ _ (lp .inv .1) (omega arith) _ (c .before .widen .ensures .0 ∙ c .before .before .digit .ensures .0)
+    (c .if2 .taken))
 
 returns-3 : tie.Need-returns-3 Inv-loop μ-loop
 returns-3 c =
     let lp = c .before .before .before .before .before .before .loop in
-    sym (too-large _ _ _ (lp .inv .1) (omega arith) _ (c .before .before .widen .ensures .0 ∙ c .before .before .before .digit .ensures .0) (c .if3 .taken))
+    sym
+    (too-large _ _ _ (lp .inv .1) (omega arith) _
+    (c .before .before .widen .ensures .0 ∙ c .before .before .before .digit .ensures .0) (c .if3 .taken))
 
 loop-again : tie.Need-loop-again Inv-loop μ-loop
 loop-again c =
-    let lp = c .before .before .before .before .before .before .loop in
-    (lp .inv .0, reading-on _ _ _ (lp .inv .1) (omega arith) _ (c .before .before .widen .ensures .0 ∙ c .before .before .before .digit .ensures .0) (c .before .if2 .left) (c .if3 .left))
+    let lp = c .before .before .before .before .before .before .loop in (
+      lp .inv .0,
+      reading-on _ _ _ (lp .inv .1) (omega arith) _
+          (c .before .before .widen .ensures .0 ∙ c .before .before .before .digit .ensures .0) (c .before .if2 .left)
+          (c .if3 .left),
+    )
 
 returns-4 : tie.Need-returns-4 Inv-loop μ-loop
 returns-4 c =

@@ -17,7 +17,8 @@ use Rattle.tlv.proofs.is_primitive_list.Lts as lts
 use Rattle.tlv.proofs.primitive_at_front.Reads as primitive
 
 abbrev Inv-loop : tie.InvT-loop
-Inv-loop bytes s₀ s = (arePrimitiveObjectsParsed (primitiveObjects s₀) ≡ arePrimitiveObjectsParsed (primitiveObjects s)) × (length s ≤ length s₀)
+Inv-loop bytes s₀ s = (arePrimitiveObjectsParsed (primitiveObjects s₀) ≡ arePrimitiveObjectsParsed (primitiveObjects s))
+    × (length s ≤ length s₀)
 
 abbrev μ-loop : tie.MeasureT-loop
 μ-loop bytes s₀ s = length s
@@ -26,7 +27,8 @@ abbrev μ-loop : tie.MeasureT-loop
 abbrev At-object : Type 0
 At-object = lts.After-front (primitive.Asked, primitive.Learnt) reads.Pre reads.Post Inv-loop μ-loop
 
-next-at : (c : At-object) → primitiveAtFront (c .before .before .before .before .loop .s .now) ≡ front.Object (c .front .given .0 .0)
+next-at : (c : At-object) → primitiveAtFront (c .before .before .before .before .loop .s .now)
+    ≡ front.Object (c .front .given .0 .0)
 next-at c = sym (c .before .before .primitive-at-front .ensures) ∙ c .front .given .1
 
 fits-at : (c : At-object) → HeaderFits (c .before .before .before .before .loop .s .now) (c .front .given .0 .0)
@@ -35,13 +37,17 @@ fits-at c = primitive-fits _ _ (next-at c)
 returns : tie.Need-returns Inv-loop μ-loop
 returns c =
     let lp = c .before .before .before .before .loop in
-    sym (lp .inv .0 ∙ is-run-broken _ (c .before .before .before .loop-test .taken) (sym (c .before .before .primitive-at-front .ensures) ∙ c .enum-told .given .1))
+    sym (lp .inv .0 ∙ is-run-broken _ (c .before .before .before .loop-test .taken)
+    (sym (c .before .before .primitive-at-front .ensures) ∙ c .enum-told .given .1))
 
 loop-again : tie.Need-loop-again Inv-loop μ-loop
 loop-again c =
     let o = c .before .before .before in
-    let h = fits-at o in
-    (o .before .before .before .before .loop .inv .0 ∙ is-run-on _ (o .before .before .before .loop-test .taken) _ (next-at o), simp (length-take, length-drop) (omega arith))
+    let h = fits-at o in (
+      o .before .before .before .before .loop .inv .0 ∙ is-run-on _ (o .before .before .before .loop-test .taken) _
+          (next-at o),
+      simp (length-take, length-drop) (omega arith),
+    )
 
 pub is-primitive-list-spec : {M : Type 1} → statement M
 is-primitive-list-spec =

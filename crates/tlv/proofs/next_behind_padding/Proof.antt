@@ -5,4 +5,5 @@ use Rattle.tlv.proofs.next_behind_padding.Statement.{statement}
 use Rattle.tlv.proofs.next_behind_padding.Tie as tie
 
 pub next-behind-padding-spec : {M : Type 1} → statement M
-next-behind-padding-spec = tie.close (tie.spec (λ c κs. search needs) (λ c κs. c .padding .ensures) (λ c. c .object-behind .ensures))
+next-behind-padding-spec = tie.close (tie.spec (λ c κs. search needs) (λ c κs. c .padding .ensures)
+    (λ c. c .object-behind .ensures))

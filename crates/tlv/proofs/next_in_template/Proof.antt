@@ -1,4 +1,5 @@
--- `tlv::next_in_template` meets its contract: what follows the padding. That padding changes no tree holds of all bytes.
+-- `tlv::next_in_template` meets its contract: what follows the padding. That padding changes no tree holds of all
+-- bytes.
 -- Assumes nothing.
 use borrow.Author.Needs.{needs}
 use Rattle.tlv.proofs.Encoding.{passes-over}
@@ -6,4 +7,5 @@ use Rattle.tlv.proofs.next_in_template.Statement.{statement}
 use Rattle.tlv.proofs.next_in_template.Tie as tie
 
 pub next-in-template-spec : {M : Type 1} → statement M
-next-in-template-spec = tie.close (tie.spec (λ c κs. search needs) (λ c κs. c .padding-in-front .ensures) (λ c. (c .object-behind .ensures, passes-over _)))
+next-in-template-spec = tie.close (tie.spec (λ c κs. search needs) (λ c κs. c .padding-in-front .ensures)
+    (λ c. (c .object-behind .ensures, passes-over _)))

@@ -18,7 +18,9 @@ use Rattle.tlv.proofs.object_header.Reads as head-reads
 returns : tie.Need-returns
 returns c =
     let a = c .before .before .before .before .before .args in
-    sym (ap (λ x. nextInTemplateShifted (a .at) (nextInTemplateOfFront x)) (ap headerOf (sym (tail-is (a .s .now) (a .at))) ∙ sym (c .before .before .object-header .ensures) ∙ c .enum-told .given .1))
+    sym (ap (λ x. nextInTemplateShifted (a .at) (nextInTemplateOfFront x))
+    (ap headerOf (sym (tail-is (a .s .now) (a .at))) ∙ sym (c .before .before .object-header .ensures) ∙
+    c .enum-told .given .1))
 
 -- where an object is present
 abbrev At-object : Type 0
@@ -29,7 +31,8 @@ head-at : (c : At-object) →
     headerOf (drop (a .at) (a .s .now)) ≡ Object (c .before .before .front .given .0 .0)
 head-at c =
     let a = c .before .before .before .before .before .before .before .args in
-    ap headerOf (sym (tail-is (a .s .now) (a .at))) ∙ sym (c .before .before .before .before .object-header .ensures) ∙ c .before .before .front .given .1
+    ap headerOf (sym (tail-is (a .s .now) (a .at))) ∙ sym (c .before .before .before .before .object-header .ensures) ∙
+    c .before .before .front .given .1
 
 add-start : tie.Need-add-start
 add-start c =
@@ -38,7 +41,10 @@ add-start c =
     omega arith
 
 returns-2 : tie.Need-returns-2
-returns-2 c = sym (ap (λ x. nextInTemplateShifted (c .before .before .before .before .before .before .before .args .at) (nextInTemplateOfFront x)) (head-at c))
+returns-2 c =
+    sym
+    (ap (λ x. nextInTemplateShifted (c .before .before .before .before .before .before .before .args .at)
+    (nextInTemplateOfFront x)) (head-at c))
 
 pub object-at-spec : {M : Type 1} → statement M
 object-at-spec =

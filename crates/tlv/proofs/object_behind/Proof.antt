@@ -16,7 +16,8 @@ returns-2 c =
     let st = c .before .before .before in
     let l = st .pre .inside in
     let h = c .before .if1 .left in
-    c .object-at .ensures ∙ sym (st .pre .next ∙ ap (nextInTemplateShifted (st .args .at)) (stop-at _ (st .args .at) (omega arith) (st .pre .stops (omega arith))))
+    c .object-at .ensures ∙ sym (st .pre .next ∙ ap (nextInTemplateShifted (st .args .at))
+    (stop-at _ (st .args .at) (omega arith) (st .pre .stops (omega arith))))
 
 pub object-behind-spec : {M : Type 1} → statement M
 object-behind-spec = tie.close (tie.spec returns (λ c κs. c .before .before .pre .inside) returns-2)

@@ -5,7 +5,8 @@ use mathlib.Core.Path.{sym, _∙_}
 use native.Mathlib.Omega.{arith}
 use borrow.Author.Needs.{needs}
 use Rattle.tlv.specs.declared.LengthFront.the-variants.{Unsized}
-use Rattle.tlv.proofs.Laws.{tag-fits, header-untagged, HeaderRead, header-with, header-read, header-whole, header-short}
+use Rattle.tlv.proofs.Laws.{tag-fits, header-untagged, HeaderRead, header-with, header-read, header-whole}
+use Rattle.tlv.proofs.Laws.{header-short}
 use Rattle.tlv.proofs.object_header.Statement.{statement}
 use Rattle.tlv.proofs.object_header.Tie as tie
 use Rattle.tlv.proofs.object_header.Reads as reads
@@ -28,7 +29,8 @@ part-length-at-start c = let f = sub-length-at c in omega arith
 returns-2 : tie.Need-returns-2
 returns-2 c =
     let g = c .before .before .before .before .before .front .given in
-    sym (header-with _ _ (g .0 .0) (c .before .before .before .before .before .before .before .tag-at .ensures) (g .1) _ (c .before .before .length-at .ensures) Unsized (c .enum-told2 .given .1))
+    sym (header-with _ _ (g .0 .0) (c .before .before .before .before .before .before .before .tag-at .ensures) (g .1) _
+    (c .before .before .length-at .ensures) Unsized (c .enum-told2 .given .1))
 
 -- where both are known
 abbrev Known : Type 0
@@ -36,12 +38,19 @@ Known = lts.After-struct-known (tag-at.Asked, tag-at.Learnt, length-at.Asked, le
 
 read-at : (c : Known) →
     let b = c .before .before .before .before .before .before .before in
-    HeaderRead (b .before .before .before .before .args .s .now) (b .front .given .0 .0) (c .before .before .sized .given .0 .0)
+    HeaderRead (b .before .before .before .before .args .s .now) (b .front .given .0 .0)
+    (c .before .before .sized .given .0 .0)
 read-at c =
     let g = c .before .before .before .before .before .before .before .front .given in
     let z = c .before .before .sized .given in
-    header-read _ _ (g .0 .0) (c .before .before .before .before .before .before .before .before .before .tag-at .ensures) (g .1) _ (c .before .before .before .before .length-at .ensures)
-    (λ i. omega (arith, c .before .before .before .before .before .before .before .before .before .before .shared-slice-known .given i)) (z .0 .0) (z .1)
+    header-read _ _ (g .0 .0)
+    (c .before .before .before .before .before .before .before .before .before .tag-at .ensures) (g .1) _
+    (c .before .before .before .before .length-at .ensures)
+    (λ i. omega (
+      arith,
+      c .before .before .before .before .before .before .before .before .before .before .shared-slice-known .given
+          i,
+    )) (z .0 .0) (z .1)
 
 add-start : tie.Need-add-start
 add-start c = let r = read-at c in omega arith

@@ -18,7 +18,12 @@ abbrev μ-loop : tie.MeasureT-loop
 μ-loop s at₀ at = length s - at
 
 returns : tie.Need-returns Inv-loop μ-loop
-returns c = let lp = c .before .before .before .loop in record { inside = lp .inv .0; next = lp .inv .1; stops = λ h. c .if1 .taken }
+returns c = let lp = c .before .before .before .loop in record {
+  inside = lp .inv .0;
+  next = lp .inv .1;
+  stops =
+      λ h. c .if1 .taken;
+}
 
 loop-again : tie.Need-loop-again Inv-loop μ-loop
 loop-again c =

@@ -12,12 +12,14 @@ returns c = sym (primitive-broken _ _ (c .before .before .object-header .ensures
 returns-2 : tie.Need-returns-2
 returns-2 c =
     let f = c .before .before .front .given in
-    sym (primitive-template _ _ (c .before .before .before .before .object-header .ensures) (f .0 .0) (f .1) (c .if1 .taken))
+    sym (primitive-template _ _ (c .before .before .before .before .object-header .ensures) (f .0 .0) (f .1)
+    (c .if1 .taken))
 
 returns-3 : tie.Need-returns-3
 returns-3 c =
     let f = c .before .before .front .given in
-    sym (primitive-object _ _ (c .before .before .before .before .object-header .ensures) (f .0 .0) (f .1) (c .if1 .left))
+    sym (primitive-object _ _ (c .before .before .before .before .object-header .ensures) (f .0 .0) (f .1)
+    (c .if1 .left))
 
 pub primitive-at-front-spec : {M : Type 1} → statement M
 primitive-at-front-spec =

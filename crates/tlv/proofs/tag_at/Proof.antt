@@ -10,7 +10,8 @@ returns : tie.Need-returns
 returns c = sym (tag-none _ _ (c .before .tag-size .ensures .0) (c .if1 .taken))
 
 returns-2 : tie.Need-returns-2
-returns-2 c = rw (c .tag-number .ensures) (sym (tag-some _ _ (c .before .before .tag-size .ensures .0) (c .before .if1 .left)))
+returns-2 c = rw (c .tag-number .ensures)
+    (sym (tag-some _ _ (c .before .before .tag-size .ensures .0) (c .before .if1 .left)))
 
 pub tag-at-spec : {M : Type 1} → statement M
 tag-at-spec = tie.close (tie.spec (λ c κs. search needs) returns (λ c κs. search needs) returns-2)

@@ -11,7 +11,8 @@ returns : tie.Need-returns
 returns c = rw (c .if1 .taken) (omega (arith, number-one (c .before .before .before .before .args .s .now)))
 
 returns-2 : tie.Need-returns-2
-returns-2 c = rw (c .if2 .taken) (omega (arith, number-two (c .before .before .before .before .before .before .before .args .s .now) (omega arith)))
+returns-2 c = rw (c .if2 .taken)
+    (omega (arith, number-two (c .before .before .before .before .before .before .before .args .s .now) (omega arith)))
 
 returns-3 : tie.Need-returns-3
 returns-3 c =

@@ -12,8 +12,13 @@ use Rattle.worked_examples.proofs.Journal.{journal}
 use Rattle.worked_examples.proofs.CallLists.{lists-of-calls}
 
 returns : tie.Need-returns
-returns c =
-    (on-gpo, (on-last-record, (on-last-mag-stripe, (on-cryptogram, (on-checksum, (encodings, (lists, (refusals, (journal, lists-of-calls)))))))))
+returns c = (
+  on-gpo,
+  (
+    on-last-record,
+    (on-last-mag-stripe, (on-cryptogram, (on-checksum, (encodings, (lists, (refusals, (journal, lists-of-calls))))))),
+  ),
+)
 
 pub examples-hold-spec : {M : Type 1} → statement M
 examples-hold-spec = tie.close (tie.spec returns)

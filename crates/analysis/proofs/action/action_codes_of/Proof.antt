@@ -15,9 +15,12 @@ use Rattle.analysis.specs.declared.choice.ActionCodes.{ActionCodes}
 use Rattle.analysis.proofs.action.action_codes_of.Statement.{statement}
 use Rattle.analysis.proofs.action.action_codes_of.Tie as tie
 
-pair : (b : List ℕ) (stage t u : ℕ) {j k : ℕ} → findRow dictionaryRows t ≡ At j → findRow dictionaryRows u ≡ At k → {r : ActionCodes}
-    → r ≡ actionCodesAt stage (rowValue dictionaryRows b j) (bytesOrEmptyIfAbsent (rowValue dictionaryRows b k)) → r ≡ actionCodesAt stage (objectValue b t) (storedBytes b u)
-pair b stage t u {j} {k} p q e = e ∙ ap₂ (actionCodesAt stage) (sym (by-row dictionaryRows b t j p)) (ap bytesOrEmptyIfAbsent (sym (by-row dictionaryRows b u k q)))
+pair : (b : List ℕ) (stage t u : ℕ) {j k : ℕ} → findRow dictionaryRows t ≡ At j → findRow dictionaryRows u ≡ At k
+    → {r : ActionCodes}
+    → r ≡ actionCodesAt stage (rowValue dictionaryRows b j) (bytesOrEmptyIfAbsent (rowValue dictionaryRows b k))
+    → r ≡ actionCodesAt stage (objectValue b t) (storedBytes b u)
+pair b stage t u {j} {k} p q e = e ∙ ap₂ (actionCodesAt stage) (sym (by-row dictionaryRows b t j p))
+    (ap bytesOrEmptyIfAbsent (sym (by-row dictionaryRows b u k q)))
 
 returns : tie.Need-returns
 unfolding actionCodesOf

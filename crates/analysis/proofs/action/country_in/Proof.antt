@@ -10,7 +10,8 @@ use Rattle.analysis.proofs.action.country_in.Tie as tie
 returns : tie.Need-returns
 returns c =
     c .issuer-country-match .ensures
-    ∙ ap₂ issuerCountryMatch (value-by-row _ 0x5F28 at-5F28 (c .before .before .before .is-present .ensures) (c .before .before .value .ensures))
+    ∙ ap₂ issuerCountryMatch (value-by-row _ 0x5F28 at-5F28 (c .before .before .before .is-present .ensures)
+    (c .before .before .value .ensures))
     (bytes-by-row _ 0x9F1A at-9F1A (c .before .value2 .ensures))
 
 pub country-in-spec : {M : Type 1} → statement M

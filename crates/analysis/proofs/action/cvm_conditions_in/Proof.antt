@@ -21,7 +21,8 @@ returns c =
     let list = bytes-by-row _ 0x8E at-8E (type .before .value .ensures) in
     let transaction = byte-by-row _ 0x9C at-9C (type .byte-in .ensures) in
     simp (
-      amounts .before .before .byte-at .ensures ∙ ap (λ (s : List ℕ). getD s 1 0) (bytes-by-row _ 0x9F33 at-9F33 (amounts .before .before .before .value2 .ensures)),
+      amounts .before .before .byte-at .ensures ∙ ap (λ (s : List ℕ). getD s 1 0)
+          (bytes-by-row _ 0x9F33 at-9F33 (amounts .before .before .before .value2 .ensures)),
       c .is-cash .ensures ∙ ap (λ (t : ℕ). isOneOf t 0x01 0x17) transaction,
       transaction,
       c .before .before .before .before .atm-in .ensures,

@@ -14,7 +14,8 @@ returns : tie.Need-returns
 unfolding cvmResultIn
 returns c =
     let t = c .before in
-    c .on-device-result .ensures ∙ sym (if-yes _ _ (sym (t .before .card-and-kernel-support-on-device-cvm .ensures) ∙ t .if1 .taken))
+    c .on-device-result .ensures ∙ sym
+    (if-yes _ _ (sym (t .before .card-and-kernel-support-on-device-cvm .ensures) ∙ t .if1 .taken))
 
 returns-2 : tie.Need-returns-2
 unfolding cvmResultIn

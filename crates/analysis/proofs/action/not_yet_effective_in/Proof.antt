@@ -11,9 +11,11 @@ use Rattle.analysis.proofs.action.not_yet_effective_in.Tie as tie
 returns : tie.Need-returns
 returns c =
     c .not-yet-effective .ensures
-    ∙ ap₂ notYetEffective (value-by-row _ 0x5F25 at-5F25 (c .before .before .before .is-present .ensures) (c .before .before .value .ensures))
+    ∙ ap₂ notYetEffective (value-by-row _ 0x5F25 at-5F25 (c .before .before .before .is-present .ensures)
+    (c .before .before .value .ensures))
     (bytes-by-row _ 0x9A at-9A (c .before .value2 .ensures))
 
 pub not-yet-effective-in-spec : {M : Type 1} → statement M
 not-yet-effective-in-spec =
-    tie.close (tie.spec (λ c κs. search needs) (λ c κs. search needs) (λ c κs. search needs) (λ c κs. search needs) returns)
+    tie.close (tie.spec (λ c κs. search needs) (λ c κs. search needs) (λ c κs. search needs) (λ c κs. search needs)
+    returns)

@@ -13,8 +13,10 @@ returns c =
     let required = c .before .before in
     c .on-device-cvm-result .ensures
     ∙ ap onDeviceCvmResultByAboveLimit (c .before .first-amount-is-above .ensures
-    ∙ ap₂ firstAmountIsAbove (bytes-by-row _ 0x9F02 at-9F02 (required .before .value .ensures)) (bytes-by-row _ 0xDF8126 at-DF8126 (required .value2 .ensures)))
+    ∙ ap₂ firstAmountIsAbove (bytes-by-row _ 0x9F02 at-9F02 (required .before .value .ensures))
+    (bytes-by-row _ 0xDF8126 at-DF8126 (required .value2 .ensures)))
 
 pub on-device-result-spec : {M : Type 1} → statement M
 on-device-result-spec =
-    tie.close (tie.spec (λ c κs. search needs) (λ c κs. search needs) (λ c κs. search needs) (λ c κs. search needs) returns)
+    tie.close (tie.spec (λ c κs. search needs) (λ c κs. search needs) (λ c κs. search needs) (λ c κs. search needs)
+    returns)

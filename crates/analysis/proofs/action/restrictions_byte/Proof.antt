@@ -15,7 +15,9 @@ returns c =
     c .tvr-byte2 .ensures
     ∙ simp (
       c .before .before .before .version-differs-in .ensures,
-      later .first-date-is-later .ensures ∙ ap₂ firstDateIsLater (bytes-by-row _ 0x9A at-9A (later .before .before .value .ensures)) (bytes-by-row _ 0x5F24 at-5F24 (later .before .value2 .ensures)),
+      later .first-date-is-later .ensures ∙ ap₂ firstDateIsLater
+          (bytes-by-row _ 0x9A at-9A (later .before .before .value .ensures))
+          (bytes-by-row _ 0x5F24 at-5F24 (later .before .value2 .ensures)),
       c .before .before .not-yet-effective-in .ensures,
       c .before .auc-violated-in .ensures,
     )

@@ -12,7 +12,9 @@ returns : tie.Need-returns
 unfolding tvrBeforeCvm
 returns c =
     let values = c .before .before .before in
-    let floor = c .before .tvr-byte4 .ensures ∙ ap₂ tvrByte4AmountAboveFloorLimit (bytes-by-row _ 0x9F02 at-9F02 (values .before .value .ensures)) (bytes-by-row _ 0xDF8123 at-DF8123 (values .value2 .ensures)) in
+    let floor = c .before .tvr-byte4 .ensures ∙ ap₂ tvrByte4AmountAboveFloorLimit
+    (bytes-by-row _ 0x9F02 at-9F02 (values .before .value .ensures))
+    (bytes-by-row _ 0xDF8123 at-DF8123 (values .value2 .ensures)) in
     c .tvr-from-bytes2-and4 .ensures ∙ ap₂ tvrFromBytes2And4 (c .before .before .restrictions-byte .ensures) floor
 
 pub tvr-before-cvm-spec : {M : Type 1} → statement M

@@ -29,12 +29,16 @@ third-is b r e = ap (λ (s : List ℕ). getD s 2 0) e
 first-added : (b : List ℕ) → cvmResultIn b .tvr1 ≤ 0x20
 unfolding cvmResultIn
 first-added b =
-    if-ind (λ (v : CvmResult). v .tvr1 ≤ 0x20) _ _ _ (λ e. let z = on-device-bits (firstAmountIsAbove (storedBytes b 0x9F02) (storedBytes b 0xDF8126)) in omega (arith, z .0)) (λ e. first-most _ _ _)
+    if-ind (λ (v : CvmResult). v .tvr1 ≤ 0x20) _ _ _
+    (λ e. let z = on-device-bits (firstAmountIsAbove (storedBytes b 0x9F02) (storedBytes b 0xDF8126)) in
+    omega (arith, z .0)) (λ e. first-most _ _ _)
 
 third-added : (b : List ℕ) → cvmResultIn b .tvr3 ≤ 0xC4
 unfolding cvmResultIn
 third-added b =
-    if-ind (λ (v : CvmResult). v .tvr3 ≤ 0xC4) _ _ _ (λ e. let z = on-device-bits (firstAmountIsAbove (storedBytes b 0x9F02) (storedBytes b 0xDF8126)) in omega (arith, z .1)) (λ e. third-most _ _ _)
+    if-ind (λ (v : CvmResult). v .tvr3 ≤ 0xC4) _ _ _
+    (λ e. let z = on-device-bits (firstAmountIsAbove (storedBytes b 0x9F02) (storedBytes b 0xDF8126)) in
+    omega (arith, z .1)) (λ e. third-most _ _ _)
 
 add-t9 : tie.Need-add-t9
 add-t9 c =
@@ -47,19 +51,23 @@ add-t16 c =
     record { fits = omega (arith, third-is b _ (c .tvr-before-cvm .ensures), third-added b, c .before .before .pre .1) }
 
 -- the bits are in bytes 1 and 3
-added : (a b c d e x z : ℕ) → (a + x) ∷ b ∷ (c + z) ∷ d ∷ e ∷ [] ≡ tvrWithBits (a ∷ b ∷ c ∷ d ∷ e ∷ []) (x ∷ 0 ∷ z ∷ 0 ∷ 0 ∷ [])
+added : (a b c d e x z : ℕ) → (a + x) ∷ b ∷ (c + z) ∷ d ∷ e ∷ [] ≡ tvrWithBits (a ∷ b ∷ c ∷ d ∷ e ∷ [])
+    (x ∷ 0 ∷ z ∷ 0 ∷ 0 ∷ [])
 unfolding tvrWithBits
 added a b c d e x z =
     let p : b ≡ b + 0 = omega arith in
     let q : d ≡ d + 0 = omega arith in
     let r : e ≡ e + 0 = omega arith in
-    ap (λ (t : List ℕ). (a + x) ∷ t) (ap₂ (λ (m : ℕ) (t : List ℕ). m ∷ (c + z) ∷ t) p (ap₂ (λ (m n : ℕ). m ∷ n ∷ []) q r))
+    ap (λ (t : List ℕ). (a + x) ∷ t)
+    (ap₂ (λ (m : ℕ) (t : List ℕ). m ∷ (c + z) ∷ t) p (ap₂ (λ (m n : ℕ). m ∷ n ∷ []) q r))
 
 full : (b s : List ℕ) (x z : ℕ) → s ≡ tvrBeforeCvm b → x ≡ cvmResultIn b .tvr1 → z ≡ cvmResultIn b .tvr3
     → (getD s 0 0 + x) ∷ getD s 1 0 ∷ (getD s 2 0 + z) ∷ getD s 3 0 ∷ getD s 4 0 ∷ [] ≡ tvrWithCvm b
 unfolding tvrWithCvm tvrBeforeCvm
 full b s x z e f g =
-    simp (e, f, g) (added 0x80 (restrictionsTvrByte2 b) 0 (tvrByte4AmountAboveFloorLimit (storedBytes b 0x9F02) (storedBytes b 0xDF8123)) 0 (cvmResultIn b .tvr1) (cvmResultIn b .tvr3))
+    simp (e, f, g)
+    (added 0x80 (restrictionsTvrByte2 b) 0 (tvrByte4AmountAboveFloorLimit (storedBytes b 0x9F02)
+    (storedBytes b 0xDF8123)) 0 (cvmResultIn b .tvr1) (cvmResultIn b .tvr3))
 
 returns : tie.Need-returns
 returns c = full _ _ _ _ (c .tvr-before-cvm .ensures) (c .before .before .pre .0) (c .before .before .pre .1)

@@ -11,7 +11,8 @@ use Rattle.analysis.proofs.action.version_differs_in.Tie as tie
 returns : tie.Need-returns
 returns c =
     c .version-differs .ensures
-    ∙ ap₂ cardVersionPresentAndDiffers (value-by-row _ 0x9F08 at-9F08 (c .before .before .before .is-present .ensures) (c .before .before .value .ensures))
+    ∙ ap₂ cardVersionPresentAndDiffers (value-by-row _ 0x9F08 at-9F08 (c .before .before .before .is-present .ensures)
+    (c .before .before .value .ensures))
     (bytes-by-row _ 0x9F09 at-9F09 (c .before .value2 .ensures))
 
 pub version-differs-in-spec : {M : Type 1} → statement M

@@ -9,7 +9,8 @@ use Rattle.analysis.proofs.choice.action_codes.Tie as tie
 
 returns : tie.Need-returns
 returns c =
-    ap₂ (λ (x y : List ℕ). record { card = x; terminal = y }) (c .before .iac-or-default .ensures) (c .first-five-bytes .ensures)
+    ap₂ (λ (x y : List ℕ). record { card = x; terminal = y }) (c .before .iac-or-default .ensures)
+    (c .first-five-bytes .ensures)
 
 pub action-codes-spec : {M : Type 1} → statement M
 action-codes-spec = tie.close (tie.spec (λ c κs. search needs) (λ c κs. search needs) returns)

@@ -20,7 +20,9 @@ abbrev μ-loop : tie.MeasureT-loop
 μ-loop result card terminal k₀ k = 8 - k
 
 returns : tie.Need-returns Inv-loop μ-loop
-returns c = sym (ap (λ (x : ℕ). lowestBitFrom (tvrByteBitInCodes x (c .before .args .card) (c .before .args .terminal)) 0 8) (c .if1 .taken) ∙ zero-byte (c .before .args .card) (c .before .args .terminal))
+returns c =
+    sym (ap (λ (x : ℕ). lowestBitFrom (tvrByteBitInCodes x (c .before .args .card) (c .before .args .terminal)) 0 8)
+    (c .if1 .taken) ∙ zero-byte (c .before .args .card) (c .before .args .terminal))
 
 loop-holds : tie.Need-loop-holds Inv-loop μ-loop
 loop-holds c = (omega arith, λ m h. absurd (omega arith))
@@ -28,11 +30,21 @@ loop-holds c = (omega arith, λ m h. absurd (omega arith))
 returns-2 : tie.Need-returns-2 Inv-loop μ-loop
 returns-2 c =
     let lp = c .before .before .before .loop in
-    sym (lowest-is (tvrByteBitInCodes _ _ _) 8 0 (lp .k) (record { least = omega arith; within = omega arith; passes = sym (c .before .holds-bit .ensures) ∙ c .if2 .taken; below = λ m u v. lp .inv .1 m v }))
+    sym
+    (lowest-is (tvrByteBitInCodes _ _ _) 8 0 (lp .k)
+    (record {
+      least = omega arith;
+      within = omega arith;
+      passes = sym (c .before .holds-bit .ensures) ∙ c .if2 .taken;
+      below = λ m u v. lp .inv .1 m v;
+    }))
 
 loop-again : tie.Need-loop-again Inv-loop μ-loop
-loop-again c =
-    (omega arith, below-more _ _ (c .before .before .before .loop .inv .1) (sym (c .before .holds-bit .ensures) ∙ c .if2 .left))
+loop-again c = (
+  omega arith,
+  below-more _ _ (c .before .before .before .loop .inv .1)
+      (sym (c .before .holds-bit .ensures) ∙ c .if2 .left),
+)
 
 returns-3 : tie.Need-returns-3 Inv-loop μ-loop
 returns-3 c =

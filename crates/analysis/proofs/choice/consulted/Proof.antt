@@ -6,14 +6,16 @@ use borrow.Author.Needs.{needs}
 use borrow.Author.Tests.{eq-eqb, ne-eqb}
 use Rattle.basics.proofs.Laws.{either-left, either-false}
 use Rattle.analysis.specs.Inner.{consultedAfterDenial, stageConsulted as isConsulted}
-use Rattle.analysis.specs.declared.choice.OnlineCapability.the-variants.{OnlineOnly, OnlineCapable, OfflineOnly, Unlisted}
+use Rattle.analysis.specs.declared.choice.OnlineCapability.the-variants.{OnlineOnly, OnlineCapable, OfflineOnly}
+use Rattle.analysis.specs.declared.choice.OnlineCapability.the-variants.{Unlisted}
 use Rattle.analysis.specs.declared.choice.OnlineCapability.{OnlineCapability}
 use Rattle.analysis.proofs.choice.consulted.Statement.{statement}
 use Rattle.analysis.proofs.choice.consulted.Tie as tie
 
 later : (r v : OnlineCapability) (s : ℕ) → (s ≡ 0 → ⊥) → r ≡ v → consultedAfterDenial v s ≡ isConsulted r s
 later r v s n e =
-    sym (either-false (consultedAfterDenial r s) (ne-eqb s 0 n) ∙ ap (λ (q : OnlineCapability). consultedAfterDenial q s) e)
+    sym (either-false (consultedAfterDenial r s) (ne-eqb s 0 n) ∙ ap
+    (λ (q : OnlineCapability). consultedAfterDenial q s) e)
 
 returns : tie.Need-returns
 returns c = sym (either-left _ _ (eq-eqb _ 0 (c .if1 .taken)))

@@ -15,15 +15,23 @@ returns c = sym (both-no-left _ _ (sym (c .before .byte-has-bit .ensures) ∙ no
 
 returns-2 : tie.Need-returns-2
 unfolding tvrByteBitInCodes
-returns-2 c = sym (both-yes _ _ (sym (c .before .before .before .byte-has-bit .ensures) ∙ not-false _ (c .before .before .if1 .left)) (either-left _ _ (sym (c .before .byte-has-bit2 .ensures) ∙ c .if2 .taken)))
+returns-2 c =
+    sym
+    (both-yes _ _ (sym (c .before .before .before .byte-has-bit .ensures) ∙ not-false _ (c .before .before .if1 .left))
+    (either-left _ _ (sym (c .before .byte-has-bit2 .ensures) ∙ c .if2 .taken)))
 
 returns-3 : tie.Need-returns-3
 unfolding tvrByteBitInCodes both either
 returns-3 c =
-    simp (sym (c .before .before .before .before .byte-has-bit .ensures) ∙ not-false _ (c .before .before .before .if1 .left), sym (c .before .before .byte-has-bit2 .ensures) ∙ c .before .if2 .left)
+    simp (
+      sym (c .before .before .before .before .byte-has-bit .ensures) ∙ not-false _
+          (c .before .before .before .if1 .left),
+      sym (c .before .before .byte-has-bit2 .ensures) ∙ c .before .if2 .left,
+    )
     (c .byte-has-bit3 .ensures)
 
 pub holds-bit-spec : {M : Type 1} → statement M
 holds-bit-spec =
     tie.close
-    (tie.spec (λ c. search needs) (λ c κs. search needs) returns (λ c κs. search needs) returns-2 (λ c κs. search needs) returns-3)
+    (tie.spec (λ c. search needs) (λ c κs. search needs) returns (λ c κs. search needs) returns-2 (λ c κs. search needs)
+    returns-3)

@@ -1,4 +1,5 @@
--- `choice::lowest_tvr_bit_in_codes` meets its contract. The loop's invariant: no bit of the bytes before byte i is held (`Clear`).
+-- `choice::lowest_tvr_bit_in_codes` meets its contract. The loop's invariant: no bit of the bytes before byte i is held
+-- (`Clear`).
 -- Assumes nothing.
 use mathlib.Core.Path.{sym, _∙_}
 use Prim.Native.Nat.{_-_, _*_, _≤_}
@@ -26,12 +27,16 @@ add-t20 c =
 returns : tie.Need-returns Inv-loop μ-loop
 returns c =
     let lp = c .before .before .before .before .before .loop in
-    sym (byte-found _ _ (lp .i) _ (omega arith) (lp .inv .1) (sym (c .before .before .before .byte-bit .ensures) ∙ c .before .k .given .1))
+    sym (byte-found _ _ (lp .i) _ (omega arith) (lp .inv .1) (sym (c .before .before .before .byte-bit .ensures) ∙
+    c .before .k .given .1))
 
 loop-again : tie.Need-loop-again Inv-loop μ-loop
 loop-again c =
-    let lp = c .before .before .before .before .loop in
-    (omega arith, byte-clear _ _ (lp .i) (lp .inv .1) (sym (c .before .before .byte-bit .ensures) ∙ c .enum-told .given .1))
+    let lp = c .before .before .before .before .loop in (
+      omega arith,
+      byte-clear _ _ (lp .i) (lp .inv .1)
+          (sym (c .before .before .byte-bit .ensures) ∙ c .enum-told .given .1),
+    )
 
 returns-2 : tie.Need-returns-2 Inv-loop μ-loop
 returns-2 c =

@@ -1,4 +1,5 @@
--- `choice::online_capability_of_type` meets its contract: at each listed digit the definition computes, and at any other each of
+-- `choice::online_capability_of_type` meets its contract: at each listed digit the definition computes, and at any
+-- other each of
 -- its tests fails.
 -- Assumes nothing.
 use mathlib.Core.Logic.{inl, inr}
@@ -12,21 +13,34 @@ use Rattle.analysis.proofs.choice.online_capability_of_type.Tie as tie
 
 returns : tie.Need-returns
 unfolding onlineCapabilityByDigit if either
-returns c = elim (c .match .keys1) [ inl e ↦ sym (ap onlineCapabilityByDigit e) | inr e ↦ sym (ap onlineCapabilityByDigit e) ]
+returns c = elim (c .match .keys1) [
+  | inl e ↦ sym (ap onlineCapabilityByDigit e)
+  | inr e ↦
+      sym (ap onlineCapabilityByDigit e)
+]
 
 returns-2 : tie.Need-returns-2
 unfolding onlineCapabilityByDigit if either
-returns-2 c = elim (c .match .keys2) [ inl e ↦ sym (ap onlineCapabilityByDigit e) | inr e ↦ sym (ap onlineCapabilityByDigit e) ]
+returns-2 c = elim (c .match .keys2) [
+  | inl e ↦ sym (ap onlineCapabilityByDigit e)
+  | inr e ↦
+      sym (ap onlineCapabilityByDigit e)
+]
 
 returns-3 : tie.Need-returns-3
 unfolding onlineCapabilityByDigit if either
-returns-3 c = elim (c .match .keys3) [ inl e ↦ sym (ap onlineCapabilityByDigit e) | inr e ↦ sym (ap onlineCapabilityByDigit e) ]
+returns-3 c = elim (c .match .keys3) [
+  | inl e ↦ sym (ap onlineCapabilityByDigit e)
+  | inr e ↦
+      sym (ap onlineCapabilityByDigit e)
+]
 
 returns-4 : tie.Need-returns-4
 unfolding onlineCapabilityByDigit
 returns-4 c =
     let r = c .match .rest in
-    sym (if-no _ _ (is-none _ 1 4 (r .0 .0 .1)) ∙ (if-no _ _ (is-none _ 2 5 (r .0 .1)) ∙ if-no _ _ (is-none _ 3 6 (r .1))))
+    sym
+    (if-no _ _ (is-none _ 1 4 (r .0 .0 .1)) ∙ (if-no _ _ (is-none _ 2 5 (r .0 .1)) ∙ if-no _ _ (is-none _ 3 6 (r .1))))
 
 pub online-capability-of-type-spec : {M : Type 1} → statement M
 online-capability-of-type-spec = tie.close (tie.spec returns returns-2 returns-3 returns-4)

@@ -1,4 +1,5 @@
--- `choice::terminal_action_analysis` meets its contract. The loop's invariant: no stage before this one is consulted and holds a bit.
+-- `choice::terminal_action_analysis` meets its contract. The loop's invariant: no stage before this one is consulted
+-- and holds a bit.
 -- Then the first that does decides (`choice-by-stage`), and after the last the type alone (`choice-by-type`); the
 -- number follows (`asks`). Assumes nothing.
 use mathlib.Core.Logic.{inl, inr}
@@ -15,7 +16,8 @@ use Rattle.analysis.proofs.choice.terminal_action_analysis.Statement.{s
 use Rattle.analysis.proofs.choice.terminal_action_analysis.Tie as tie
 
 abbrev Inv-loop : tie.InvT-loop
-Inv-loop bits kind pairs capability stage₀ stage = (stage ≤ 3) × Unforced capability (someTvrBitInCodesOfStage bits pairs) stage
+Inv-loop bits kind pairs capability stage₀ stage = (stage ≤ 3) × Unforced capability
+    (someTvrBitInCodesOfStage bits pairs) stage
 
 abbrev μ-loop : tie.MeasureT-loop
 μ-loop bits kind pairs capability stage₀ stage = 3 - stage
@@ -32,7 +34,8 @@ returns c =
     asks (a .bits) (a .kind) (a .t3)
     (c .forced .ensures
     ∙ sym (choice-by-stage (a .bits) (a .kind) (a .t3) (rc .result) (rc .ensures) (lp .stage) (omega arith)
-    (sym (c .before .before .before .before .before .before .consulted .ensures) ∙ c .before .before .before .before .before .if1 .taken)
+    (sym (c .before .before .before .before .before .before .consulted .ensures) ∙
+    c .before .before .before .before .before .if1 .taken)
     (ap isSomeBit (sym (c .before .before .before .lowest-tvr-bit-in-codes .ensures) ∙ c .before .enum-told .given .1))
     (lp .inv .1)))
 
@@ -41,8 +44,13 @@ unfolding someTvrBitInCodesOfStage
 loop-again c =
     let lp = c .before .before .before .loop in
     elim (c .if1 .came) [
-      | inl w ↦ (omega arith, below-more _ _ (lp .inv .1) (both-no-right _ _ (ap isSomeBit (sym (w .2 .ensures) ∙ w .4 .given .1))))
-      | inr w ↦ (omega arith, below-more _ _ (lp .inv .1) (both-no-left _ _ (sym (c .before .consulted .ensures) ∙ w .left)))
+      | inl w ↦ (
+        omega arith,
+        below-more _ _ (lp .inv .1)
+            (both-no-right _ _ (ap isSomeBit (sym (w .2 .ensures) ∙ w .4 .given .1))),
+      )
+      | inr w ↦
+          (omega arith, below-more _ _ (lp .inv .1) (both-no-left _ _ (sym (c .before .consulted .ensures) ∙ w .left)))
     ]
 
 returns-2 : tie.Need-returns-2 Inv-loop μ-loop
@@ -51,7 +59,8 @@ returns-2 c =
     let a = c .before .before .before .before .args in
     let rc = c .before .before .before .online-capability-of-type in
     asks (a .bits) (a .kind) (a .t3)
-    (c .unforced .ensures ∙ sym (choice-by-type (a .bits) (a .kind) (a .t3) (rc .result) (rc .ensures) (λ m h. lp .inv .1 m (omega arith))))
+    (c .unforced .ensures ∙ sym (choice-by-type (a .bits) (a .kind) (a .t3) (rc .result) (rc .ensures)
+    (λ m h. lp .inv .1 m (omega arith))))
 
 pub terminal-action-analysis-spec : {M : Type 1} → statement M
 terminal-action-analysis-spec =

@@ -23,7 +23,12 @@ returns-4 c = simp (c .before .match .keys4)
 
 returns-5 : tie.Need-returns-5
 unfolding if
-returns-5 c = let r = c .match .rest in simp (ne-eqb _ _ (r .0 .0 .0 .1), ne-eqb _ _ (r .0 .0 .1), ne-eqb _ _ (r .0 .1), ne-eqb _ _ (r .1))
+returns-5 c = let r = c .match .rest in simp (
+  ne-eqb _ _ (r .0 .0 .0 .1),
+  ne-eqb _ _ (r .0 .0 .1),
+  ne-eqb _ _ (r .0 .1),
+  ne-eqb _ _ (r .1),
+)
 
 pub cvm-amount-met-spec : {M : Type 1} → statement M
 cvm-amount-met-spec = tie.close (tie.spec returns returns-2 returns-3 returns-4 returns-5)

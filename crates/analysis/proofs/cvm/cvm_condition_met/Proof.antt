@@ -36,7 +36,8 @@ returns-7 : tie.Need-returns-7
 returns-7 c =
     let r = c .before .before .match .rest in
     and-both _ _ _ _ refl (c .before .cvm-amount-met .ensures)
-    ∙ sym (condition-amount _ _ _ (r .0 .0 .0 .0 .0 .1) (r .0 .0 .0 .0 .1) (r .0 .0 .0 .1) (r .0 .0 .1) (r .0 .1) (r .1))
+    ∙ sym (condition-amount _ _ _ (r .0 .0 .0 .0 .0 .1) (r .0 .0 .0 .0 .1) (r .0 .0 .0 .1) (r .0 .0 .1) (r .0 .1)
+    (r .1))
 
 pub cvm-condition-met-spec : {M : Type 1} → statement M
 cvm-condition-met-spec =

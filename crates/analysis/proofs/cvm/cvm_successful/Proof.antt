@@ -22,7 +22,15 @@ returns-3 c = simp (c .match .keys3, c .before .weight-if-set .ensures .0, zero-
 
 returns-4 : tie.Need-returns-4
 unfolding cvmResultOfSupported if
-returns-4 c = let r = c .match .rest in simp (ne-eqb _ _ (r .0 .0 .1), ne-eqb _ _ (r .0 .1), ne-eqb _ _ (r .1), c .before .weight-if-set .ensures .0, zero-add, add-zero)
+returns-4 c = let r = c .match .rest in simp (
+  ne-eqb _ _ (r .0 .0 .1),
+  ne-eqb _ _ (r .0 .1),
+  ne-eqb _ _ (r .1),
+  c .before .weight-if-set .ensures .0,
+  zero-add,
+  add-zero,
+)
 
 pub cvm-successful-spec : {M : Type 1} → statement M
-cvm-successful-spec = tie.close (tie.spec (λ c κs. search needs) (λ c. search needs) returns returns-2 returns-3 returns-4)
+cvm-successful-spec = tie.close (tie.spec (λ c κs. search needs) (λ c. search needs) returns returns-2 returns-3
+    returns-4)

@@ -22,7 +22,8 @@ returns-3 c = simp (c .before .match .keys3, c .byte-has-bit2 .ensures)
 
 returns-4 : tie.Need-returns-4
 unfolding cvmSupported if
-returns-4 c = simp (c .before .before .match .keys4) (and-both _ _ _ _ (c .before .byte-has-bit3 .ensures) (c .byte-has-bit4 .ensures))
+returns-4 c = simp (c .before .before .match .keys4) (and-both _ _ _ _ (c .before .byte-has-bit3 .ensures)
+    (c .byte-has-bit4 .ensures))
 
 returns-5 : tie.Need-returns-5
 unfolding cvmSupported if
@@ -30,7 +31,8 @@ returns-5 c = simp (c .before .match .keys5, c .byte-has-bit5 .ensures)
 
 returns-6 : tie.Need-returns-6
 unfolding cvmSupported if
-returns-6 c = simp (c .before .before .match .keys6) (and-both _ _ _ _ (c .before .byte-has-bit6 .ensures) (c .byte-has-bit7 .ensures))
+returns-6 c = simp (c .before .before .match .keys6) (and-both _ _ _ _ (c .before .byte-has-bit6 .ensures)
+    (c .byte-has-bit7 .ensures))
 
 returns-7 : tie.Need-returns-7
 unfolding cvmSupported if
@@ -44,7 +46,17 @@ returns-9 : tie.Need-returns-9
 unfolding cvmSupported if
 returns-9 c =
     let r = c .match .rest in
-    simp (ne-eqb _ _ (r .0 .0 .0 .0 .0 .0 .0 .1), ne-eqb _ _ (r .0 .0 .0 .0 .0 .0 .1), ne-eqb _ _ (r .0 .0 .0 .0 .0 .1), ne-eqb _ _ (r .0 .0 .0 .0 .1), ne-eqb _ _ (r .0 .0 .0 .1), ne-eqb _ _ (r .0 .0 .1), ne-eqb _ _ (r .0 .1), ne-eqb _ _ (r .1))
+    simp (
+      ne-eqb _ _ (r .0 .0 .0 .0 .0 .0 .0 .1),
+      ne-eqb _ _ (r .0 .0 .0 .0 .0 .0 .1),
+      ne-eqb _ _ (r .0 .0 .0 .0 .0 .1),
+      ne-eqb _ _ (r .0 .0 .0 .0 .1),
+      ne-eqb _ _ (r .0 .0 .0 .1),
+      ne-eqb _ _ (r .0 .0 .1),
+      ne-eqb _ _ (r .0 .1),
+      ne-eqb _ _
+          (r .1),
+    )
 
 pub cvm-supported-spec : {M : Type 1} → statement M
 cvm-supported-spec =

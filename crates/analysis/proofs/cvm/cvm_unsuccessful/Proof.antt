@@ -17,4 +17,5 @@ unfolding cvmResultOfUnsuccessful if
 returns-2 c = simp (ne-eqb _ _ (c .before .if1 .left), c .no-cvm-performed .ensures)
 
 pub cvm-unsuccessful-spec : {M : Type 1} → statement M
-cvm-unsuccessful-spec = tie.close (tie.spec (λ c κs. search needs) (λ c. search needs) returns (λ c κs. search needs) returns-2)
+cvm-unsuccessful-spec = tie.close (tie.spec (λ c κs. search needs) (λ c. search needs) returns (λ c κs. search needs)
+    returns-2)

@@ -16,7 +16,9 @@ returns : tie.Need-returns
 unfolding amountOf
 returns c =
     let s = c .before .before .before .args .s .now in
-    let e : c .before .six-digits .result * 1000000 + c .six-digits2 .result ≡ bcdNumber (getD s 0 0 ∷ getD s 1 0 ∷ getD s 2 0 ∷ getD s 3 0 ∷ getD s 4 0 ∷ getD s 5 0 ∷ []) = omega (arith, decimal-six (getD s 0 0) (getD s 1 0) (getD s 2 0) (getD s 3 0) (getD s 4 0) (getD s 5 0)) in
+    let e : c .before .six-digits .result * 1000000 + c .six-digits2 .result
+    ≡ bcdNumber (getD s 0 0 ∷ getD s 1 0 ∷ getD s 2 0 ∷ getD s 3 0 ∷ getD s 4 0 ∷ getD s 5 0 ∷ []) =
+    omega (arith, decimal-six (getD s 0 0) (getD s 1 0) (getD s 2 0) (getD s 3 0) (getD s 4 0) (getD s 5 0)) in
     e ∙ sym (ap bcdNumber (front-six s))
 
 pub amount-of-spec : {M : Type 1} → statement M

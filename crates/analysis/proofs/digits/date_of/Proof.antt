@@ -16,7 +16,8 @@ returns : tie.Need-returns
 unfolding dateAsNumber
 returns c =
     let s = c .before .before .before .before .before .before .before .before .args .s .now in
-    let x = c .before .before .before .before .before .two-digits .ensures .0 ∙ ap bcdByte (c .before .before .before .before .before .before .byte-at .ensures) in
+    let x = c .before .before .before .before .before .two-digits .ensures .0 ∙ ap bcdByte
+    (c .before .before .before .before .before .before .byte-at .ensures) in
     let y = c .before .before .before .before .year-of .ensures .0 ∙ ap fourDigitYear (x ∙ sym (year-digits s)) in
     let m = c .before .before .two-digits2 .ensures .0 ∙ ap bcdByte (c .before .before .before .byte-at2 .ensures) in
     let d = c .two-digits3 .ensures .0 ∙ ap bcdByte (c .before .byte-at3 .ensures) in

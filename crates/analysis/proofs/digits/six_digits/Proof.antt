@@ -14,7 +14,8 @@ returns : tie.Need-returns
 returns c =
     let s = c .before .before .before .before .before .before .before .args .s .now in
     let i = c .before .before .before .before .before .before .before .args .i in
-    let x = c .before .before .before .before .two-digits .ensures .0 ∙ ap bcdByte (c .before .before .before .before .before .byte-at .ensures) in
+    let x = c .before .before .before .before .two-digits .ensures .0 ∙ ap bcdByte
+    (c .before .before .before .before .before .byte-at .ensures) in
     let y = c .before .before .two-digits2 .ensures .0 ∙ ap bcdByte (c .before .before .before .byte-at2 .ensures) in
     let z = c .two-digits3 .ensures .0 ∙ ap bcdByte (c .before .byte-at3 .ensures) in
     (omega (arith, decimal-three (getD s i 0) (getD s (i + 1) 0) (getD s (i + 2) 0)), omega arith)

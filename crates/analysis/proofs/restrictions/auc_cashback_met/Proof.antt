@@ -11,7 +11,8 @@ returns : tie.Need-returns
 unfolding aucAllowsCashback
 returns c =
     let a = c .before .before .before .before .before .args in
-    c .by-country .ensures ∙ ap₂ (requirementByCountry (a .country)) (c .before .before .value-has-bit .ensures) (c .before .value-has-bit2 .ensures) ∙ sym (if-yes _ _ (c .before .before .before .if1 .taken))
+    c .by-country .ensures ∙ ap₂ (requirementByCountry (a .country)) (c .before .before .value-has-bit .ensures)
+    (c .before .value-has-bit2 .ensures) ∙ sym (if-yes _ _ (c .before .before .before .if1 .taken))
 
 returns-2 : tie.Need-returns-2
 unfolding aucAllowsCashback

@@ -12,7 +12,8 @@ returns : tie.Need-returns
 unfolding aucAllowsGoodsOrServices
 returns c =
     let a = c .before .before .before .before .before .args in
-    c .by-country .ensures ∙ ap₂ (requirementByCountry (a .country)) (c .before .before .one-of .ensures) (c .before .one-of2 .ensures) ∙ sym (if-yes _ _ (is-one _ _ _ (c .before .before .before .match .keys1)))
+    c .by-country .ensures ∙ ap₂ (requirementByCountry (a .country)) (c .before .before .one-of .ensures)
+    (c .before .one-of2 .ensures) ∙ sym (if-yes _ _ (is-one _ _ _ (c .before .before .before .match .keys1)))
 
 returns-2 : tie.Need-returns-2
 unfolding aucAllowsGoodsOrServices

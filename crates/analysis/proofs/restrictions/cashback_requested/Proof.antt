@@ -12,7 +12,8 @@ returns : tie.Need-returns
 unfolding cashbackRequested
 returns c =
     let a = c .before .before .before .args in
-    ap (ltb 0) (c .amount-of .ensures) ∙ sym (ap cashbackRequested (given-there (a .there) (a .other .now) (c .before .if1 .taken)))
+    ap (ltb 0) (c .amount-of .ensures) ∙ sym
+    (ap cashbackRequested (given-there (a .there) (a .other .now) (c .before .if1 .taken)))
 
 returns-2 : tie.Need-returns-2
 unfolding cashbackRequested

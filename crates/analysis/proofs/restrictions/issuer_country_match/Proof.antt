@@ -14,20 +14,23 @@ returns : tie.Need-returns
 unfolding issuerCountryMatch
 returns c =
     let a = c .before .before .before .args in
-    sym (ap (λ (v : StoredValue). issuerCountryMatch v (a .terminal .now)) (given-absent (a .there) (a .issuer .now) (not-true _ (c .if1 .taken))))
+    sym (ap (λ (v : StoredValue). issuerCountryMatch v (a .terminal .now))
+    (given-absent (a .there) (a .issuer .now) (not-true _ (c .if1 .taken))))
 
 returns-2 : tie.Need-returns-2
 unfolding issuerCountryMatch
 returns-2 c =
     let a = c .before .before .before .before .before .args in
-    sym (ap (λ (v : StoredValue). issuerCountryMatch v (a .terminal .now)) (given-there (a .there) (a .issuer .now) (not-false _ (c .before .before .if1 .left)))
+    sym (ap (λ (v : StoredValue). issuerCountryMatch v (a .terminal .now))
+    (given-there (a .there) (a .issuer .now) (not-false _ (c .before .before .if1 .left)))
     ∙ if-yes _ _ (sym (c .before .bytes-equal .ensures) ∙ c .if2 .taken))
 
 returns-3 : tie.Need-returns-3
 unfolding issuerCountryMatch
 returns-3 c =
     let a = c .before .before .before .before .before .args in
-    sym (ap (λ (v : StoredValue). issuerCountryMatch v (a .terminal .now)) (given-there (a .there) (a .issuer .now) (not-false _ (c .before .before .if1 .left)))
+    sym (ap (λ (v : StoredValue). issuerCountryMatch v (a .terminal .now))
+    (given-there (a .there) (a .issuer .now) (not-false _ (c .before .before .if1 .left)))
     ∙ if-no _ _ (sym (c .before .bytes-equal .ensures) ∙ c .if2 .left))
 
 pub issuer-country-match-spec : {M : Type 1} → statement M

@@ -12,13 +12,15 @@ returns : tie.Need-returns
 unfolding notYetEffective
 returns c =
     let a = c .before .before .before .before .args in
-    c .first-date-is-later .ensures ∙ sym (ap (λ (v : StoredValue). notYetEffective v (a .today .now)) (given-there (a .there) (a .effective .now) (c .before .if1 .taken)))
+    c .first-date-is-later .ensures ∙ sym (ap (λ (v : StoredValue). notYetEffective v (a .today .now))
+    (given-there (a .there) (a .effective .now) (c .before .if1 .taken)))
 
 returns-2 : tie.Need-returns-2
 unfolding notYetEffective
 returns-2 c =
     let a = c .before .before .before .args in
-    sym (ap (λ (v : StoredValue). notYetEffective v (a .today .now)) (given-absent (a .there) (a .effective .now) (c .if1 .left)))
+    sym (ap (λ (v : StoredValue). notYetEffective v (a .today .now))
+    (given-absent (a .there) (a .effective .now) (c .if1 .left)))
 
 pub not-yet-effective-spec : {M : Type 1} → statement M
 not-yet-effective-spec = tie.close (tie.spec (λ c κs. search needs) returns returns-2)

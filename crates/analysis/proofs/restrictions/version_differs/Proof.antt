@@ -13,13 +13,15 @@ returns : tie.Need-returns
 unfolding cardVersionPresentAndDiffers
 returns c =
     let a = c .before .before .before .before .args in
-    ap not (c .bytes-equal .ensures) ∙ sym (ap (λ (v : StoredValue). cardVersionPresentAndDiffers v (a .reader .now)) (given-there (a .there) (a .card .now) (c .before .if1 .taken)))
+    ap not (c .bytes-equal .ensures) ∙ sym (ap (λ (v : StoredValue). cardVersionPresentAndDiffers v (a .reader .now))
+    (given-there (a .there) (a .card .now) (c .before .if1 .taken)))
 
 returns-2 : tie.Need-returns-2
 unfolding cardVersionPresentAndDiffers
 returns-2 c =
     let a = c .before .before .before .args in
-    sym (ap (λ (v : StoredValue). cardVersionPresentAndDiffers v (a .reader .now)) (given-absent (a .there) (a .card .now) (c .if1 .left)))
+    sym (ap (λ (v : StoredValue). cardVersionPresentAndDiffers v (a .reader .now))
+    (given-absent (a .there) (a .card .now) (c .if1 .left)))
 
 pub version-differs-spec : {M : Type 1} → statement M
 version-differs-spec = tie.close (tie.spec (λ c κs. search needs) returns returns-2)

@@ -21,7 +21,9 @@ returns-2 : tie.Need-returns-2
 returns-2 c =
     let v = c .before .before .before .before .before .args .card .now in
     in-zeros 2 258 v _ (c .before .fill .ensures)
-    ∙ ap (λ (b : List ℕ). 2 ∷ b) (sym (if-yes (lengthThenPaddedBytes 258 v) (lengthInTwoBytes 0xFFFF ++ zeroPadded 258 []) (le-leb (length v) 258 (omega (arith, c .before .before .before .if1 .left)))))
+    ∙ ap (λ (b : List ℕ). 2 ∷ b)
+    (sym (if-yes (lengthThenPaddedBytes 258 v) (lengthInTwoBytes 0xFFFF ++ zeroPadded 258 [])
+    (le-leb (length v) 258 (omega (arith, c .before .before .before .if1 .left)))))
 
 pub answer-record-spec : {M : Type 1} → statement M
 answer-record-spec =

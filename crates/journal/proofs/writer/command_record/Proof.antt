@@ -25,8 +25,11 @@ returns-3 c =
     let a = c .before .before .before .before .before .before .before .args in
     let h = c .before .before .before .before .if2 .left in
     let g = c .before .before .before .before .before .if1 .left in
-    front-in (a .size) (a .buffer .now) _ (omega (arith, h)) (in-zeros 5 261 (take (a .size) (a .buffer .now)) _ (c .before .fill .ensures))
-    ∙ sym (if-yes _ _ (both-yes _ _ (le-leb (a .size) 261 (omega (arith, g))) (le-leb (a .size) (length (a .buffer .now)) (omega (arith, h)))))
+    front-in (a .size) (a .buffer .now) _ (omega (arith, h))
+    (in-zeros 5 261 (take (a .size) (a .buffer .now)) _ (c .before .fill .ensures))
+    ∙ sym
+    (if-yes _ _ (both-yes _ _ (le-leb (a .size) 261 (omega (arith, g)))
+    (le-leb (a .size) (length (a .buffer .now)) (omega (arith, h)))))
 
 pub command-record-spec : {M : Type 1} → statement M
 command-record-spec =

@@ -30,13 +30,15 @@ same-length : tie.Need-same-length
 same-length c =
     let st = c .before .before .before .before .before .before in
     let a = st .args in
-    placed-length (a .kind) (length (a .bytes .now) / 256 % 256) (length (a .bytes .now) % 256) (a .bytes .now) (a .out .now) (c .before .before .copy .last .1 .0) (st .pre) (c .before .before .copy .ensures .1)
+    placed-length (a .kind) (length (a .bytes .now) / 256 % 256) (length (a .bytes .now) % 256) (a .bytes .now)
+    (a .out .now) (c .before .before .copy .last .1 .0) (st .pre) (c .before .before .copy .ensures .1)
 
 returns : tie.Need-returns
 returns c =
     let st = c .before .before .before .before .before .before in
     let a = st .args in
-    placed (a .kind) (length (a .bytes .now) / 256 % 256) (length (a .bytes .now) % 256) (a .bytes .now) (a .out .now) (c .before .before .copy .last .1 .0) (st .pre) (c .before .before .copy .ensures .1)
+    placed (a .kind) (length (a .bytes .now) / 256 % 256) (length (a .bytes .now) % 256) (a .bytes .now) (a .out .now)
+    (c .before .before .copy .last .1 .0) (st .pre) (c .before .before .copy .ensures .1)
 
 pub fill-spec : {M : Type 1} → statement M
 fill-spec =

@@ -17,4 +17,5 @@ returns-3 : tie.Need-returns-3
 returns-3 c = (sym (ap choiceRank (c .enum-told3 .given .1)), (ranked, (never-loosens, absent-codes)))
 
 pub choice-rank-spec : {M : Type 1} → statement M
-choice-rank-spec = tie.close (tie.spec (λ c. search needs) (λ c. search needs) (λ c. search needs) returns returns-2 returns-3)
+choice-rank-spec = tie.close (tie.spec (λ c. search needs) (λ c. search needs) (λ c. search needs) returns returns-2
+    returns-3)

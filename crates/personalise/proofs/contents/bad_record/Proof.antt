@@ -13,7 +13,9 @@ use Rattle.personalise.proofs.contents.bad_record.Tie as tie
 
 abbrev Inv-loop : tie.InvT-loop
 Inv-loop objects placements records count k₀ k =
-    (firstBadRecord (parsedObjectsOrEmpty objects) (placementsIn placements) records ≡ firstBadNumberFrom (hasBadPlacementOrOver253Bytes (parsedObjectsOrEmpty objects) (placementsIn placements) records) k (256 - k)) × (k ≤ 256)
+    (firstBadRecord (parsedObjectsOrEmpty objects) (placementsIn placements) records ≡ firstBadNumberFrom
+    (hasBadPlacementOrOver253Bytes (parsedObjectsOrEmpty objects) (placementsIn placements) records) k (256 - k))
+    × (k ≤ 256)
 
 abbrev μ-loop : tie.MeasureT-loop
 μ-loop objects placements records count k₀ k = 256 - k
@@ -27,8 +29,11 @@ returns c =
 loop-again : tie.Need-loop-again Inv-loop μ-loop
 loop-again c =
     let b = c .before in
-    let lp = b .before .before .loop in
-    (lp .inv .0 ∙ first-on _ (lp .k) (b .before .loop-test .taken) (sym (b .is-bad .ensures) ∙ c .if1 .left), omega arith)
+    let lp = b .before .before .loop in (
+      lp .inv .0 ∙ first-on _ (lp .k) (b .before .loop-test .taken) (sym (b .is-bad .ensures) ∙ c .if1 .left),
+      omega
+          arith,
+    )
 
 pub bad-record-spec : {M : Type 1} → statement M
 bad-record-spec =

@@ -13,14 +13,17 @@ returns c =
     let m = c .before in
     let st = m .before .before .before in
     let a = st .args in
-    sym (bad-stray (parsedObjectsOrEmpty (a .objects .now)) (placementsIn (a .placements .now)) (a .records) (a .k) (a .count) (st .pre .1) (sym (m .is-misplaced .ensures) ∙ c .if1 .taken))
+    sym (bad-stray (parsedObjectsOrEmpty (a .objects .now)) (placementsIn (a .placements .now)) (a .records) (a .k)
+    (a .count) (st .pre .1) (sym (m .is-misplaced .ensures) ∙ c .if1 .taken))
 
 returns-2 : tie.Need-returns-2
 returns-2 c =
     let m = c .before .before in
     let st = m .before .before .before in
     let a = st .args in
-    sym (bad-size (parsedObjectsOrEmpty (a .objects .now)) (placementsIn (a .placements .now)) (a .records) (a .k) (a .count) (st .pre .1) (sym (m .is-misplaced .ensures) ∙ c .before .if1 .left) (c .size .result) (c .size .ensures))
+    sym (bad-size (parsedObjectsOrEmpty (a .objects .now)) (placementsIn (a .placements .now)) (a .records) (a .k)
+    (a .count) (st .pre .1) (sym (m .is-misplaced .ensures) ∙ c .before .if1 .left) (c .size .result)
+    (c .size .ensures))
 
 pub is-bad-spec : {M : Type 1} → statement M
 is-bad-spec =

@@ -15,4 +15,6 @@ placed-size-spec =
     (λ c κs. search needs)
     (λ c. sym (ap sizeCappedAt254 (if-no _ _ (sym (c .before .is-placed .ensures) ∙ not-true _ (c .if1 .taken)))))
     (λ c κs. search needs)
-    (λ c. c .object-size .ensures ∙ sym (ap sizeCappedAt254 (if-yes _ _ (sym (c .before .before .is-placed .ensures) ∙ not-false _ (c .before .if1 .left))))))
+    (λ c. c .object-size .ensures ∙ sym
+    (ap sizeCappedAt254
+    (if-yes _ _ (sym (c .before .before .is-placed .ensures) ∙ not-false _ (c .before .if1 .left))))))

@@ -24,7 +24,11 @@ use Rattle.personalise.proofs.contents.placed_size.Reads as placed-size
 
 abbrev Inv-loop : tie.InvT-loop
 Inv-loop objects placements k s₀ number₀ total₀ s number total =
-    (sizeCappedAt254 (total₀ + length (encodedObjects (objectsInRecordFrom (placementsIn placements) k number₀ (parsedObjectsOrEmpty s₀)))) ≡ sizeCappedAt254 (total + length (encodedObjects (objectsInRecordFrom (placementsIn placements) k number (parsedObjectsOrEmpty s)))))
+    (sizeCappedAt254
+    (total₀
+    + length (encodedObjects (objectsInRecordFrom (placementsIn placements) k number₀ (parsedObjectsOrEmpty s₀))))
+    ≡ sizeCappedAt254
+    (total + length (encodedObjects (objectsInRecordFrom (placementsIn placements) k number (parsedObjectsOrEmpty s)))))
     × (arePrimitiveObjectsParsed (primitiveObjects s) ≡ true) × (total ≤ 253) × (number + length s ≤ 1 + length s₀)
 
 abbrev μ-loop : tie.MeasureT-loop
@@ -32,9 +36,11 @@ abbrev μ-loop : tie.MeasureT-loop
 
 -- where an object is next
 abbrev At-object : Type 0
-At-object = lts.After-front (primitive.Asked, primitive.Learnt, placed-size.Asked, placed-size.Learnt) reads.Pre reads.Post Inv-loop μ-loop
+At-object = lts.After-front (primitive.Asked, primitive.Learnt, placed-size.Asked, placed-size.Learnt) reads.Pre
+    reads.Post Inv-loop μ-loop
 
-next-at : (c : At-object) → primitiveAtFront (c .before .before .before .before .loop .s .now) ≡ front.Object (c .front .given .0 .0)
+next-at : (c : At-object) → primitiveAtFront (c .before .before .before .before .loop .s .now)
+    ≡ front.Object (c .front .given .0 .0)
 next-at c = sym (c .before .before .primitive-at-front .ensures) ∙ c .front .given .1
 
 fits-at : (c : At-object) → HeaderFits (c .before .before .before .before .loop .s .now) (c .front .given .0 .0)
@@ -43,7 +49,8 @@ fits-at c = primitive-fits _ _ (next-at c)
 returns : tie.Need-returns Inv-loop μ-loop
 returns c =
     let p = c .before .before in
-    absurd (run-broken _ (p .before .loop-test .taken) (p .before .before .loop .inv .1) (sym (p .primitive-at-front .ensures) ∙ c .enum-told .given .1))
+    absurd (run-broken _ (p .before .loop-test .taken) (p .before .before .loop .inv .1)
+    (sym (p .primitive-at-front .ensures) ∙ c .enum-told .given .1))
 
 returns-2 : tie.Need-returns-2 Inv-loop μ-loop
 returns-2 c =
@@ -52,7 +59,8 @@ returns-2 c =
     let p = o .before .before in
     let lp = p .before .before .loop in
     let a = p .before .before .before .before .before .args in
-    let e = size-on _ (p .before .loop-test .taken) _ (next-at o) (lp .inv .1) (placementsIn (a .placements .now)) (a .k) (lp .number) in
+    let e = size-on _ (p .before .loop-test .taken) _ (next-at o) (lp .inv .1) (placementsIn (a .placements .now))
+    (a .k) (lp .number) in
     omega (arith, lp .inv .0, e, z .placed-size .ensures)
 
 loop-less : tie.Need-loop-less Inv-loop μ-loop
@@ -69,14 +77,24 @@ loop-again c =
     let t = p .before .loop-test .taken in
     let a = p .before .before .before .before .before .args in
     let e = size-on _ t _ (next-at o) (lp .inv .1) (placementsIn (a .placements .now)) (a .k) (lp .number) in
-    let l = rest-less _ t _ (next-at o) in
-    (omega (arith, lp .inv .0, e, z .placed-size .ensures), rest-run _ t _ (next-at o) (lp .inv .1), omega arith, omega (arith, lp .inv .3))
+    let l = rest-less _ t _ (next-at o) in (
+      omega (arith, lp .inv .0, e, z .placed-size .ensures),
+      rest-run _ t _ (next-at o) (lp .inv .1),
+      omega arith,
+      omega
+          (arith, lp .inv .3),
+    )
 
 returns-3 : tie.Need-returns-3 Inv-loop μ-loop
 returns-3 c =
     let lp = c .before .loop in
     let a = c .before .before .before .before .args in
-    omega (arith, lp .inv .0, size-end (lp .s .now) (placementsIn (a .placements .now)) (a .k) (lp .number) (c .loop-test .left))
+    omega (
+      arith,
+      lp .inv .0,
+      size-end (lp .s .now) (placementsIn (a .placements .now)) (a .k) (lp .number)
+          (c .loop-test .left),
+    )
 
 pub size-spec : {M : Type 1} → statement M
 size-spec =

@@ -12,7 +12,8 @@ use Rattle.personalise.proofs.entries.bad_entry.Statement.{statement}
 use Rattle.personalise.proofs.entries.bad_entry.Tie as tie
 
 abbrev Inv-loop : tie.InvT-loop
-Inv-loop s at₀ at = (firstBadEntry s ≡ firstBadOrTruncatedEntryAfter (aflEntries (take at s)) (aflEntries (drop at s)) (aflLengthIsMultipleOf4 s)) × (at % 4 ≡ 0) × (at ≤ length s)
+Inv-loop s at₀ at = (firstBadEntry s ≡ firstBadOrTruncatedEntryAfter (aflEntries (take at s)) (aflEntries (drop at s))
+    (aflLengthIsMultipleOf4 s)) × (at % 4 ≡ 0) × (at ≤ length s)
 
 abbrev μ-loop : tie.MeasureT-loop
 μ-loop s at₀ at = length s - at
@@ -22,14 +23,19 @@ returns c =
     let k = c .before in
     let f = k .before .before in
     let lp = f .before .before .before .loop in
-    sym (lp .inv .0 ∙ bad-here _ _ (lp .inv .1) (lp .inv .2) (f .before .before .loop-test .taken) _ (f .front .ensures) (sym (k .keeps-behind .ensures) ∙ not-true _ (c .if1 .taken)))
+    sym (lp .inv .0 ∙ bad-here _ _ (lp .inv .1) (lp .inv .2) (f .before .before .loop-test .taken) _ (f .front .ensures)
+    (sym (k .keeps-behind .ensures) ∙ not-true _ (c .if1 .taken)))
 
 loop-again : tie.Need-loop-again Inv-loop μ-loop
 loop-again c =
     let k = c .before in
     let f = k .before .before in
-    let lp = f .before .before .before .loop in
-    (lp .inv .0 ∙ bad-on _ _ (lp .inv .1) (lp .inv .2) (f .before .before .loop-test .taken) _ (f .front .ensures) (sym (k .keeps-behind .ensures) ∙ not-false _ (c .if1 .left)), omega arith, omega arith)
+    let lp = f .before .before .before .loop in (
+      lp .inv .0 ∙ bad-on _ _ (lp .inv .1) (lp .inv .2) (f .before .before .loop-test .taken) _ (f .front .ensures)
+          (sym (k .keeps-behind .ensures) ∙ not-false _ (c .if1 .left)),
+      omega arith,
+      omega arith,
+    )
 
 returns-2 : tie.Need-returns-2 Inv-loop μ-loop
 returns-2 c =
@@ -46,7 +52,8 @@ returns-4 : tie.Need-returns-4 Inv-loop μ-loop
 returns-4 c =
     let l = c .before .before in
     let lp = l .before .loop in
-    sym (lp .inv .0 ∙ bad-nothing _ _ (lp .inv .1) (lp .inv .2) (l .loop-test .left) (c .before .if2 .left) (c .if3 .left))
+    sym (lp .inv .0 ∙ bad-nothing _ _ (lp .inv .1) (lp .inv .2) (l .loop-test .left) (c .before .if2 .left)
+    (c .if3 .left))
 
 pub bad-entry-spec : {M : Type 1} → statement M
 bad-entry-spec =

@@ -11,7 +11,8 @@ use Rattle.personalise.proofs.entries.count_records.Statement.{statemen
 use Rattle.personalise.proofs.entries.count_records.Tie as tie
 
 abbrev Inv-loop : tie.InvT-loop
-Inv-loop entries rest₀ total₀ rest n = (total₀ + aflRecordCount rest₀ ≡ n + aflRecordCount rest) × (n + 64 * length rest ≤ 64 * length rest₀)
+Inv-loop entries rest₀ total₀ rest n = (total₀ + aflRecordCount rest₀ ≡ n + aflRecordCount rest)
+    × (n + 64 * length rest ≤ 64 * length rest₀)
 
 abbrev μ-loop : tie.MeasureT-loop
 μ-loop entries rest₀ total₀ rest n = length rest
@@ -46,4 +47,8 @@ count-records-spec =
     (λ c. omega arith)
     loop-less
     loop-again
-    (λ c. (omega (arith, c .before .loop .inv .0, total-end (c .before .loop .rest .now) (c .loop-test .left)), omega arith)))
+    (λ c. (
+      omega (arith, c .before .loop .inv .0, total-end (c .before .loop .rest .now) (c .loop-test .left)),
+      omega
+          arith,
+    )))

@@ -19,7 +19,8 @@ abbrev μ-loop : tie.MeasureT-loop
 returns : tie.Need-returns Inv-loop μ-loop
 returns c =
     let f = c .before .before in
-    sym (f .before .before .loop .inv ∙ apart-no _ (f .before .loop-test .taken) _ (f .front .ensures) _ (sym (c .before .meets .ensures) ∙ c .if1 .taken))
+    sym (f .before .before .loop .inv ∙ apart-no _ (f .before .loop-test .taken) _ (f .front .ensures) _
+    (sym (c .before .meets .ensures) ∙ c .if1 .taken))
 
 loop-less : tie.Need-loop-less Inv-loop μ-loop
 loop-less c =
@@ -30,7 +31,8 @@ loop-again : tie.Need-loop-again Inv-loop μ-loop
 loop-again c =
     let m = c .before .before in
     let f = m .before in
-    f .before .before .loop .inv ∙ apart-on _ (f .before .loop-test .taken) _ (f .front .ensures) _ (sym (m .meets .ensures) ∙ c .before .if1 .left)
+    f .before .before .loop .inv ∙ apart-on _ (f .before .loop-test .taken) _ (f .front .ensures) _
+    (sym (m .meets .ensures) ∙ c .before .if1 .left)
 
 pub is-apart-spec : {M : Type 1} → statement M
 is-apart-spec =

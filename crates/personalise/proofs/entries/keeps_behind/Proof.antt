@@ -43,10 +43,13 @@ returns-4 c =
     let st = k .before .before .before in
     let n = entries-count (st .args .before .now) (st .pre) in
     let q : length (aflEntries (st .args .before .now)) < 62 = omega arith in
-    let z : r .count-records .result + c .count .result ≡ sumOverEntries entryRecordCount (aflEntries (st .args .before .now)) + entryRecordCount (st .args .e) =
-        omega (arith, r .count-records .ensures .0, c .count .ensures .0) in
+    let z : r .count-records .result + c .count .result ≡ sumOverEntries entryRecordCount
+    (aflEntries (st .args .before .now)) + entryRecordCount (st .args .e) =
+    omega (arith, r .count-records .ensures .0, c .count .ensures .0) in
     ap (λ (x : ℕ). leb x mostCardRecords) z
-    ∙ sym (behind-room (aflEntries (st .args .before .now)) (st .args .e) q (sym (k .keeps-alone .ensures) ∙ not-false _ (a .before .if2 .left)) (sym (a .is-apart .ensures) ∙ not-false _ (e .if3 .left)))
+    ∙ sym (behind-room (aflEntries (st .args .before .now)) (st .args .e) q
+    (sym (k .keeps-alone .ensures) ∙ not-false _ (a .before .if2 .left))
+    (sym (a .is-apart .ensures) ∙ not-false _ (e .if3 .left)))
 
 pub keeps-behind-spec : {M : Type 1} → statement M
 keeps-behind-spec =

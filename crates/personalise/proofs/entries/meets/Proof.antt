@@ -11,7 +11,8 @@ returns c = sym (both-no-left _ _ (ne-eqb _ _ (c .if1 .taken)))
 
 returns-2 : tie.Need-returns-2
 returns-2 c =
-    sym (both-true _ (eq-eqb _ _ (c .before .before .before .if1 .left)) ∙ both-no-left _ _ (lt-leb _ _ (c .if2 .taken)))
+    sym (both-true _ (eq-eqb _ _ (c .before .before .before .if1 .left)) ∙ both-no-left _ _
+    (lt-leb _ _ (c .if2 .taken)))
 
 returns-3 : tie.Need-returns-3
 returns-3 c =

@@ -20,7 +20,8 @@ use Rattle.personalise.proofs.objects.count.Lts as lts
 
 abbrev Inv-loop : tie.InvT-loop
 Inv-loop objects s₀ n₀ s n =
-    (n₀ + length (parsedObjectsOrEmpty s₀) ≡ n + length (parsedObjectsOrEmpty s)) × (arePrimitiveObjectsParsed (primitiveObjects s) ≡ true) × (n + length s ≤ length s₀)
+    (n₀ + length (parsedObjectsOrEmpty s₀) ≡ n + length (parsedObjectsOrEmpty s))
+    × (arePrimitiveObjectsParsed (primitiveObjects s) ≡ true) × (n + length s ≤ length s₀)
 
 abbrev μ-loop : tie.MeasureT-loop
 μ-loop objects s₀ n₀ s n = length s
@@ -29,7 +30,8 @@ abbrev μ-loop : tie.MeasureT-loop
 abbrev At-object : Type 0
 At-object = lts.After-front (primitive.Asked, primitive.Learnt) reads.Pre reads.Post Inv-loop μ-loop
 
-next-at : (c : At-object) → primitiveAtFront (c .before .before .before .before .loop .s .now) ≡ front.Object (c .front .given .0 .0)
+next-at : (c : At-object) → primitiveAtFront (c .before .before .before .before .loop .s .now)
+    ≡ front.Object (c .front .given .0 .0)
 next-at c = sym (c .before .before .primitive-at-front .ensures) ∙ c .front .given .1
 
 fits-at : (c : At-object) → HeaderFits (c .before .before .before .before .loop .s .now) (c .front .given .0 .0)
@@ -38,7 +40,8 @@ fits-at c = primitive-fits _ _ (next-at c)
 returns : tie.Need-returns Inv-loop μ-loop
 returns c =
     let p = c .before .before in
-    absurd (run-broken _ (p .before .loop-test .taken) (p .before .before .loop .inv .1) (sym (p .primitive-at-front .ensures) ∙ c .enum-told .given .1))
+    absurd (run-broken _ (p .before .loop-test .taken) (p .before .before .loop .inv .1)
+    (sym (p .primitive-at-front .ensures) ∙ c .enum-told .given .1))
 
 loop-less : tie.Need-loop-less Inv-loop μ-loop
 loop-less c =
@@ -51,8 +54,12 @@ loop-again c =
     let p = o .before .before in
     let lp = p .before .before .loop in
     let t = p .before .loop-test .taken in
-    let l = rest-less _ t _ (next-at o) in
-    (omega (arith, lp .inv .0, ap length (listed-on _ t _ (next-at o) (lp .inv .1))), rest-run _ t _ (next-at o) (lp .inv .1), omega (arith, lp .inv .2))
+    let l = rest-less _ t _ (next-at o) in (
+      omega (arith, lp .inv .0, ap length (listed-on _ t _ (next-at o) (lp .inv .1))),
+      rest-run _ t _ (next-at o)
+          (lp .inv .1),
+      omega (arith, lp .inv .2),
+    )
 
 pub count-spec : {M : Type 1} → statement M
 count-spec =
@@ -72,4 +79,5 @@ count-spec =
     (λ c. omega arith)
     loop-less
     loop-again
-    (λ c. let z = ap length (listed-end (c .before .loop .s .now) (c .loop-test .left)) in omega (arith, c .before .loop .inv .0)))
+    (λ c. let z = ap length (listed-end (c .before .loop .s .now) (c .loop-test .left)) in
+    omega (arith, c .before .loop .inv .0)))

@@ -14,7 +14,8 @@ returns : tie.Need-returns
 returns c =
     let l = c .before .before in
     let a = l .before .before .args in
-    sym (settable-unknown (tlvObject (a .tag) (a .v .now)) (l .lookup-row .result .found) (l .lookup-row .ensures .0) (c .enum-told .given .1))
+    sym (settable-unknown (tlvObject (a .tag) (a .v .now)) (l .lookup-row .result .found) (l .lookup-row .ensures .0)
+    (c .enum-told .given .1))
 
 returns-2 : tie.Need-returns-2
 returns-2 c =
@@ -23,8 +24,10 @@ returns-2 c =
     let l = f .before .before in
     let a = l .before .before .args in
     let g = f .found .given in
-    row-comes inRecordResponse (rowAt (g .0 .0)) tagRecordTemplate (a .v .now) (c .may-come .ensures) (k .attributes-of .ensures)
-    ∙ sym (settable-at (tlvObject (a .tag) (a .v .now)) (l .lookup-row .result .found) (l .lookup-row .ensures .0) (g .0 .0) (g .1))
+    row-comes inRecordResponse (rowAt (g .0 .0)) tagRecordTemplate (a .v .now) (c .may-come .ensures)
+    (k .attributes-of .ensures)
+    ∙ sym (settable-at (tlvObject (a .tag) (a .v .now)) (l .lookup-row .result .found) (l .lookup-row .ensures .0)
+    (g .0 .0) (g .1))
 
 pub is-settable-spec : {M : Type 1} → statement M
 is-settable-spec =

@@ -18,7 +18,8 @@ use Rattle.personalise.proofs.objects.lacks_tag.Reads as reads
 use Rattle.personalise.proofs.objects.lacks_tag.Lts as lts
 
 abbrev Inv-loop : tie.InvT-loop
-Inv-loop objects tag s₀ s = (listParsedAndLacksTag tag (primitiveObjects s₀) ≡ listParsedAndLacksTag tag (primitiveObjects s)) × (length s ≤ length s₀)
+Inv-loop objects tag s₀ s = (listParsedAndLacksTag tag (primitiveObjects s₀) ≡ listParsedAndLacksTag tag
+    (primitiveObjects s)) × (length s ≤ length s₀)
 
 abbrev μ-loop : tie.MeasureT-loop
 μ-loop objects tag s₀ s = length s
@@ -27,7 +28,8 @@ abbrev μ-loop : tie.MeasureT-loop
 abbrev At-object : Type 0
 At-object = lts.After-front (primitive.Asked, primitive.Learnt) reads.Pre reads.Post Inv-loop μ-loop
 
-next-at : (c : At-object) → primitiveAtFront (c .before .before .before .before .loop .s .now) ≡ front.Object (c .front .given .0 .0)
+next-at : (c : At-object) → primitiveAtFront (c .before .before .before .before .loop .s .now)
+    ≡ front.Object (c .front .given .0 .0)
 next-at c = sym (c .before .before .primitive-at-front .ensures) ∙ c .front .given .1
 
 fits-at : (c : At-object) → HeaderFits (c .before .before .before .before .loop .s .now) (c .front .given .0 .0)
@@ -36,7 +38,8 @@ fits-at c = primitive-fits _ _ (next-at c)
 returns : tie.Need-returns Inv-loop μ-loop
 returns c =
     let p = c .before .before in
-    sym (p .before .before .loop .inv .0 ∙ lacks-broken _ (p .before .loop-test .taken) _ (sym (p .primitive-at-front .ensures) ∙ c .enum-told .given .1))
+    sym (p .before .before .loop .inv .0 ∙ lacks-broken _ (p .before .loop-test .taken) _
+    (sym (p .primitive-at-front .ensures) ∙ c .enum-told .given .1))
 
 returns-2 : tie.Need-returns-2 Inv-loop μ-loop
 returns-2 c =
@@ -55,8 +58,11 @@ loop-again c =
     let o = l .before .before .before in
     let p = o .before .before in
     let t = p .before .loop-test .taken in
-    let r = rest-less _ t _ (next-at o) in
-    (p .before .before .loop .inv .0 ∙ lacks-on _ t _ (next-at o) _ (l .if1 .left), omega (arith, p .before .before .loop .inv .1))
+    let r = rest-less _ t _ (next-at o) in (
+      p .before .before .loop .inv .0 ∙ lacks-on _ t _ (next-at o) _ (l .if1 .left),
+      omega
+          (arith, p .before .before .loop .inv .1),
+    )
 
 pub lacks-tag-spec : {M : Type 1} → statement M
 lacks-tag-spec =

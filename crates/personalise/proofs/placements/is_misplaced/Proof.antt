@@ -11,7 +11,8 @@ use Rattle.personalise.proofs.placements.is_misplaced.Statement.{statem
 use Rattle.personalise.proofs.placements.is_misplaced.Tie as tie
 
 abbrev Inv-loop : tie.InvT-loop
-Inv-loop placements into records objects rest₀ rest = anyPlacement (isOutOfRangePlacementInto records objects into) (placementsIn rest₀) ≡ anyPlacement (isOutOfRangePlacementInto records objects into) (placementsIn rest)
+Inv-loop placements into records objects rest₀ rest = anyPlacement (isOutOfRangePlacementInto records objects into)
+    (placementsIn rest₀) ≡ anyPlacement (isOutOfRangePlacementInto records objects into) (placementsIn rest)
 
 abbrev μ-loop : tie.MeasureT-loop
 μ-loop placements into records objects rest₀ rest = length rest
@@ -20,20 +21,23 @@ returns : tie.Need-returns Inv-loop μ-loop
 returns c =
     let f = c .before .before in
     let lp = f .before .before .loop in
-    sym (lp .inv ∙ any-yes _ (f .before .loop-test .taken) _ (f .front .ensures) _ refl _ (sym (c .before .strays .ensures) ∙ c .if1 .taken))
+    sym (lp .inv ∙ any-yes _ (f .before .loop-test .taken) _ (f .front .ensures) _ refl _
+    (sym (c .before .strays .ensures) ∙ c .if1 .taken))
 
 loop-less : tie.Need-loop-less Inv-loop μ-loop
 loop-less c =
     let w = c .before in
     let f = w .before .before .before in
-    tail-less (f .before .before .loop .rest .now) (f .before .loop-test .taken) _ (f .front .ensures) _ (w .width .ensures)
+    tail-less (f .before .before .loop .rest .now) (f .before .loop-test .taken) _ (f .front .ensures) _
+    (w .width .ensures)
 
 loop-again : tie.Need-loop-again Inv-loop μ-loop
 loop-again c =
     let w = c .before in
     let f = w .before .before .before in
     f .before .before .loop .inv
-    ∙ any-on _ (f .before .loop-test .taken) _ (f .front .ensures) _ (w .width .ensures) _ (sym (w .before .before .strays .ensures) ∙ w .before .if1 .left)
+    ∙ any-on _ (f .before .loop-test .taken) _ (f .front .ensures) _ (w .width .ensures) _
+    (sym (w .before .before .strays .ensures) ∙ w .before .if1 .left)
 
 returns-2 : tie.Need-returns-2 Inv-loop μ-loop
 returns-2 c = sym (c .before .loop .inv ∙ any-end _ _ (c .loop-test .left))

@@ -25,8 +25,10 @@ use Rattle.personalise.proofs.writing.put_placed.Reads as put-placed
 
 abbrev Inv-loop : tie.InvT-loop
 Inv-loop objects placements k out₀ at s₀ number₀ to₀ out s number to =
-    (bytesWrittenOver out₀ to₀ (content (placementsIn placements) k number₀ s₀) ≡ bytesWrittenOver out to (content (placementsIn placements) k number s))
-    × (to₀ + length (content (placementsIn placements) k number₀ s₀) ≡ to + length (content (placementsIn placements) k number s))
+    (bytesWrittenOver out₀ to₀ (content (placementsIn placements) k number₀ s₀) ≡ bytesWrittenOver out to
+    (content (placementsIn placements) k number s))
+    × (to₀ + length (content (placementsIn placements) k number₀ s₀) ≡ to
+    + length (content (placementsIn placements) k number s))
     × (length out ≡ length out₀) × AreObjectsAllowedInRecord s × (number + length s ≤ 1 + length s₀)
 
 abbrev μ-loop : tie.MeasureT-loop
@@ -34,9 +36,11 @@ abbrev μ-loop : tie.MeasureT-loop
 
 -- where an object is next
 abbrev At-object : Type 0
-At-object = lts.After-front (primitive.Asked, primitive.Learnt, put-placed.Asked, put-placed.Learnt) reads.Pre reads.Post Inv-loop μ-loop
+At-object = lts.After-front (primitive.Asked, primitive.Learnt, put-placed.Asked, put-placed.Learnt) reads.Pre
+    reads.Post Inv-loop μ-loop
 
-next-at : (c : At-object) → primitiveAtFront (c .before .before .before .before .loop .s .now) ≡ front.Object (c .front .given .0 .0)
+next-at : (c : At-object) → primitiveAtFront (c .before .before .before .before .loop .s .now)
+    ≡ front.Object (c .front .given .0 .0)
 next-at c = sym (c .before .before .primitive-at-front .ensures) ∙ c .front .given .1
 
 fits-at : (c : At-object) → HeaderFits (c .before .before .before .before .loop .s .now) (c .front .given .0 .0)
@@ -45,7 +49,8 @@ fits-at c = primitive-fits _ _ (next-at c)
 returns : tie.Need-returns Inv-loop μ-loop
 returns c =
     let p = c .before .before in
-    absurd (run-broken _ (p .before .loop-test .taken) (p .before .before .loop .inv .3 .0) (sym (p .primitive-at-front .ensures) ∙ c .enum-told .given .1))
+    absurd (run-broken _ (p .before .loop-test .taken) (p .before .before .loop .inv .3 .0)
+    (sym (p .primitive-at-front .ensures) ∙ c .enum-told .given .1))
 
 put-placed-requires : tie.Need-put-placed-requires Inv-loop μ-loop
 put-placed-requires c κs =
@@ -56,8 +61,13 @@ put-placed-requires c κs =
     let a = st .args in
     let t = p .before .loop-test .taken in
     let ps = placementsIn (a .placements .now) in
-    let room : lp .to + length (content ps (a .k) (lp .number) (lp .s .now)) ≤ length (lp .out) = omega (arith, lp .inv .1, lp .inv .2, st .pre .1) in
-    (first-small (lp .s .now) t (o .front .given .0 .0) (next-at o) (lp .inv .3) ps (a .k) (lp .number), first-room (lp .s .now) t (o .front .given .0 .0) (next-at o) (lp .inv .3) ps (a .k) (lp .number) (lp .out) (lp .to) room)
+    let room : lp .to + length (content ps (a .k) (lp .number) (lp .s .now)) ≤ length (lp .out) =
+    omega (arith, lp .inv .1, lp .inv .2, st .pre .1) in (
+      first-small (lp .s .now) t (o .front .given .0 .0) (next-at o) (lp .inv .3) ps (a .k) (lp .number),
+      first-room
+          (lp .s .now) t (o .front .given .0 .0) (next-at o) (lp .inv .3) ps (a .k) (lp .number) (lp .out) (lp .to)
+          room,
+    )
 
 loop-less : tie.Need-loop-less Inv-loop μ-loop
 loop-less c =
@@ -74,12 +84,16 @@ loop-again c =
     let a = st .args in
     let t = p .before .loop-test .taken in
     let ps = placementsIn (a .placements .now) in
-    let room : lp .to + length (content ps (a .k) (lp .number) (lp .s .now)) ≤ length (lp .out) = omega (arith, lp .inv .1, lp .inv .2, st .pre .1) in
+    let room : lp .to + length (content ps (a .k) (lp .number) (lp .s .now)) ≤ length (lp .out) =
+    omega (arith, lp .inv .1, lp .inv .2, st .pre .1) in
     let q = w .put-placed .ensures in
     let l = rest-less _ t _ (next-at o) in (
-      lp .inv .0 ∙ left-over (lp .s .now) t (o .front .given .0 .0) (next-at o) (lp .inv .3) ps (a .k) (lp .number) (lp .out) (lp .to) room q,
-      lp .inv .1 ∙ left-next (lp .s .now) t (o .front .given .0 .0) (next-at o) (lp .inv .3) ps (a .k) (lp .number) (lp .out) (lp .to) room q,
-      left-length (lp .s .now) t (o .front .given .0 .0) (next-at o) (lp .inv .3) ps (a .k) (lp .number) (lp .out) (lp .to) room q ∙ lp .inv .2,
+      lp .inv .0 ∙ left-over (lp .s .now) t (o .front .given .0 .0) (next-at o) (lp .inv .3) ps (a .k) (lp .number)
+          (lp .out) (lp .to) room q,
+      lp .inv .1 ∙ left-next (lp .s .now) t (o .front .given .0 .0) (next-at o) (lp .inv .3) ps (a .k) (lp .number)
+          (lp .out) (lp .to) room q,
+      left-length (lp .s .now) t (o .front .given .0 .0) (next-at o) (lp .inv .3) ps (a .k) (lp .number) (lp .out)
+          (lp .to) room q ∙ lp .inv .2,
       rest-usable _ t _ (next-at o) (lp .inv .3),
       omega (arith, lp .inv .4),
     )
@@ -107,7 +121,8 @@ put-content-spec =
     (λ c. search needs)
     (λ c. c .before .before .before .before .loop .inv .2)
     returns
-    (λ c. let h = fits-at (c .before .before) in omega (arith, c .before .before .before .before .before .before .loop .inv .4))
+    (λ c. let h = fits-at (c .before .before) in
+    omega (arith, c .before .before .before .before .before .before .loop .inv .4))
     (λ c. omega arith)
     (λ c. omega arith)
     (λ c. let h = fits-at (c .before .before) in omega arith)
@@ -115,7 +130,10 @@ put-content-spec =
     (λ c. let h = fits-at (c .before .before .before) in omega arith)
     (λ c. omega arith)
     put-placed-requires
-    (λ c. omega (arith, c .before .before .before .before .before .before .before .before .before .before .before .before .loop .inv .4))
+    (λ c. omega (
+      arith,
+      c .before .before .before .before .before .before .before .before .before .before .before .before .loop .inv .4,
+    ))
     loop-less
     loop-again
     (λ c. c .before .loop .inv .2)

@@ -36,7 +36,8 @@ put-length-spec =
     (λ c. let l = ap length (length-long (c .before .args .len) (c .if1 .left) (c .before .pre .0)) in omega arith)
     (λ c. search needs)
     (λ c. search needs)
-    (λ c. let l = ap length (length-long (c .before .args .len) (c .if1 .left) (c .before .pre .0)) in simp length-set (omega arith))
+    (λ c. let l = ap length (length-long (c .before .args .len) (c .if1 .left) (c .before .pre .0)) in
+    simp length-set (omega arith))
     (λ c. search needs)
     (λ c. search needs)
     returns-2)

@@ -20,8 +20,11 @@ put-length-requires : tie.Need-put-length-requires
 put-length-requires c κs =
     let t = c .before .before .before in
     let st = t .before .before .before .before in
-    let a = st .args in
-    (st .pre .0 .1, length-room (a .out .now) (a .at) (tagBytes (a .tag)) (lengthBytes (length (a .v .now))) (a .v .now) (room (a .out .now) (a .at) (a .tag) (a .v .now) (st .pre .1)) (t .put-tag .ensures))
+    let a = st .args in (
+      st .pre .0 .1,
+      length-room (a .out .now) (a .at) (tagBytes (a .tag)) (lengthBytes (length (a .v .now))) (a .v .now)
+          (room (a .out .now) (a .at) (a .tag) (a .v .now) (st .pre .1)) (t .put-tag .ensures),
+    )
 
 put-value-requires : tie.Need-put-value-requires
 put-value-requires c κs =
@@ -29,7 +32,8 @@ put-value-requires c κs =
     let t = e .before .before .before .before in
     let st = t .before .before .before .before in
     let a = st .args in
-    value-room (a .out .now) (a .at) (tagBytes (a .tag)) (lengthBytes (length (a .v .now))) (a .v .now) (room (a .out .now) (a .at) (a .tag) (a .v .now) (st .pre .1)) (t .put-tag .ensures) (e .put-length .ensures)
+    value-room (a .out .now) (a .at) (tagBytes (a .tag)) (lengthBytes (length (a .v .now))) (a .v .now)
+    (room (a .out .now) (a .at) (a .tag) (a .v .now) (st .pre .1)) (t .put-tag .ensures) (e .put-length .ensures)
 
 returns : tie.Need-returns
 returns c =
@@ -38,7 +42,9 @@ returns c =
     let t = e .before .before .before .before in
     let st = t .before .before .before .before in
     let a = st .args in
-    all-put (a .out .now) (a .at) (tagBytes (a .tag)) (lengthBytes (length (a .v .now))) (a .v .now) (room (a .out .now) (a .at) (a .tag) (a .v .now) (st .pre .1)) (t .put-tag .ensures) (e .put-length .ensures) (v .put-value .ensures)
+    all-put (a .out .now) (a .at) (tagBytes (a .tag)) (lengthBytes (length (a .v .now))) (a .v .now)
+    (room (a .out .now) (a .at) (a .tag) (a .v .now) (st .pre .1)) (t .put-tag .ensures) (e .put-length .ensures)
+    (v .put-value .ensures)
 
 pub put-object-spec : {M : Type 1} → statement M
 put-object-spec =
@@ -46,8 +52,11 @@ put-object-spec =
     (tie.spec
     (λ c κs.
     let st = c .before .before .before in
-    let a = st .args in
-    (st .pre .0 .0, tag-room (a .out .now) (a .at) (tagBytes (a .tag)) (lengthBytes (length (a .v .now))) (a .v .now) (room (a .out .now) (a .at) (a .tag) (a .v .now) (st .pre .1))))
+    let a = st .args in (
+      st .pre .0 .0,
+      tag-room (a .out .now) (a .at) (tagBytes (a .tag)) (lengthBytes (length (a .v .now))) (a .v .now)
+          (room (a .out .now) (a .at) (a .tag) (a .v .now) (st .pre .1)),
+    ))
     put-length-requires
     put-value-requires
     (λ c. search needs)

@@ -17,14 +17,16 @@ returns : tie.Need-returns
 returns c =
     let p = c .before in
     let a = p .before .before .before .before .args in
-    puts-nothing (a .out .now) (a .at) (if-no (objectBytes (a .tag) (a .v .now)) [] (sym (p .is-placed .ensures) ∙ not-true _ (c .if1 .taken)))
+    puts-nothing (a .out .now) (a .at)
+    (if-no (objectBytes (a .tag) (a .v .now)) [] (sym (p .is-placed .ensures) ∙ not-true _ (c .if1 .taken)))
 
 put-object-requires : tie.Need-put-object-requires
 put-object-requires c κs =
     let p = c .before .before in
     let st = p .before .before .before .before in
     let a = st .args in
-    let e = if-yes (objectBytes (a .tag) (a .v .now)) [] (sym (p .is-placed .ensures) ∙ not-false _ (c .before .if1 .left)) in
+    let e = if-yes (objectBytes (a .tag) (a .v .now)) []
+    (sym (p .is-placed .ensures) ∙ not-false _ (c .before .if1 .left)) in
     (st .pre .0, subst (λ (x : List ℕ). a .at + length x ≤ length (a .out .now)) e (st .pre .1))
 
 returns-2 : tie.Need-returns-2
@@ -33,7 +35,8 @@ returns-2 c =
     let p = o .before .before .before in
     let st = p .before .before .before .before in
     let a = st .args in
-    let e = if-yes (objectBytes (a .tag) (a .v .now)) [] (sym (p .is-placed .ensures) ∙ not-false _ (o .before .before .if1 .left)) in
+    let e = if-yes (objectBytes (a .tag) (a .v .now)) []
+    (sym (p .is-placed .ensures) ∙ not-false _ (o .before .before .if1 .left)) in
     subst (WritesBytesAt _ _ (a .out .now) (a .at)) (sym e) (o .put-object .ensures)
 
 pub put-placed-spec : {M : Type 1} → statement M

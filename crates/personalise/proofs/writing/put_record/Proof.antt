@@ -33,8 +33,11 @@ put-tag-requires : tie.Need-put-tag-requires
 put-tag-requires c κs =
     let st = c .before .before .before .before .before in
     let a = st .args in
-    let v = recordContent (parsedObjectsOrEmpty (a .objects .now)) (placementsIn (a .placements .now)) (a .k) in
-    (omega arith, tag-room (a .out .now) (a .at) (tagBytes tagRecordTemplate) (lengthBytes (length v)) v (room (a .out .now) (a .at) v (st .pre .1 .0) (st .pre .1 .1)))
+    let v = recordContent (parsedObjectsOrEmpty (a .objects .now)) (placementsIn (a .placements .now)) (a .k) in (
+      omega arith,
+      tag-room (a .out .now) (a .at) (tagBytes tagRecordTemplate) (lengthBytes (length v)) v
+          (room (a .out .now) (a .at) v (st .pre .1 .0) (st .pre .1 .1)),
+    )
 
 put-length-requires : tie.Need-put-length-requires
 put-length-requires c κs =
@@ -43,10 +46,12 @@ put-length-requires c κs =
     let st = z .before .before .before .before in
     let a = st .args in
     let v = recordContent (parsedObjectsOrEmpty (a .objects .now)) (placementsIn (a .placements .now)) (a .k) in
-    let e = exact (z .size .result) v (z .size .ensures) (st .pre .1 .0) in
-    (omega (arith, st .pre .1 .0),
+    let e = exact (z .size .result) v (z .size .ensures) (st .pre .1 .0) in (
+      omega (arith, st .pre .1 .0),
       subst (λ (n : ℕ). t .put-tag .result + length (lengthBytes n) ≤ length (t .put-tag .last .0)) (sym e)
-      (length-room (a .out .now) (a .at) (tagBytes tagRecordTemplate) (lengthBytes (length v)) v (room (a .out .now) (a .at) v (st .pre .1 .0) (st .pre .1 .1)) (t .put-tag .ensures)))
+          (length-room (a .out .now) (a .at) (tagBytes tagRecordTemplate) (lengthBytes (length v)) v
+          (room (a .out .now) (a .at) v (st .pre .1 .0) (st .pre .1 .1)) (t .put-tag .ensures)),
+    )
 
 put-content-requires : tie.Need-put-content-requires
 put-content-requires c κs =
@@ -57,9 +62,12 @@ put-content-requires c κs =
     let a = st .args in
     let v = recordContent (parsedObjectsOrEmpty (a .objects .now)) (placementsIn (a .placements .now)) (a .k) in
     let e = exact (z .size .result) v (z .size .ensures) (st .pre .1 .0) in
-    let q = subst (λ (n : ℕ). WritesBytesAt (l .put-length .result) (l .put-length .last .0) (t .put-tag .last .0) (t .put-tag .result) (lengthBytes n)) e (l .put-length .ensures) in
-    (st .pre .0,
-      value-room (a .out .now) (a .at) (tagBytes tagRecordTemplate) (lengthBytes (length v)) v (room (a .out .now) (a .at) v (st .pre .1 .0) (st .pre .1 .1)) (t .put-tag .ensures) q)
+    let q = subst (λ (n : ℕ). WritesBytesAt (l .put-length .result) (l .put-length .last .0) (t .put-tag .last .0)
+    (t .put-tag .result) (lengthBytes n)) e (l .put-length .ensures) in (
+      st .pre .0,
+      value-room (a .out .now) (a .at) (tagBytes tagRecordTemplate) (lengthBytes (length v)) v
+          (room (a .out .now) (a .at) v (st .pre .1 .0) (st .pre .1 .1)) (t .put-tag .ensures) q,
+    )
 
 returns : tie.Need-returns
 returns c =
@@ -71,8 +79,10 @@ returns c =
     let a = st .args in
     let v = recordContent (parsedObjectsOrEmpty (a .objects .now)) (placementsIn (a .placements .now)) (a .k) in
     let e = exact (z .size .result) v (z .size .ensures) (st .pre .1 .0) in
-    let q = subst (λ (n : ℕ). WritesBytesAt (l .put-length .result) (l .put-length .last .0) (t .put-tag .last .0) (t .put-tag .result) (lengthBytes n)) e (l .put-length .ensures) in
-    all-put (a .out .now) (a .at) (tagBytes tagRecordTemplate) (lengthBytes (length v)) v (room (a .out .now) (a .at) v (st .pre .1 .0) (st .pre .1 .1)) (t .put-tag .ensures) q (w .put-content .ensures)
+    let q = subst (λ (n : ℕ). WritesBytesAt (l .put-length .result) (l .put-length .last .0) (t .put-tag .last .0)
+    (t .put-tag .result) (lengthBytes n)) e (l .put-length .ensures) in
+    all-put (a .out .now) (a .at) (tagBytes tagRecordTemplate) (lengthBytes (length v)) v
+    (room (a .out .now) (a .at) v (st .pre .1 .0) (st .pre .1 .1)) (t .put-tag .ensures) q (w .put-content .ensures)
 
 pub put-record-spec : {M : Type 1} → statement M
 put-record-spec =

@@ -10,7 +10,8 @@ use Rattle.personalise.specs.Placements.{placementsIn}
 use Rattle.personalise.specs.Objects.{parsedObjectsOrEmpty}
 use Rattle.personalise.specs.Inner.{bytesWrittenOver}
 use Rattle.personalise.proofs.Over.{over-nothing}
-use Rattle.personalise.proofs.Filled.{recordsLeft, records-done, records-all, transition-over, transition-next, transition-length, transition-most}
+use Rattle.personalise.proofs.Filled.{recordsLeft, records-done, records-all, transition-over, transition-next}
+use Rattle.personalise.proofs.Filled.{transition-length, transition-most}
 use Rattle.personalise.proofs.writing.put_records.Statement.{statement}
 use Rattle.personalise.proofs.writing.put_records.Tie as tie
 
@@ -19,7 +20,8 @@ left objects placements n k = recordsLeft (parsedObjectsOrEmpty objects) (placem
 
 abbrev Inv-loop : tie.InvT-loop
 Inv-loop objects placements records out₀ k₀ at₀ out k at =
-    (bytesWrittenOver out₀ at₀ (left objects placements records k₀) ≡ bytesWrittenOver out at (left objects placements records k))
+    (bytesWrittenOver out₀ at₀ (left objects placements records k₀) ≡ bytesWrittenOver out at
+    (left objects placements records k))
     × (at₀ + length (left objects placements records k₀) ≡ at + length (left objects placements records k))
     × (length out ≡ length out₀) × (1 ≤ k) × (k ≤ records + 1) × (at + 256 * (records + 1 - k) ≤ 256 * records)
 
@@ -29,8 +31,14 @@ abbrev μ-loop : tie.MeasureT-loop
 put-record-requires : tie.Need-put-record-requires Inv-loop μ-loop
 put-record-requires c κs =
     let lp = c .before .before .loop in
-    let st = c .before .before .before .before .before .before in
-    (st .pre .0, (st .pre .1 .0 (lp .k) (c .before .loop-test .taken), omega (arith, lp .inv .2, lp .inv .3, lp .inv .4, lp .inv .5, c .before .loop-test .taken, st .pre .1 .1 .1)))
+    let st = c .before .before .before .before .before .before in (
+      st .pre .0,
+      (
+        st .pre .1 .0 (lp .k) (c .before .loop-test .taken),
+        omega
+            (arith, lp .inv .2, lp .inv .3, lp .inv .4, lp .inv .5, c .before .loop-test .taken, st .pre .1 .1 .1),
+      ),
+    )
 
 loop-again : tie.Need-loop-again Inv-loop μ-loop
 loop-again c =
@@ -43,7 +51,8 @@ loop-again c =
     let ps = placementsIn (a .placements .now) in
     let h = l .loop-test .taken in
     let f = st .pre .1 .0 (lp .k) h in
-    let room : lp .at + 256 ≤ length (lp .out) = omega (arith, lp .inv .2, lp .inv .3, lp .inv .4, lp .inv .5, st .pre .1 .1 .1) in
+    let room : lp .at + 256 ≤ length (lp .out) =
+    omega (arith, lp .inv .2, lp .inv .3, lp .inv .4, lp .inv .5, st .pre .1 .1 .1) in
     let p = w .put-record .ensures in
     let m = transition-most os ps (a .records) (lp .k) h f (lp .out) (lp .at) room p in (
       lp .inv .0 ∙ transition-over os ps (a .records) (lp .k) h f (lp .out) (lp .at) room p,
@@ -66,7 +75,8 @@ returns c =
     let y = ap length b in
     record {
       next = omega (arith, lp .inv .1);
-      wrote = sym (ap (bytesWrittenOver (a .out .now) 0) (sym b) ∙ lp .inv .0 ∙ ap (bytesWrittenOver (lp .out) (lp .at)) e ∙ over-nothing (lp .out) (lp .at));
+      wrote = sym (ap (bytesWrittenOver (a .out .now) 0) (sym b) ∙ lp .inv .0 ∙ ap (bytesWrittenOver (lp .out) (lp .at))
+          e ∙ over-nothing (lp .out) (lp .at));
     }
 
 pub put-records-spec : {M : Type 1} → statement M
@@ -77,7 +87,11 @@ put-records-spec =
     μ-loop
     (λ c. (refl, refl, refl, omega arith, omega arith, omega arith))
     put-record-requires
-    (λ c. omega (arith, c .before .before .before .before .before .loop .inv .4, c .before .before .before .before .before .before .before .before .before .pre .1 .1 .0))
+    (λ c. omega (
+      arith,
+      c .before .before .before .before .before .loop .inv .4,
+      c .before .before .before .before .before .before .before .before .before .pre .1 .1 .0,
+    ))
     (λ c. omega (arith, c .before .before .before .before .loop-test .taken))
     loop-again
     (λ c. c .before .loop .inv .2)

@@ -42,10 +42,12 @@ put-tag-spec =
     (λ c. search needs)
     returns
     (λ c. search needs)
-    (λ c. let l = ap length (tag-two (c .before .before .args .tag) (c .before .if1 .left) (c .if2 .taken)) in omega arith)
+    (λ c. let l = ap length (tag-two (c .before .before .args .tag) (c .before .if1 .left) (c .if2 .taken)) in
+    omega arith)
     (λ c. search needs)
     (λ c. search needs)
-    (λ c. let l = ap length (tag-two (c .before .before .args .tag) (c .before .if1 .left) (c .if2 .taken)) in simp length-set (omega arith))
+    (λ c. let l = ap length (tag-two (c .before .before .args .tag) (c .before .if1 .left) (c .if2 .taken)) in
+    simp length-set (omega arith))
     (λ c. search needs)
     (λ c. search needs)
     returns-2

@@ -9,7 +9,11 @@ use Rattle.personalise.proofs.writing.put_value.Tie as tie
 returns : tie.Need-returns
 returns c =
     let a = c .before .before .before .before .before .before .args in
-    record { next = refl; wrote = over-part (a .out .now) (a .at) (a .v .now) _ (search needs) (c .before .before .copy .ensures .1) }
+    record {
+      next = refl;
+      wrote = over-part (a .out .now) (a .at) (a .v .now) _ (search needs)
+          (c .before .before .copy .ensures .1);
+    }
 
 pub put-value-spec : {M : Type 1} → statement M
 put-value-spec =

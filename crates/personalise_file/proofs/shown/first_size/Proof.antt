@@ -14,5 +14,7 @@ first-size-spec =
     (λ c. search needs)
     (λ c. search needs)
     (λ c. search needs)
-    (λ c. let f = c .before .before .front .given in let h = header-fits _ _ (sym (c .before .before .before .before .object-header .ensures) ∙ f .1) in omega arith)
-    (λ c. let f = c .before .before .front .given in let h = header-fits _ _ (sym (c .before .before .before .before .object-header .ensures) ∙ f .1) in omega arith))
+    (λ c. let f = c .before .before .front .given in let h =
+    header-fits _ _ (sym (c .before .before .before .before .object-header .ensures) ∙ f .1) in omega arith)
+    (λ c. let f = c .before .before .front .given in let h =
+    header-fits _ _ (sym (c .before .before .before .before .object-header .ensures) ∙ f .1) in omega arith))

@@ -17,8 +17,9 @@ use Rattle.reading.proofs.flat.walk.Tie as tie
 
 abbrev Inv-loop : tie.InvT-loop
 Inv-loop bytes tag items₀ ends₀ around₀ depth₀ at₀ n₀ k₀ items ends around depth at n k =
-    Reached bytes (getD ends₀ 0 0) (WalkListsTree bytes tag (parseTree 3 (part bytes at₀ (getD ends₀ 0 0))) 1 0 items₀) ends
-        around depth at n k items
+    Reached bytes (getD ends₀ 0 0) (WalkListsTree bytes tag (parseTree 3 (part bytes at₀ (getD ends₀ 0 0))) 1 0 items₀)
+    ends
+    around depth at n k items
 
 abbrev μ-loop : tie.MeasureT-loop
 μ-loop bytes tag items₀ ends₀ around₀ depth₀ at₀ n₀ k₀ items ends around depth at n k = ahead (getD ends₀ 0 0) depth at
@@ -52,10 +53,12 @@ loop-again-2 c = let w = c .before .before .before .loop .inv in
 
 returns-2 : tie.Need-returns-2 Inv-loop μ-loop
 returns-2 c =
-    let w = c .before .before .before .before .before .before .before .loop .inv in
-    (failed (run w) (more-at (c .before .before .before .before .before .before))
-        (c .before .before .before .before .if3 .left)
-        (sym (c .before .before .object-header .ensures) ∙ c .enum-told .given .1) _, w .fits .room)
+    let w = c .before .before .before .before .before .before .before .loop .inv in (
+      failed (run w) (more-at (c .before .before .before .before .before .before))
+          (c .before .before .before .before .if3 .left)
+          (sym (c .before .before .object-header .ensures) ∙ c .enum-told .given .1) _,
+      w .fits .room,
+    )
 
 returns-3 : tie.Need-returns-3 Inv-loop μ-loop
 returns-3 c =
@@ -88,8 +91,12 @@ walk-spec =
     (λ c. omega arith)
     (λ c. close (c .before .before .loop .inv) (c .before .if1 .taken) (c .if2 .left))
     (λ c. omega (arith, more-at (c .before), stops (run (c .before .before .loop .inv))))
-    (λ c. omega (arith, more-at (c .before .before), inside (c .before .before .before .loop .inv),
-        c .before .before .before .loop .inv .fits .short))
+    (λ c. omega (
+      arith,
+      more-at (c .before .before),
+      inside (c .before .before .before .loop .inv),
+      c .before .before .before .loop .inv .fits .short,
+    ))
     (λ c. omega (arith, more-at (c .before .before), inside (c .before .before .before .loop .inv)))
     loop-again-2
     (λ c. omega (arith, more-at (c .before .before)))
@@ -99,12 +106,20 @@ walk-spec =
     (λ c. search needs)
     (λ c. search needs)
     returns-2
-    (λ c. omega (arith, bounds (next-at c),
-        c .before .before .before .before .before .before .before .before .before .loop .inv .fits .short))
-    (λ c. omega (arith, bounds (next-at (c .before)),
-        c .before .before .before .before .before .before .before .before .before .before .loop .inv .fits .short))
-    (λ c. omega (arith,
-        c .before .before .before .before .before .before .before .before .before .before .loop .inv .fits .half))
+    (λ c. omega (
+      arith,
+      bounds (next-at c),
+      c .before .before .before .before .before .before .before .before .before .loop .inv .fits .short,
+    ))
+    (λ c. omega (
+      arith,
+      bounds (next-at (c .before)),
+      c .before .before .before .before .before .before .before .before .before .before .loop .inv .fits .short,
+    ))
+    (λ c. omega (
+      arith,
+      c .before .before .before .before .before .before .before .before .before .before .loop .inv .fits .half,
+    ))
     (λ c. omega (arith, few-at (c .before .before)))
     returns-3
     (λ c. omega (arith, few-at (c .before .before .before)))

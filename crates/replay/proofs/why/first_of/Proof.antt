@@ -14,5 +14,7 @@ first-of-spec =
     (λ c. search needs)
     (λ c. search needs)
     (λ c. search needs)
-    (λ c. let f = c .before .before .front .given in let h = primitive-fits _ _ (sym (c .before .before .before .before .primitive-at-front .ensures) ∙ f .1) in omega arith)
-    (λ c. let f = c .before .before .front .given in let h = primitive-fits _ _ (sym (c .before .before .before .before .primitive-at-front .ensures) ∙ f .1) in omega arith))
+    (λ c. let f = c .before .before .front .given in let h = primitive-fits _ _
+    (sym (c .before .before .before .before .primitive-at-front .ensures) ∙ f .1) in omega arith)
+    (λ c. let f = c .before .before .front .given in let h = primitive-fits _ _
+    (sym (c .before .before .before .before .primitive-at-front .ensures) ∙ f .1) in omega arith))

@@ -18,9 +18,11 @@ rest-length : (s : List ℕ) (n : ℕ) → length (take (length s - n) (drop n s
 rest-length s n = simp (length-take, length-drop) (omega arith)
 
 -- the object ends inside the bytes
-inside : (c : tie.Else1 Inv-loop μ-loop) → c .before .before .before .before .loop .at + c .before .first-of .result .size ≤ length (c .before .before .before .before .before .before .args .start .now)
+inside : (c : tie.Else1 Inv-loop μ-loop) → c .before .before .before .before .loop .at
+    + c .before .first-of .result .size ≤ length (c .before .before .before .before .before .before .args .start .now)
 inside c =
-    let l = rest-length (c .before .before .before .before .before .before .args .start .now) (c .before .before .before .before .loop .at) in
+    let l = rest-length (c .before .before .before .before .before .before .args .start .now)
+    (c .before .before .before .before .loop .at) in
     let h = c .before .first-of .ensures in
     omega arith
 
