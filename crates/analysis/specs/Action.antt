@@ -17,10 +17,12 @@ use Rattle.store.specs.Place.{StoredValue, absent, present, objectValue}
 use Rattle.store.specs.Held.{storedBytes, storedByte}
 use Rattle.analysis.specs.Choice.{denialStage, onlineStage, defaultStage, actionCodesAt, terminalActionAnalysis}
 use Rattle.analysis.specs.Digits.{isOneOf, firstDateIsLater, amountOf, firstAmountIsAbove}
-use Rattle.analysis.specs.Restrictions.{cardVersionPresentAndDiffers, notYetEffective, isAtmTypeWithCashCapability, issuerCountryMatch}
+use Rattle.analysis.specs.Restrictions.{cardVersionPresentAndDiffers, notYetEffective}
+use Rattle.analysis.specs.Restrictions.{isAtmTypeWithCashCapability, issuerCountryMatch}
 use Rattle.analysis.specs.Restrictions.{cashbackRequested, aucViolated, tvrByte2VersionExpiredEarlyUsage}
 use Rattle.analysis.specs.Tvr.{tvrByte4AmountAboveFloorLimit, tvrFromBytes2And4, tvrWithBits}
-use Rattle.analysis.specs.Cvm.{cvmAmountX, cvmAmountY, cvmProcessing, aipAndConfigurationSupportOnDeviceCvm, onDeviceCvmResultByAboveLimit}
+use Rattle.analysis.specs.Cvm.{cvmAmountX, cvmAmountY, cvmProcessing, aipAndConfigurationSupportOnDeviceCvm}
+use Rattle.analysis.specs.Cvm.{onDeviceCvmResultByAboveLimit}
 use Rattle.analysis.specs.Cvm.{cvmResultsBytes, cvmTvrBits}
 use Rattle.analysis.specs.declared.action.AnalysisFindings.{AnalysisFindings}
 use Rattle.analysis.specs.declared.choice.Choice.{Choice}
@@ -78,7 +80,8 @@ restrictionsTvrByte2 store =
 -- the five bytes of 95 by restrictions and floor limit
 unfoldable pub tvrBeforeCvm : StoreBytes → TvrBytes
 tvrBeforeCvm store =
-    tvrFromBytes2And4 (restrictionsTvrByte2 store) (tvrByte4AmountAboveFloorLimit (storedBytes store 0x9F02) (storedBytes store 0xDF8123))
+    tvrFromBytes2And4 (restrictionsTvrByte2 store) (tvrByte4AmountAboveFloorLimit (storedBytes store 0x9F02)
+        (storedBytes store 0xDF8123))
 
 -- ---- cardholder verification
 
@@ -106,7 +109,8 @@ cvmConditionsIn store =
 -- the CVM: with on-device CVM by the limit DF8126 alone, else by the AIP (82) and the CVM List (8E)
 unfoldable pub cvmResultIn : StoreBytes → CvmResult
 cvmResultIn store =
-    if cardAndKernelSupportOnDeviceCvm store then onDeviceCvmResultByAboveLimit (firstAmountIsAbove (storedBytes store 0x9F02) (storedBytes store 0xDF8126))
+    if cardAndKernelSupportOnDeviceCvm store then onDeviceCvmResultByAboveLimit
+        (firstAmountIsAbove (storedBytes store 0x9F02) (storedBytes store 0xDF8126))
     else cvmProcessing (storedByte store 0x82 1) (objectValue store 0x8E) (cvmConditionsIn store)
 
 -- the five bytes of 95 with the bits that the verification adds

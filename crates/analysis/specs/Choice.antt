@@ -25,7 +25,8 @@ use Rattle.analysis.specs.declared.choice.Choice.the-variants.{Decline, 
 -- a stage holds bit i: the TVR has it, and so has the card's code or the terminal's
 unfoldable pub tvrBitIsInEitherActionCode : TvrBytes → ActionCodes → ℕ → Bool
 tvrBitIsInEitherActionCode result pair i =
-    hasBitCountedFromZeroAtByte1B8 result i and (hasBitCountedFromZeroAtByte1B8 (pair .card) i or hasBitCountedFromZeroAtByte1B8 (pair .terminal) i)
+    hasBitCountedFromZeroAtByte1B8 result i
+        and (hasBitCountedFromZeroAtByte1B8 (pair .card) i or hasBitCountedFromZeroAtByte1B8 (pair .terminal) i)
 
 -- the lowest of the n numbers from i on that passes a test
 unfoldable pub lowestBitFrom : (ℕ → Bool) → ℕ → ℕ → LowestBit
@@ -130,6 +131,8 @@ unfoldable pub generateAcP1For : TvrBytes → Byte → List ActionCodes → Byte
 generateAcP1For result kind pairs =
     if someTvrBitInCodesOfStage result pairs denialStage then 0x00
     else if isOneOf (terminalTypeLastDigit kind) 1 4 then 0x80
-    else if isOneOf (terminalTypeLastDigit kind) 3 6 then (if someTvrBitInCodesOfStage result pairs defaultStage then 0x00 else 0x40)
-    else if isOneOf (terminalTypeLastDigit kind) 2 5 then (if someTvrBitInCodesOfStage result pairs onlineStage then 0x80 else 0x40)
+    else if isOneOf (terminalTypeLastDigit kind) 3 6 then (if someTvrBitInCodesOfStage result pairs defaultStage
+        then 0x00 else 0x40)
+    else if isOneOf (terminalTypeLastDigit kind) 2 5 then (if someTvrBitInCodesOfStage result pairs onlineStage
+        then 0x80 else 0x40)
     else 0x00

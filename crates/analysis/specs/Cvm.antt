@@ -102,9 +102,11 @@ cvmSupported capabilities code =
     if cvmMethodOf code =? cvmCodeFail then true
     else if cvmMethodOf code =? cvmCodePlaintextPin then byteHasBit capabilities 8
     else if cvmMethodOf code =? cvmCodeOnlinePin then byteHasBit capabilities 7
-    else if cvmMethodOf code =? cvmCodePlaintextPinAndSignature then byteHasBit capabilities 8 and byteHasBit capabilities 6
+    else if cvmMethodOf code =? cvmCodePlaintextPinAndSignature then byteHasBit capabilities 8
+        and byteHasBit capabilities 6
     else if cvmMethodOf code =? cvmCodeEncipheredPin then byteHasBit capabilities 5
-    else if cvmMethodOf code =? cvmCodeEncipheredPinAndSignature then byteHasBit capabilities 5 and byteHasBit capabilities 6
+    else if cvmMethodOf code =? cvmCodeEncipheredPinAndSignature then byteHasBit capabilities 5
+        and byteHasBit capabilities 6
     else if cvmMethodOf code =? cvmCodeSignature then byteHasBit capabilities 6
     else if cvmMethodOf code =? cvmCodeNoCvm then byteHasBit capabilities 4
     else false
@@ -172,12 +174,14 @@ cvmResultOfSupported code condition unrecognised =
 -- CVM.14 and CVM.25: no rule is left, or an unsuccessful one, other than fail, ends the list
 abbrev pub cvmResultNoRuleSucceeded : Bool → CvmResult
 cvmResultNoRuleSucceeded unrecognised =
-    cvmResult cvmCodeNotPerformed cvmConditionAlways cvmResultFailed (tvrByte3FailedUnrecognisedOnlinePin true unrecognised false) NoCvm
+    cvmResult cvmCodeNotPerformed cvmConditionAlways cvmResultFailed
+        (tvrByte3FailedUnrecognisedOnlinePin true unrecognised false) NoCvm
 
 -- CVM.22 to CVM.25: fail keeps its code and condition
 unfoldable pub cvmResultOfUnsuccessful : Byte → Byte → Bool → CvmResult
 cvmResultOfUnsuccessful code condition unrecognised =
-    if cvmMethodOf code =? cvmCodeFail then cvmResult code condition cvmResultFailed (tvrByte3FailedUnrecognisedOnlinePin true unrecognised false) NoCvm
+    if cvmMethodOf code =? cvmCodeFail then cvmResult code condition cvmResultFailed
+        (tvrByte3FailedUnrecognisedOnlinePin true unrecognised false) NoCvm
     else cvmResultNoRuleSucceeded unrecognised
 
 -- CVM.19, CVM.20: the next rule follows an unsuccessful one with b7 where there is one
@@ -197,7 +201,8 @@ cvmResultByRules t u (r ∷ rs) =
 -- CVM.6 and CVM.8: no CVM, of which nothing is known; a list that is missing is byte 1 b6 of 95
 abbrev pub cvmResultNotPerformed : Bool → CvmResult
 cvmResultNotPerformed missing =
-    record { code = cvmCodeNotPerformed; condition = cvmConditionAlways; result = cvmResultUnknown; tvr1 = bitWeightIfSet 6 missing;
+    record { code = cvmCodeNotPerformed; condition = cvmConditionAlways; result = cvmResultUnknown; tvr1 =
+        bitWeightIfSet 6 missing;
       tvr3 = 0; cvm = NoCvm }
 
 -- CVM.7: by the list, where there is one; an empty one counts as missing

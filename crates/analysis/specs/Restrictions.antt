@@ -56,7 +56,8 @@ aucAllowsAtmOrNonAtm usage atm = if atm then valueHasBit usage 1 2 else valueHas
 -- cash, transaction type 9C of 01 or 17: byte 1 b8 at home, b7 abroad
 unfoldable pub aucAllowsCash : Value → IssuerCountryMatch → Byte → Bool
 aucAllowsCash usage country transaction =
-    if isOneOf transaction 0x01 0x17 then requirementByCountry country (valueHasBit usage 1 8) (valueHasBit usage 1 7) else true
+    if isOneOf transaction 0x01 0x17 then requirementByCountry country (valueHasBit usage 1 8) (valueHasBit usage 1 7)
+        else true
 
 -- goods or services, type of 00 or 09: byte 1 b6 or b4 at home, b5 or b3 abroad
 unfoldable pub aucAllowsGoodsOrServices : Value → IssuerCountryMatch → Byte → Bool

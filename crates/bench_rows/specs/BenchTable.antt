@@ -80,7 +80,8 @@ benchGpoAnswer = 0x80 ∷ 0x06 ∷ 0x00 ∷ 0x80 ∷ 0x08 ∷ 0x01 ∷ 0x01 ∷ 
 
 -- the two commands, whatever the caller's buffers
 pub record BenchFirstTwoCommands (startBuffer answerBuffer : Buffer) : Type 0 where
-  pub gpo : HandsOutCommand (0x80 ∷ 0xA8 ∷ 0x00 ∷ 0x00 ∷ 0x02 ∷ 0x83 ∷ 0x00 ∷ 0x00 ∷ []) startBuffer (benchStartStep startBuffer)
+  pub gpo : HandsOutCommand (0x80 ∷ 0xA8 ∷ 0x00 ∷ 0x00 ∷ 0x02 ∷ 0x83 ∷ 0x00 ∷ 0x00 ∷ []) startBuffer
+      (benchStartStep startBuffer)
   pub record-1 : HandsOutCommand (0x00 ∷ 0xB2 ∷ 0x01 ∷ 0x0C ∷ 0x00 ∷ []) answerBuffer
     (answerStep (benchStartStep startBuffer .reply .session) benchGpoAnswer answerBuffer)
 
@@ -133,11 +134,13 @@ pub record BenchTable : Type 0 where
   -- one object
   pub empty : benchRecordReading (0x70 ∷ 0x00 ∷ []) ≡ readingOutcome 0 1 benchEmptyStore
   -- two objects, stored
-  pub version : ReadsTwoObjectsStoresOnlyCardVersion (benchRecordReading (0x70 ∷ 0x05 ∷ 0x9F ∷ 0x08 ∷ 0x02 ∷ 0x00 ∷ 0x02 ∷ []))
+  pub version : ReadsTwoObjectsStoresOnlyCardVersion
+      (benchRecordReading (0x70 ∷ 0x05 ∷ 0x9F ∷ 0x08 ∷ 0x02 ∷ 0x00 ∷ 0x02 ∷ []))
   -- reason 3: the TVR is not the card's to set
   pub results-sent : benchRecordReading (0x70 ∷ 0x03 ∷ 0x95 ∷ 0x01 ∷ 0x00 ∷ []) ≡ readingOutcome 3 2 benchEmptyStore
   -- accepted, nothing stored: a terminal's private object
-  pub private : benchRecordReading (0x70 ∷ 0x05 ∷ 0xDF ∷ 0x81 ∷ 0x23 ∷ 0x01 ∷ 0x00 ∷ []) ≡ readingOutcome 0 2 benchEmptyStore
+  pub private : benchRecordReading (0x70 ∷ 0x05 ∷ 0xDF ∷ 0x81 ∷ 0x23 ∷ 0x01 ∷ 0x00 ∷ []) ≡ readingOutcome 0 2
+      benchEmptyStore
   -- four levels, four objects
   pub four-levels : benchRecordReading (0x70 ∷ 0x06 ∷ 0xE1 ∷ 0x04 ∷ 0xE1 ∷ 0x02 ∷ 0xE1 ∷ 0x00 ∷ [])
     ≡ readingOutcome 0 4 benchEmptyStore

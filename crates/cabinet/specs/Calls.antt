@@ -17,7 +17,8 @@ use Rattle.session.specs.Start.{startStep}
 use Rattle.session.specs.Answer.{answerStep}
 use Rattle.layout.specs.Word.{refusalWord, resultWord}
 use Rattle.session_record.specs.Session.{isEnded}
-use Rattle.cabinet.specs.State.{Cabinet, cabinet, greatestTwelveDigitAmount, cabinetStateSize, cabinetWrittenOverFront}
+use Rattle.cabinet.specs.State.{Cabinet, cabinet, greatestTwelveDigitAmount, cabinetStateSize}
+use Rattle.cabinet.specs.State.{cabinetWrittenOverFront}
 use Rattle.cabinet.specs.State.{storedAmountAuthorized, decodedCabinetIfValid}
 
 -- ---- refusals besides the kernel's
@@ -39,7 +40,8 @@ pub record CabinetResult : Type 0 where
   pub buffer : Buffer
 
 -- the returned word w, the state's bytes l and the buffer b are those of d
-pub record ReturnsCabinetResult (returnedWord : ResultWord) (stateAfter : Bytes) (bufferAfter : Buffer) (expected : CabinetResult) : Type 0 where
+pub record ReturnsCabinetResult (returnedWord : ResultWord) (stateAfter : Bytes) (bufferAfter : Buffer)
+    (expected : CabinetResult) : Type 0 where
   pub word : returnedWord ≡ expected .word
   pub state : stateAfter ≡ expected .state
   pub buffer : bufferAfter ≡ expected .buffer
@@ -152,7 +154,8 @@ cabinetOpenState cap l =
     else cabinetWrittenOverFront (cabinet freshSession cap 0) l
 
 -- the word w, and the bytes before and after
-pub record OpensCabinetOrRefuses (cap : Amount) (returnedWord : ResultWord) (stateBefore stateAfter : Bytes) : Type 0 where
+pub record OpensCabinetOrRefuses (cap : Amount) (returnedWord : ResultWord) (stateBefore stateAfter : Bytes) : Type 0
+    where
   pub word : returnedWord ≡ cabinetOpenWord cap stateBefore
   pub state : stateAfter ≡ cabinetOpenState cap stateBefore
 

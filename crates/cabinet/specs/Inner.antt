@@ -16,12 +16,14 @@ use Rattle.session_record.specs.Session.{sessionOf, freshSession}
 use Rattle.session_record.specs.Ranges.{sessionRecordInRanges}
 use Rattle.session.specs.Steps.{leastBuffer}
 use Rattle.session.specs.Start.{startStep}
-use Rattle.layout.specs.Layout.{recordHeadSize, sessionRecordSize, bigEndianBytes, decodedSession, recordHeadWrittenOverFrontIfRoom}
+use Rattle.layout.specs.Layout.{recordHeadSize, sessionRecordSize, bigEndianBytes, decodedSession}
+use Rattle.layout.specs.Layout.{recordHeadWrittenOverFrontIfRoom}
 use Rattle.layout.specs.Word.{refusalWord}
 use Rattle.cabinet.specs.declared.Amounts.{Amounts}
 use Rattle.cabinet.specs.declared.CabinetWithoutStore.{CabinetWithoutStore}
 use Rattle.cabinet.specs.declared.CabinetAdmission.{CabinetAdmission}
-use Rattle.cabinet.specs.State.{Cabinet, cabinet, cabinetStateSize, remainingInCabinetState, reservedInCabinetState, reservedMatchesSessionAndSumInRange}
+use Rattle.cabinet.specs.State.{Cabinet, cabinet, cabinetStateSize, remainingInCabinetState}
+use Rattle.cabinet.specs.State.{reservedInCabinetState, reservedMatchesSessionAndSumInRange}
 use Rattle.cabinet.specs.Calls.{CabinetResult, cabinetRefusal, remainingAfterOutcome, cabinetStartByResult}
 
 -- ---- the first tests
@@ -109,9 +111,11 @@ amountsAfterResult (CallResult.Refused r) a = a
 -- the head and the amounts of a transition around the store that lies in its place; a refusal writes nothing
 abbrev pub stateAfterResult : CallResult → Transition → Amounts → Bytes → Bytes
 stateAfterResult (CallResult.Command x) t a l =
-    stateWithAmounts (amountsAfterResult (CallResult.Command x) a) (recordHeadWrittenOverFrontIfRoom (t .phase) (t .count) l)
+    stateWithAmounts (amountsAfterResult (CallResult.Command x) a)
+        (recordHeadWrittenOverFrontIfRoom (t .phase) (t .count) l)
 stateAfterResult (CallResult.Outcome e) t a l =
-    stateWithAmounts (amountsAfterResult (CallResult.Outcome e) a) (recordHeadWrittenOverFrontIfRoom (t .phase) (t .count) l)
+    stateWithAmounts (amountsAfterResult (CallResult.Outcome e) a)
+        (recordHeadWrittenOverFrontIfRoom (t .phase) (t .count) l)
 stateAfterResult (CallResult.Refused r) t a l = l
 
 abbrev pub stateAfterTransition : Transition → Amounts → Bytes → Bytes

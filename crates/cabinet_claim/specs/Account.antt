@@ -117,12 +117,14 @@ cabinetCallNotRefusedWith25 m = not (m .word =? refusalWord refusalRecordOutOfRa
 
 -- ms are the calls of a list made one after the other (`playCabinetCalls`) since an opening with this cap was accepted,
 -- and l are the bytes that the last of them left (`finalCabinetState`), those of the opening where there are none
-pub record RemainingReservedApprovedSumToCap (cap : Amount) (callsMade : List CabinetCallMade) (stateAfter : Bytes) : Type 0 where
+pub record RemainingReservedApprovedSumToCap (cap : Amount) (callsMade : List CabinetCallMade) (stateAfter : Bytes) :
+    Type 0 where
   -- the bytes hold a cabinet in order: what is reserved is the running session's amount, 0 where none runs
   pub state : Cabinet
   pub held : decodedCabinetIfValid stateAfter ≡ some state
   -- the remaining and reserved amounts and those of approved sessions are together the cap
-  pub balance : state .remaining + state .reserved + accountSinceOpening cap callsMade .approved ≡ accountSinceOpening cap callsMade .cap
+  pub balance : state .remaining + state .reserved + accountSinceOpening cap callsMade .approved ≡ accountSinceOpening
+      cap callsMade .cap
   -- so approvals never come to more than the cap, and no cap is over the greatest amount
   pub never-over : accountSinceOpening cap callsMade .approved ≤ accountSinceOpening cap callsMade .cap
   pub cap-fits : accountSinceOpening cap callsMade .cap ≤ greatestTwelveDigitAmount

@@ -15,7 +15,8 @@ use Rattle.layout.specs.Layout.{decodedSession}
 use Rattle.layout.specs.Word.{resultWord}
 use Rattle.session.specs.Calls.{isRefusal}
 use Rattle.cabinet.specs.State.{Cabinet}
-use Rattle.cabinet.specs.Calls.{CabinetResult, refusedAmountOverRemaining, cabinetRefusal, sessionForNewStart, amountOfStartStep}
+use Rattle.cabinet.specs.Calls.{CabinetResult, refusedAmountOverRemaining, cabinetRefusal, sessionForNewStart}
+use Rattle.cabinet.specs.Calls.{amountOfStartStep}
 use Rattle.cabinet.specs.Calls.{cabinetStart, cabinetAnswer, cabinetLinkFailed, cabinetStop}
 
 -- the word, the buffer and the session of the kernel's step
@@ -25,7 +26,8 @@ pub record CabinetResultSameAsKernelStep (kernelStep : Step) (cabinetResult : Ca
   pub session : decodedSession (cabinetResult .state) ≡ some (kernelStep .reply .session)
 
 -- a start on the state's bytes l with a buffer
-pub record CabinetStartAsKernelIfAmountRemains (cabinetBefore : Cabinet) (kernelStep : Step) (stateBefore : Bytes) (bufferBefore : Buffer) (cabinetResult : CabinetResult) : Type 0 where
+pub record CabinetStartAsKernelIfAmountRemains (cabinetBefore : Cabinet) (kernelStep : Step) (stateBefore : Bytes)
+    (bufferBefore : Buffer) (cabinetResult : CabinetResult) : Type 0 where
   -- what the kernel refuses is refused by the same number, and an ended session stays
   pub refused : (r : Refusal) → kernelStep .reply .answer ≡ CallResult.Refused r
       → cabinetResult ≡ cabinetRefusal (r .number) stateBefore bufferBefore
@@ -38,9 +40,11 @@ pub record CabinetStartAsKernelIfAmountRemains (cabinetBefore : Cabinet) (kernel
 -- every call on bytes l that hold the cabinet c
 pub record CabinetCallsAsKernel (cabinetBefore : Cabinet) (stateBefore : Bytes) : Type 0 where
   pub start : (bytes : StartBytes) (buf : Buffer)
-      → CabinetStartAsKernelIfAmountRemains cabinetBefore (startStep (sessionForNewStart (cabinetBefore .session)) bytes buf) stateBefore buf (cabinetStart bytes stateBefore buf)
+      → CabinetStartAsKernelIfAmountRemains cabinetBefore (startStep (sessionForNewStart (cabinetBefore .session)) bytes
+          buf) stateBefore buf (cabinetStart bytes stateBefore buf)
   pub answer : (card : Response) (buf : Buffer)
-      → CabinetResultSameAsKernelStep (answerStep (cabinetBefore .session) card buf) (cabinetAnswer card stateBefore buf)
+      → CabinetResultSameAsKernelStep (answerStep (cabinetBefore .session) card buf)
+          (cabinetAnswer card stateBefore buf)
   pub link-failed : (buf : Buffer)
       → CabinetResultSameAsKernelStep (linkFailedStep (cabinetBefore .session) buf) (cabinetLinkFailed stateBefore buf)
   pub stop : (buf : Buffer)

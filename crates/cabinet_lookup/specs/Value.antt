@@ -41,7 +41,8 @@ valueOrDefault (some v) w = v
 -- the site's value of the tag, else that of the defaults, else no bytes
 abbrev pub lookupValue : Tag → StartBytes → StartBytes → Value
 lookupValue tag site defaults =
-    valueOrDefault (firstValueOfTag tag (leadingPrimitiveObjects site)) (valueOrDefault (firstValueOfTag tag (leadingPrimitiveObjects defaults)) [])
+    valueOrDefault (firstValueOfTag tag (leadingPrimitiveObjects site))
+        (valueOrDefault (firstValueOfTag tag (leadingPrimitiveObjects defaults)) [])
 
 -- ---- what holds of it, proved in proofs/Laws for all lists
 --   held-unroll    held s ≡ nextHeld held s: the steps allowed do not matter

@@ -32,7 +32,8 @@ sourceByValues none none = sourceNowhere
 -- the source of the value of the tag
 abbrev pub lookupSource : Tag → StartBytes → StartBytes → ℕ
 lookupSource tag site defaults =
-    sourceByValues (firstValueOfTag tag (leadingPrimitiveObjects site)) (firstValueOfTag tag (leadingPrimitiveObjects defaults))
+    sourceByValues (firstValueOfTag tag (leadingPrimitiveObjects site))
+        (firstValueOfTag tag (leadingPrimitiveObjects defaults))
 
 -- ---- the word
 

@@ -98,7 +98,8 @@ abbrev pub parseCallsStep : (Bytes → Option (List Call)) → Bytes → Option 
 parseCallsStep k [] = some []
 parseCallsStep k (b ∷ s) =
     let h = callHeaderIn (b ∷ s) in
-    if beginsWithWholeCall (b ∷ s) then prependCall (callByHeader (b ∷ s) h) (k (drop (callEndOffset h) (b ∷ s))) else none
+    if beginsWithWholeCall (b ∷ s) then prependCall (callByHeader (b ∷ s) h) (k (drop (callEndOffset h) (b ∷ s)))
+        else none
 
 -- the calls of some bytes, or none where they are no list of calls
 unfoldable pub parsedCalls : Bytes → Option (List Call)

@@ -52,9 +52,12 @@ stepWithBufferInCallBytes s h st =
     record { reply = st .reply; buffer = callBytesWithBuffer s h (st .buffer) (drop (callEndOffset h) s) }
 
 -- the call at the front of the calls is played
-pub record PlaysOneCall (played : CallPlayed) (callsAfter repliesAfter : Bytes) (sessionBefore : Session) (callsBefore repliesBefore : Bytes) : Type 0 where
-  pub session : played .session ≡ callStep sessionBefore (callByHeader callsBefore (callHeaderIn callsBefore)) .reply .session
+pub record PlaysOneCall (played : CallPlayed) (callsAfter repliesAfter : Bytes) (sessionBefore : Session)
+    (callsBefore repliesBefore : Bytes) : Type 0 where
+  pub session : played .session ≡ callStep sessionBefore
+      (callByHeader callsBefore (callHeaderIn callsBefore)) .reply .session
   pub size : played .size ≡ callEndOffset (callHeaderIn callsBefore)
-  pub calls-after : let h = callHeaderIn callsBefore in callsAfter ≡ stepWithBufferInCallBytes callsBefore h (callStep sessionBefore (callByHeader callsBefore h)) .buffer
+  pub calls-after : let h = callHeaderIn callsBefore in callsAfter ≡ stepWithBufferInCallBytes callsBefore h
+      (callStep sessionBefore (callByHeader callsBefore h)) .buffer
   pub replies-after : let st = callStep sessionBefore (callByHeader callsBefore (callHeaderIn callsBefore)) in
       repliesAfter ≡ replyBytes (st .reply) ++ drop replySize repliesBefore

@@ -76,13 +76,16 @@ playResultOf (some cs) replies =
     else PlayResult.TooShort
 
 -- the calls cs are played on a fresh session: the session s at the end, and both slices
-pub record PlaysCalls (sessionAfter : Session) (callsAfter repliesAfter callsBefore repliesBefore : Bytes) (callsToPlay : List Call) : Type 0 where
+pub record PlaysCalls (sessionAfter : Session) (callsAfter repliesAfter callsBefore repliesBefore : Bytes)
+    (callsToPlay : List Call) : Type 0 where
   pub session : sessionAfter ≡ finalSession freshSession callsToPlay
   pub calls-after : callsAfter ≡ callBytesAfterPlay callsBefore (playCalls freshSession callsToPlay)
-  pub replies-after : repliesAfter ≡ replyBytesOfCalls (playCalls freshSession callsToPlay) ++ drop (replySize * length callsToPlay) repliesBefore
+  pub replies-after : repliesAfter ≡ replyBytesOfCalls (playCalls freshSession callsToPlay)
+      ++ drop (replySize * length callsToPlay) repliesBefore
 
 -- what a run returns and leaves, where cs are the calls that are played, and the claim over them
-pub record PlaysListInPublishedOrder (listPlayed : ListPlayed) (callsAfter repliesAfter callsBefore repliesBefore : Bytes) (callsToPlay : List Call) : Type 0 where
+pub record PlaysListInPublishedOrder (listPlayed : ListPlayed)
+    (callsAfter repliesAfter callsBefore repliesBefore : Bytes) (callsToPlay : List Call) : Type 0 where
   pub said : listPlayed .said ≡ playResultOf (parsedCalls callsBefore) repliesBefore
   pub played : PlaysCalls (listPlayed .session) callsAfter repliesAfter callsBefore repliesBefore callsToPlay
   pub claim : CallsAndSessionAfterInPublishedOrder (playCalls freshSession callsToPlay) (listPlayed .session)

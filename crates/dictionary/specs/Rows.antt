@@ -9,8 +9,10 @@ use Rattle.basics.specs.Types.{Tag, Count, RowNumber}
 use Rattle.dictionary.specs.declared.RowFound.{RowFound}
 use Rattle.dictionary.specs.declared.RowFound.the-variants.{At, Unknown}
 pub use Rattle.dictionary.specs.Row.{Row, row, formB, formN, formCn, setByStart, setByCard, setBySession}
-pub use Rattle.dictionary.specs.Row.{inNoTemplate, inTemplate70, inTemplate77, inTemplateA5, inTemplateBF0C, inTemplate6F, inNoResponse, inGpoResponse}
-pub use Rattle.dictionary.specs.Row.{inRecordResponse, inGenerateAcResponse, inChecksumResponse, inAcOrChecksumResponse}
+pub use Rattle.dictionary.specs.Row.{inNoTemplate, inTemplate70, inTemplate77, inTemplateA5, inTemplateBF0C,
+    inTemplate6F, inNoResponse, inGpoResponse}
+pub use Rattle.dictionary.specs.Row.{inRecordResponse, inGenerateAcResponse, inChecksumResponse,
+    inAcOrChecksumResponse}
 pub use Rattle.dictionary.specs.Row.{inAnyResponse, optionalAtStart, requiredAtStart}
 unfoldable pub use Rattle.dictionary.specs.AnnexA.{dictionaryRows}
 pub use Rattle.dictionary.specs.AnnexA.{rowCount, storeSize}

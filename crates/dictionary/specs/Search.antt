@@ -94,7 +94,8 @@ pub record ProbesCountedAndSufficient (tags : TagList) (wanted : Tag) (result : 
   pub count : length (probedPlaces tags wanted) ≡ result .probes
   pub within : every (λ place. place <? length tags) (probedPlaces tags wanted) ≡ true
   pub enough : (other : TagList) → length other ≡ length tags
-      → tagsAt other (probedPlaces tags wanted) ≡ tagsAt tags (probedPlaces tags wanted) → halvingSearchResult other wanted ≡ result
+      → tagsAt other (probedPlaces tags wanted) ≡ tagsAt tags (probedPlaces tags wanted)
+          → halvingSearchResult other wanted ≡ result
 
 -- ---- the search of a part of a table
 

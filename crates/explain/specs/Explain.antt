@@ -14,7 +14,8 @@ use Rattle.basics.specs.Types.{Byte, StoreBytes, TvrBytes, TagList}
 use Rattle.store.specs.Held.{hasObject, lacksObject, storedBytes, storedByte}
 use Rattle.analysis.specs.Value.{firstBytesZeroPadded}
 use Rattle.analysis.specs.Bits.{hasBitCountedFromZeroAtByte1B8}
-use Rattle.analysis.specs.Choice.{lowestTvrBitInCodes, denialStage, onlineStage, defaultStage, allZerosActionCode, noActionCodes}
+use Rattle.analysis.specs.Choice.{lowestTvrBitInCodes, denialStage, onlineStage, defaultStage, allZerosActionCode}
+use Rattle.analysis.specs.Choice.{noActionCodes}
 use Rattle.analysis.specs.Choice.{someTvrBitInCodesOfStage, onlineCapabilityOfType, generateAcP1}
 use Rattle.analysis.specs.Action.{terminalType, actionCodesOf, choiceForTvr}
 use Rattle.analysis.specs.declared.choice.OnlineCapability.{OnlineCapability}
@@ -59,7 +60,8 @@ decidingStageByDenialBit OnlineCapability.Unlisted      false = DecidingStage.No
 -- of a store; an absent type reads as one with another ending
 unfoldable pub decidingStageIn : StoreBytes → DecidingStage
 decidingStageIn b =
-    decidingStageByDenialBit (onlineCapabilityOfType (terminalType b)) (someTvrBitInCodesOfStage (storedTvr b) (actionCodesOf b) denialStage)
+    decidingStageByDenialBit (onlineCapabilityOfType (terminalType b))
+        (someTvrBitInCodesOfStage (storedTvr b) (actionCodesOf b) denialStage)
 
 -- the terminal's code of a stage after denial
 abbrev pub tacTagsOfStageAfterDenial : Stage → TagList
@@ -155,7 +157,8 @@ explanationOfDecision e b (DecidingStage.At stage) =
     let choice = recomputedChoice b in
     if lacksObject b 0x9F27 then Explanation.Refused
     else if not (isDecisionOutcome (outcomeForCryptogramType choice kind) (e .outcome)) then Explanation.Refused
-    else if rankOfCryptogramType kind <? rankOfCryptogramType (requestedCryptogramType choice) then Explanation.LowerCryptogram
+    else if rankOfCryptogramType kind <? rankOfCryptogramType (requestedCryptogramType choice)
+        then Explanation.LowerCryptogram
     else explanationAtStage b stage
 
 -- a reason other than 0 is the answer itself

@@ -23,7 +23,8 @@ use Rattle.explain.specs.declared.Stage.{Stage}
 use Rattle.explain.specs.declared.DecidingStage.{DecidingStage}
 use Rattle.explain.specs.declared.ForcedChoiceCause.{ForcedChoiceCause}
 use Rattle.explain.specs.declared.Explanation.{Explanation}
-use Rattle.explain.specs.Explain.{storedTvr, recomputedChoice, decidingStageIfItsDataPresent, actionCodeHolderOfBit, actionCodesOfStage}
+use Rattle.explain.specs.Explain.{storedTvr, recomputedChoice, decidingStageIfItsDataPresent}
+use Rattle.explain.specs.Explain.{actionCodeHolderOfBit, actionCodesOfStage}
 use Rattle.explain.specs.Explain.{rankOfCryptogramType, storedCryptogramType, requestedCryptogramType}
 use Rattle.explain.specs.Explain.{aipIndicatesMagStripe, explanationOf}
 
@@ -48,7 +49,8 @@ pub record ForcedChoiceExplained (store : StoreBytes) (cause : ForcedChoiceCause
   pub within : cause .bit < 40
   pub set : hasBitCountedFromZeroAtByte1B8 (storedTvr store) (cause .bit) ≡ true
   pub held : let pair = actionCodesOfStage store (cause .stage) in
-      (hasBitCountedFromZeroAtByte1B8 (pair .card) (cause .bit) or hasBitCountedFromZeroAtByte1B8 (pair .terminal) (cause .bit)) ≡ true
+      (hasBitCountedFromZeroAtByte1B8 (pair .card) (cause .bit) or hasBitCountedFromZeroAtByte1B8 (pair .terminal)
+          (cause .bit)) ≡ true
   pub lowest : (i : ℕ) → i < cause .bit
       → tvrBitIsInEitherActionCode (storedTvr store) (actionCodesOfStage store (cause .stage)) i ≡ false
   pub holder : cause .holder ≡ actionCodeHolderOfBit (actionCodesOfStage store (cause .stage)) (cause .bit)
@@ -84,7 +86,8 @@ pub record ExplanationHolds (session : Session) (explanation : Explanation) : Ty
       → (explanation ≡ Explanation.Refused → ⊥) → a .choice ≡ recomputedChoice (storeBytes session)
   pub decided : (e : Ending) → session .phase ≡ Phase.Ended e → e .reason ≡ reasonNone
       → (explanation ≡ Explanation.Refused → ⊥)
-      → aipIndicatesMagStripe (storeBytes session) ≡ false → StoredCryptogramDecidesOutcome (storeBytes session) (e .outcome)
+      → aipIndicatesMagStripe (storeBytes session) ≡ false → StoredCryptogramDecidesOutcome (storeBytes session)
+          (e .outcome)
   pub without : (e : Ending) → session .phase ≡ Phase.Ended e → e .reason ≡ reasonNone
       → explanation ≡ Explanation.NoChoice
       → aipIndicatesMagStripe (storeBytes session) ≡ true

@@ -29,7 +29,8 @@ use Rattle.explain.specs.declared.ForcedChoiceCause.{ForcedChoiceCause}
 use Rattle.explain.specs.declared.Explanation.{Explanation}
 use Rattle.explain.specs.declared.DecidingStage.{DecidingStage}
 use Rattle.explain.specs.declared.Stage.{Stage}
-use Rattle.explain.specs.Explain.{storedTvr, recomputedChoice, decidingStageIn, actionCodeHolderOfBit, actionCodesOfStage, rankOfCryptogramType}
+use Rattle.explain.specs.Explain.{storedTvr, recomputedChoice, decidingStageIn, actionCodeHolderOfBit}
+use Rattle.explain.specs.Explain.{actionCodesOfStage, rankOfCryptogramType}
 use Rattle.explain.specs.Explain.{storedCryptogramType, requestedCryptogramType, aipIndicatesMagStripe, explanationOf}
 use Rattle.explain.specs.Promise.{choiceForcedBy, choiceUnforcedAt}
 

@@ -66,7 +66,8 @@ abbrev pub foundFromNextInTemplate : Tag → (Bytes → Count → TagFound) → 
 foundFromNextInTemplate tag k s levels following.End = Absent
 foundFromNextInTemplate tag k s levels following.Malformed = Malformed
 foundFromNextInTemplate tag k s levels (following.Inner h) =
-    firstFoundUnlessMalformed (foundIfHeaderTag tag h) (firstFoundUnlessMalformed (foundInContents k s levels h) (foundAfterObject k s levels h))
+    firstFoundUnlessMalformed (foundIfHeaderTag tag h) (firstFoundUnlessMalformed (foundInContents k s levels h)
+        (foundAfterObject k s levels h))
 
 -- one step of the search, by what k finds in fewer bytes
 abbrev pub findTagStep : Tag → (Bytes → Count → TagFound) → Bytes → Count → TagFound

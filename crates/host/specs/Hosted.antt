@@ -24,7 +24,8 @@ pub record HostResult : Type 0 where
   pub buffer : Buffer
 
 -- the returned word w, the session's bytes l and the buffer b are those of h
-pub record ReturnsHostResult (returnedWord : ResultWord) (sessionBytesAfter : Bytes) (bufferAfter : Buffer) (expected : HostResult) : Type 0 where
+pub record ReturnsHostResult (returnedWord : ResultWord) (sessionBytesAfter : Bytes) (bufferAfter : Buffer)
+    (expected : HostResult) : Type 0 where
   pub word : returnedWord ≡ expected .word
   pub session : sessionBytesAfter ≡ expected .session
   pub buffer : bufferAfter ≡ expected .buffer

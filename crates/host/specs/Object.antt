@@ -39,7 +39,8 @@ pub record ObjectCopied : Type 0 where
   pub buffer : Bytes
 
 -- the returned word w and the caller's bytes l are those of c
-pub record ReturnsObjectCopied (returnedWord : ResultWord) (callerBytesAfter : Bytes) (expected : ObjectCopied) : Type 0 where
+pub record ReturnsObjectCopied (returnedWord : ResultWord) (callerBytesAfter : Bytes) (expected : ObjectCopied) : Type 0
+    where
   pub word : returnedWord ≡ expected .word
   pub buffer : callerBytesAfter ≡ expected .buffer
 

@@ -11,7 +11,8 @@ use Rattle.basics.specs.Reason.{refusalRecordOutOfRanges}
 use Rattle.layout.specs.Word.{resultWordKind, wordKindCommand, wordKindOutcome, wordKindRefusal, refusalWord}
 use Rattle.session_claim.specs.Calls.{isAnswer}
 use Rattle.session_record.specs.Session.{SessionStage, fresh, running, ended}
-use Rattle.session_claim.specs.Order.{cardBytes, aflInGpoResponse, aipInGpoResponse, CommandKind, cryptogram, finalCommandKindForAip}
+use Rattle.session_claim.specs.Order.{cardBytes, aflInGpoResponse, aipInGpoResponse, CommandKind, cryptogram}
+use Rattle.session_claim.specs.Order.{finalCommandKindForAip}
 use Rattle.host_claim.specs.Calls.{HostCall, opening, on-session, HostCallMade}
 
 -- ---- a result word

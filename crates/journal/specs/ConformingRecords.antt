@@ -94,7 +94,8 @@ ConformingBytesFromByteCalls =
 abbrev pub ConformingJournalsAccepted : Type 0
 ConformingJournalsAccepted =
     (cs : List Call) (m : Count) → m ≤ length (journalRecordsOf (playCalls freshSession cs))
-    → journalVerdictOf (journalOfRecords (take m (journalRecordsOf (playCalls freshSession cs)))) ≡ JournalVerdict.Accepted m
+    → journalVerdictOf (journalOfRecords (take m (journalRecordsOf (playCalls freshSession cs))))
+        ≡ JournalVerdict.Accepted m
 
 -- no accepted journal has more than 262 records
 abbrev pub AcceptedHasAtMost262Records : Type 0
@@ -104,7 +105,8 @@ AcceptedHasAtMost262Records = (s : JournalBytes) (m : Count) → journalVerdictO
 
 -- by these verdicts the bytes s are m - 1 conforming records and more; with d after these records there are m
 -- conforming ones, and so with nothing else
-pub record OnlyConformingRecord (verdictOf : JournalBytes → JournalVerdict) (recordNumber : Count) (journalBytes expectedRecord : JournalBytes) : Type 0 where
+pub record OnlyConformingRecord (verdictOf : JournalBytes → JournalVerdict) (recordNumber : Count)
+    (journalBytes expectedRecord : JournalBytes) : Type 0 where
   pub before : JournalBytes
   pub rest : JournalBytes
   pub splits : journalBytes ≡ before ++ rest
@@ -117,7 +119,8 @@ pub record OnlyConformingRecord (verdictOf : JournalBytes → JournalVerdict) (r
 abbrev pub ExpectedReplyOnlyConforming : Type 0
 ExpectedReplyOnlyConforming =
     (s : JournalBytes) (n : Count) → journalVerdictOf s ≡ JournalVerdict.Mismatch n
-    → 0 < length (expectedReplyAtFirstMismatch s) → OnlyConformingRecord journalVerdictOf n s (expectedReplyAtFirstMismatch s)
+    → 0 < length (expectedReplyAtFirstMismatch s)
+        → OnlyConformingRecord journalVerdictOf n s (expectedReplyAtFirstMismatch s)
 
 -- a reply is at the records of even number: there some bytes are given, and none where a call was expected
 abbrev pub ExpectedReplyAtEvenRecords : Type 0

@@ -39,7 +39,8 @@ expectedNextInState s = expectedNext (s .session) (take (s .size) (s .due))
 abbrev pub checkStateOf : ExpectedNext → JournalCheckState
 checkStateOf e =
     record {
-      session = e .session; due = zeroPadded commandJournalRecordSize (e .due); size = length (e .due); conforming = true
+      session = e .session; due = zeroPadded commandJournalRecordSize (e .due); size = length (e .due); conforming =
+          true
     }
 
 -- after a record that was judged; after a mismatching one only its conformance changes
@@ -52,7 +53,8 @@ checkStateAfterRecord s (some e) = checkStateOf e
 -- nothing was fed
 unfoldable pub newChecker : JournalChecker
 newChecker =
-    record { standing = checkStateOf expectedAtStart; held = replicate startJournalRecordSize 0; length = 0; records = 0 }
+    record { standing = checkStateOf expectedAtStart; held = replicate startJournalRecordSize 0; length = 0; records =
+        0 }
 
 -- no record was a mismatch, and every number is within its bound; else a checker stays as it is
 abbrev pub checkerConformingWithinBounds : JournalChecker → Bool
@@ -71,7 +73,8 @@ checkerHoldingOneMoreByte c h =
 abbrev pub checkerAfterJudgingRecord : JournalChecker → Bytes → JournalChecker
 checkerAfterJudgingRecord c h =
     record {
-      standing = checkStateAfterRecord (c .standing) (judgeRecord (expectedNextInState (c .standing)) (take (firstRecordSize h) h));
+      standing = checkStateAfterRecord (c .standing)
+          (judgeRecord (expectedNextInState (c .standing)) (take (firstRecordSize h) h));
       held = h;
       length = 0;
       records = c .records + 1;

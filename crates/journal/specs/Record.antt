@@ -120,13 +120,15 @@ answerOf259ZeroBytes = replicate (mostAnswerBytesInJournalRecord + 1) 0
 -- a start or an answer, where the record's length and body are in order
 abbrev pub startCallFromRecord : Bytes → Option Call
 startCallFromRecord r =
-    if journalLengthAndZeroPaddingValid mostStartBytesInJournalRecord r then some (start (journalRecordData r) journalCommandBuffer)
+    if journalLengthAndZeroPaddingValid mostStartBytesInJournalRecord r
+        then some (start (journalRecordData r) journalCommandBuffer)
     else none
 
 abbrev pub answerCallFromRecord : Bytes → Option Call
 answerCallFromRecord r =
     if isTooLongAnswerRecord r then some (answer answerOf259ZeroBytes journalCommandBuffer)
-    else if journalLengthAndZeroPaddingValid mostAnswerBytesInJournalRecord r then some (answer (journalRecordData r) journalCommandBuffer)
+    else if journalLengthAndZeroPaddingValid mostAnswerBytesInJournalRecord r
+        then some (answer (journalRecordData r) journalCommandBuffer)
     else none
 
 -- the call that a whole record stands for, if it stands for one

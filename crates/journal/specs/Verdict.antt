@@ -41,7 +41,8 @@ expectReplyUnlessEmpty s (b ∷ d) = some (expectedNext s (b ∷ d))
 abbrev pub judgeCall : Session → Option Call → Option ExpectedNext
 judgeCall s none = none
 judgeCall s (some c) =
-    let st = callStep s c in expectReplyUnlessEmpty (st .reply .session) (journalReplyRecord (st .reply .answer) (st .buffer))
+    let st = callStep s c in expectReplyUnlessEmpty (st .reply .session)
+        (journalReplyRecord (st .reply .answer) (st .buffer))
 
 -- where a call is expected, by the call; where a reply is expected, it must be that record byte for byte
 abbrev pub judgeRecordBy : Session → Bytes → Bytes → Option ExpectedNext

@@ -7,7 +7,8 @@ use Rattle.basics.specs.Types.{Bytes, StartBytes, Buffer, Length}
 use Rattle.basics.specs.Choice.{if_then_else_, _and_, _≤?_}
 use Rattle.session_record.specs.declared.CallResult.{CallResult}
 use Rattle.session.specs.Calls.{start}
-use Rattle.journal.specs.Record.{mostStartBytesInJournalRecord, mostCommandBytesInJournalRecord, startJournalRecordSize, commandJournalRecordSize}
+use Rattle.journal.specs.Record.{mostStartBytesInJournalRecord, mostCommandBytesInJournalRecord}
+use Rattle.journal.specs.Record.{startJournalRecordSize, commandJournalRecordSize}
 use Rattle.journal.specs.Record.{journalCallRecord, journalReplyRecord}
 
 -- a start of more than 1,024 bytes is refused and has no record

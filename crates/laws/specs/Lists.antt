@@ -15,8 +15,10 @@ FillsDol table store s v = dolFilled table store s ≡ some v
 -- a value v brought to m bytes and then to n is v brought to n at once: as padding alone, and as filling does it, which
 -- truncates a value that is too long
 pub record FittingTwiceIsFittingOnce (format : ℕ) (firstLength secondLength : Length) (value : Value) : Type 0 where
-  pub padding : paddedToLength format secondLength (paddedToLength format firstLength value) ≡ paddedToLength format secondLength value
-  pub fitting : fittedToLength format secondLength (fittedToLength format firstLength value) ≡ fittedToLength format secondLength value
+  pub padding : paddedToLength format secondLength (paddedToLength format firstLength value) ≡ paddedToLength format
+      secondLength value
+  pub fitting : fittedToLength format secondLength (fittedToLength format firstLength value) ≡ fittedToLength format
+      secondLength value
 
 -- ---- what holds of it: the promises `filling` and `padding` of `records_in_any_order`, by `filled-join`,
 -- `padded-twice` and `fitted-twice` (`dol`, proofs/Filling and proofs/Fitting)

@@ -17,7 +17,8 @@ use Rattle.tlv.specs.Tree.{Forest, end, leaf, node, parseTree}
 use Rattle.tlv.specs.Encoding.{objectBytes}
 use Rattle.reading.specs.declared.Sfi.{Sfi}
 use Rattle.reading.specs.declared.Awaited.the-variants.{Record}
-use Rattle.reading.specs.Answer.{ReadingOutcome, templateBody, readParsedBody, isStatus9000, responseLengthIs2To258, readAnswer}
+use Rattle.reading.specs.Answer.{ReadingOutcome, templateBody, readParsedBody, isStatus9000, responseLengthIs2To258}
+use Rattle.reading.specs.Answer.{readAnswer}
 
 -- ---- tags
 
@@ -39,7 +40,8 @@ recordContentsTree c = parseTree 3 c
 -- no tag of a primitive object is in both contents; a template's tag may be
 abbrev pub ShareNoPrimitiveTag : Bytes → Bytes → Type 0
 ShareNoPrimitiveTag c d =
-    (tag : Tag) → parsedTreeHasPrimitiveTag tag (recordContentsTree c) ≡ true → parsedTreeHasPrimitiveTag tag (recordContentsTree d) ≡ true → ⊥
+    (tag : Tag) → parsedTreeHasPrimitiveTag tag (recordContentsTree c) ≡ true
+        → parsedTreeHasPrimitiveTag tag (recordContentsTree d) ≡ true → ⊥
 
 -- ---- readings
 
@@ -73,9 +75,12 @@ pub record OneReadingReplacesTwo (whole first second : StoreReading) (storeBefor
 
 -- what holds of the contents c and d on the store b: read in either order, and joined in one content in either order
 pub record RecordContentsCommuteAndJoin (storeBefore : StoreBytes) (firstContents secondContents : Bytes) : Type 0 where
-  pub orders : ReadingsAcceptedAndSameInEitherOrder (readRecordContents firstContents) (readRecordContents secondContents) storeBefore
-  pub joined : OneReadingReplacesTwo (readRecordContents (firstContents ++ secondContents)) (readRecordContents firstContents) (readRecordContents secondContents) storeBefore
-  pub swapped : OneReadingReplacesTwo (readRecordContents (secondContents ++ firstContents)) (readRecordContents firstContents) (readRecordContents secondContents) storeBefore
+  pub orders : ReadingsAcceptedAndSameInEitherOrder (readRecordContents firstContents)
+      (readRecordContents secondContents) storeBefore
+  pub joined : OneReadingReplacesTwo (readRecordContents (firstContents ++ secondContents))
+      (readRecordContents firstContents) (readRecordContents secondContents) storeBefore
+  pub swapped : OneReadingReplacesTwo (readRecordContents (secondContents ++ firstContents))
+      (readRecordContents firstContents) (readRecordContents secondContents) storeBefore
 
 -- ---- whole answers
 
@@ -100,7 +105,8 @@ isTemplate70AndNothingMore s (Object h) = h .tag =? 0x70 and h .start + h .len =
 -- a whole record answer: 2 to 258 bytes, the last two 90 00, and before them one template 70
 unfoldable pub isSuccessfulRecordAnswerIn70 : Response → Bool
 isSuccessfulRecordAnswerIn70 s =
-    responseLengthIs2To258 s and isStatus9000 s and isTemplate70AndNothingMore (withoutStatusBytes s) (headerOf (withoutStatusBytes s))
+    responseLengthIs2To258 s and isStatus9000 s and isTemplate70AndNothingMore (withoutStatusBytes s)
+        (headerOf (withoutStatusBytes s))
 
 -- a whole record answer with these contents, their length in any of its encodings
 pub record RecordAnswerWithContents (response : Response) (expectedContents : Bytes) : Type 0 where
@@ -113,14 +119,18 @@ shortestRecordAnswer c = objectBytes 0x70 c ++ (0x90 ∷ 0x00 ∷ [])
 
 -- what holds of the answers s and t for records of two files on the store b: read in either order, and as one answer
 -- with the contents of both, in either order, for a record of any file up to 10
-pub record RecordAnswersCommuteAndJoin (firstSfi secondSfi : Sfi) (storeBefore : StoreBytes) (firstResponse secondResponse : Response) : Type 0 where
-  pub orders : ReadingsAcceptedAndSameInEitherOrder (readRecordAnswer firstSfi firstResponse) (readRecordAnswer secondSfi secondResponse) storeBefore
+pub record RecordAnswersCommuteAndJoin (firstSfi secondSfi : Sfi) (storeBefore : StoreBytes)
+    (firstResponse secondResponse : Response) : Type 0 where
+  pub orders : ReadingsAcceptedAndSameInEitherOrder (readRecordAnswer firstSfi firstResponse)
+      (readRecordAnswer secondSfi secondResponse) storeBefore
   pub joined : (h : Sfi) (u : Response) → h .number ≤ 10
       → RecordAnswerWithContents u (outerObjectContents firstResponse ++ outerObjectContents secondResponse)
-      → OneReadingReplacesTwo (readRecordAnswer h u) (readRecordAnswer firstSfi firstResponse) (readRecordAnswer secondSfi secondResponse) storeBefore
+      → OneReadingReplacesTwo (readRecordAnswer h u) (readRecordAnswer firstSfi firstResponse)
+          (readRecordAnswer secondSfi secondResponse) storeBefore
   pub swapped : (h : Sfi) (u : Response) → h .number ≤ 10
       → RecordAnswerWithContents u (outerObjectContents secondResponse ++ outerObjectContents firstResponse)
-      → OneReadingReplacesTwo (readRecordAnswer h u) (readRecordAnswer firstSfi firstResponse) (readRecordAnswer secondSfi secondResponse) storeBefore
+      → OneReadingReplacesTwo (readRecordAnswer h u) (readRecordAnswer firstSfi firstResponse)
+          (readRecordAnswer secondSfi secondResponse) storeBefore
 
 -- ---- what holds of it: the promises of `records_in_any_order`, proved in proofs/ (Contents and, under it, Taking;
 -- Answers, Room)

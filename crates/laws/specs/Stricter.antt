@@ -13,7 +13,8 @@ use Rattle.store.specs.Place.{absent, present, objectValue}
 use Rattle.store.specs.Held.{storedBytes}
 use Rattle.analysis.specs.Bits.{hasBitCountedFromZeroAtByte1B8}
 use Rattle.analysis.specs.Value.{firstBytesZeroPadded}
-use Rattle.analysis.specs.Choice.{denialStage, onlineStage, defaultStage, iacOrDefault, noActionCodes, terminalActionAnalysis}
+use Rattle.analysis.specs.Choice.{denialStage, onlineStage, defaultStage, iacOrDefault, noActionCodes}
+use Rattle.analysis.specs.Choice.{terminalActionAnalysis}
 use Rattle.analysis.specs.Action.{terminalType, findingsOf, choiceForTvr}
 use Rattle.analysis.specs.declared.choice.ActionCodes.{ActionCodes}
 use Rattle.laws.specs.Rank.{choiceRank}
@@ -56,9 +57,12 @@ storedTacOrZeros store tag = firstBytesZeroPadded 5 (storedBytes store tag)
 
 -- each of the six codes of the old store b is contained in the new store c's; stages and tags are document 01's pairs
 pub record StoredActionCodesWithin (oldStore newStore : StoreBytes) : Type 0 where
-  pub card-denial      : FortyBitsWithin (storedIacOrValueIfAbsent oldStore denialStage 0x9F0E) (storedIacOrValueIfAbsent newStore denialStage 0x9F0E)
-  pub card-online      : FortyBitsWithin (storedIacOrValueIfAbsent oldStore onlineStage 0x9F0F) (storedIacOrValueIfAbsent newStore onlineStage 0x9F0F)
-  pub card-default     : FortyBitsWithin (storedIacOrValueIfAbsent oldStore defaultStage 0x9F0D) (storedIacOrValueIfAbsent newStore defaultStage 0x9F0D)
+  pub card-denial      : FortyBitsWithin (storedIacOrValueIfAbsent oldStore denialStage 0x9F0E)
+      (storedIacOrValueIfAbsent newStore denialStage 0x9F0E)
+  pub card-online      : FortyBitsWithin (storedIacOrValueIfAbsent oldStore onlineStage 0x9F0F)
+      (storedIacOrValueIfAbsent newStore onlineStage 0x9F0F)
+  pub card-default     : FortyBitsWithin (storedIacOrValueIfAbsent oldStore defaultStage 0x9F0D)
+      (storedIacOrValueIfAbsent newStore defaultStage 0x9F0D)
   pub terminal-denial  : FortyBitsWithin (storedTacOrZeros oldStore 0xDF8121) (storedTacOrZeros newStore 0xDF8121)
   pub terminal-online  : FortyBitsWithin (storedTacOrZeros oldStore 0xDF8122) (storedTacOrZeros newStore 0xDF8122)
   pub terminal-default : FortyBitsWithin (storedTacOrZeros oldStore 0xDF8120) (storedTacOrZeros newStore 0xDF8120)

@@ -92,7 +92,8 @@ awaitedOfPhaseFields c =
     if c .number =? 1 then AwaitedResponse.Gpo
     else if c .number =? 2 then AwaitedResponse.Record (record { number = c .datum; limit = c .limit })
     else if c .number =? 3 then
-        AwaitedResponse.Cryptogram (record { choice = choiceOfP1 (c .datum); cvm = cvmOfNumber (c .cvm); limit = c .limit })
+        AwaitedResponse.Cryptogram
+            (record { choice = choiceOfP1 (c .datum); cvm = cvmOfNumber (c .cvm); limit = c .limit })
     else AwaitedResponse.Checksum (record { limit = c .limit })
 
 unfoldable pub phaseOfPhaseFields : PhaseFields → Phase
@@ -138,7 +139,8 @@ hasRecordLengthAndCanonicalHead l =
 -- the session that bytes hold, with the store after the head; none where they hold no record
 unfoldable pub decodedSession : Bytes → Option Session
 decodedSession l =
-    if hasRecordLengthAndCanonicalHead l then some (sessionOf (phaseInHead l) (commandCountInHead l) (take storeSize (drop recordHeadSize l)))
+    if hasRecordLengthAndCanonicalHead l
+        then some (sessionOf (phaseInHead l) (commandCountInHead l) (take storeSize (drop recordHeadSize l)))
     else none
 
 -- what holds of the two, proved in proofs/Laws:
@@ -148,7 +150,8 @@ decodedSession l =
 -- ---- returned
 
 -- writing reports whether the bytes were enough
-pub record SessionRecordWrittenIfRoom (written : Session) (bytesBefore : Bytes) (hadRoom : Bool) (bytesAfter : Bytes) : Type 0 where
+pub record SessionRecordWrittenIfRoom (written : Session) (bytesBefore : Bytes) (hadRoom : Bool) (bytesAfter : Bytes) :
+    Type 0 where
   pub enough : hadRoom ≡ (sessionRecordSize ≤? length bytesBefore)
   pub bytes : bytesAfter ≡ sessionWrittenOverFrontIfRoom written bytesBefore
 
@@ -163,6 +166,7 @@ decodedStoreOrUnchanged none b = b
 decodedStoreOrUnchanged (some s) b = storeBytes s
 
 -- what reading the bytes l reports, and what it leaves in the caller's store
-pub record DecodesSessionRecord (result : DecodedRecordHead) (recordBytes : Bytes) (storeBefore storeAfter : StoreBytes) : Type 0 where
+pub record DecodesSessionRecord (result : DecodedRecordHead) (recordBytes : Bytes)
+    (storeBefore storeAfter : StoreBytes) : Type 0 where
   pub held : result ≡ decodedRecordHead (decodedSession recordBytes)
   pub store : storeAfter ≡ decodedStoreOrUnchanged (decodedSession recordBytes) storeBefore

@@ -21,7 +21,8 @@ use Rattle.personalise.specs.Placements.{ObjectNumber, placementsIn, any
 use Rattle.personalise.specs.Entries.{firstBadEntry}
 use Rattle.personalise.specs.Records.{recordContent, cardRecordsFrom, concatenatedRecords, mostRecordContentBytes}
 use Rattle.personalise.specs.Records.{isOutOfRangePlacementInto, firstBadRecord}
-use Rattle.personalise.specs.Outcome.{leastRecordsBufferSize, leastAflBufferSize, CardPlan, objectsOfPlan, placementsOfPlan, allRecordsBytes}
+use Rattle.personalise.specs.Outcome.{leastRecordsBufferSize, leastAflBufferSize, CardPlan, objectsOfPlan}
+use Rattle.personalise.specs.Outcome.{placementsOfPlan, allRecordsBytes}
 use Rattle.personalise.specs.Outcome.{objectsValidAndEachPlacedOnce, refuseFaultOr}
 
 -- ---- runs
@@ -40,7 +41,8 @@ parsedObjectsValidAndPlacedOnce ps j (some os) =
 -- bytes that are a run, all of its objects settable
 abbrev pub AreObjectsAllowedInRecord : Bytes → Type 0
 AreObjectsAllowedInRecord s =
-    (arePrimitiveObjectsParsed (primitiveObjects s) ≡ true) × (every tagAndValueAllowedInRecord (parsedObjectsOrEmpty s) ≡ true)
+    (arePrimitiveObjectsParsed (primitiveObjects s) ≡ true) × (every tagAndValueAllowedInRecord (parsedObjectsOrEmpty s)
+        ≡ true)
 
 -- ---- placements
 
@@ -69,7 +71,8 @@ unfoldable pub bytesWrittenOver : Bytes → Offset → Bytes → Bytes
 bytesWrittenOver s at v = take at s ++ (v ++ drop (at + length v) s)
 
 -- the bytes v are written over s from a place on, which leaves t; n is the place after them
-pub record WritesBytesAt (offsetAfter : Offset) (bytesAfter bytesBefore : Bytes) (offsetBefore : Offset) (written : Bytes) : Type 0 where
+pub record WritesBytesAt (offsetAfter : Offset) (bytesAfter bytesBefore : Bytes) (offsetBefore : Offset)
+    (written : Bytes) : Type 0 where
   pub next : offsetAfter ≡ offsetBefore + length written
   pub wrote : bytesAfter ≡ bytesWrittenOver bytesBefore offsetBefore written
 
@@ -102,7 +105,8 @@ resultAllWritten p = Written (record { records = length (allRecordsBytes p); afl
 -- after the entries
 abbrev pub resultFromRecordChecks : CardPlan → PersonaliseResult
 resultFromRecordChecks p =
-    refuseFaultOr BadRecord (firstBadRecord (objectsOfPlan p) (placementsOfPlan p) (aflRecordCount (p .entries))) (resultAllWritten p)
+    refuseFaultOr BadRecord (firstBadRecord (objectsOfPlan p) (placementsOfPlan p) (aflRecordCount (p .entries)))
+        (resultAllWritten p)
 
 -- after the list
 abbrev pub resultFromEntryChecks : CardPlan → PersonaliseResult

@@ -57,7 +57,8 @@ readAllRecords b (r ∷ rs) (s ∷ ss) = readOnIfAccepted (readRecordWith9000 b 
 -- ---- what holds where all is written
 
 -- of a plan, the sizes z that are answered, and the buffers r and l as they are left
-pub record WrittenCardReadsBackAsObjects (plan : CardPlan) (sizes : WrittenSizes) (recordsBuffer aflBuffer : Bytes) : Type 0 where
+pub record WrittenCardReadsBackAsObjects (plan : CardPlan) (sizes : WrittenSizes) (recordsBuffer aflBuffer : Bytes) :
+    Type 0 where
   -- the records, concatenated, and the AFL, which is the entries, are at the front of the buffers
   pub stand : take (sizes .records) recordsBuffer ≡ allRecordsBytes plan
   pub afl : take (sizes .afl) aflBuffer ≡ plan .entries

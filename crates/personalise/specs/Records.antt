@@ -53,7 +53,8 @@ isOutOfRangePlacementInto n m k p = p .into =? k and not (between 1 (p .into) n 
 -- record k is bad, of n records: a placement into it strays, or its content is over 253 bytes
 unfoldable pub hasBadPlacementOrOver253Bytes : List Object → List Placement → Count → RecordNumber → Bool
 hasBadPlacementOrOver253Bytes os ps n k =
-    anyPlacement (isOutOfRangePlacementInto n (length os) k) ps or mostRecordContentBytes <? length (recordContent os ps k)
+    anyPlacement (isOutOfRangePlacementInto n (length os) k) ps or mostRecordContentBytes <? length
+        (recordContent os ps k)
 
 -- the first of m numbers from k on that passes a test
 unfoldable pub firstBadNumberFrom : (ℕ → Bool) → ℕ → Count → FirstBadItemNumber

@@ -31,7 +31,8 @@ isWritten a = personaliseWordFields a .kind =? 0
 -- as one word: the kind in bits 48 to 55, the AFL's length in bits 32 to 47, the number in bits 0 to 31
 abbrev pub personaliseWord : PersonaliseResult → ℕ
 personaliseWord a =
-    personaliseWordFields a .kind * 0x1000000000000 + personaliseWordFields a .afl * 0x100000000 + personaliseWordFields a .number
+    personaliseWordFields a .kind * 0x1000000000000 + personaliseWordFields a .afl * 0x100000000 + personaliseWordFields
+        a .number
 
 -- the number is at most 32,768, and the AFL's length at most 248, so that the parts of a word are apart
 pub record PersonaliseFieldsWithinBounds (result : PersonaliseResult) : Type 0 where

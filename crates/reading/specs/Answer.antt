@@ -21,7 +21,8 @@ use Rattle.reading.specs.declared.Awaited.the-variants.{Gpo, Record, Cry
 use Rattle.reading.specs.declared.ResponseVerdict.{ResponseVerdict}
 use Rattle.reading.specs.declared.ResponseVerdict.the-variants.{Accepted, BadStatus, Malformed, NotAllowed}
 use Rattle.reading.specs.declared.Reading.{Reading}
-use Rattle.reading.specs.Taking.{PrimitiveItem, primitiveItem, primitiveItems, StoringState, storingState, storeAllItems}
+use Rattle.reading.specs.Taking.{PrimitiveItem, primitiveItem, primitiveItems, StoringState, storingState}
+use Rattle.reading.specs.Taking.{storeAllItems}
 
 -- ---- the numbers of a reading
 
@@ -43,7 +44,8 @@ abbrev pub readingOutcome : Reason → Count → StoreBytes → ReadingOutcome
 readingOutcome r n b = record { reason = r; objects = n; store = b }
 
 -- the value r and the store b are what the reading o gives
-pub record ReadingAndStoreMatchOutcome (returned : Reading) (storeAfter : StoreBytes) (expected : ReadingOutcome) : Type 0 where
+pub record ReadingAndStoreMatchOutcome (returned : Reading) (storeAfter : StoreBytes) (expected : ReadingOutcome) : Type
+    0 where
   pub reason : verdictNumber (returned .verdict) ≡ expected .reason
   pub objects : returned .objects ≡ expected .objects
   pub store : storeAfter ≡ expected .store

@@ -14,7 +14,8 @@ use Rattle.reading.specs.Count.{objectCountInAnswer}
 
 -- the reading r of an answer s and the store c that it leaves of the store b: the four promises of `read_answer`; an
 -- object has two bytes at least, and the two status bytes belong to none (of an answer under two bytes, 0 are left)
-pub record ReadAnswerPromises (awaited : Awaited) (response : Response) (storeBefore : StoreBytes) (reading : Reading) (storeAfter : StoreBytes) : Type 0 where
+pub record ReadAnswerPromises (awaited : Awaited) (response : Response) (storeBefore : StoreBytes) (reading : Reading)
+    (storeAfter : StoreBytes) : Type 0 where
   pub given : ReadingAndStoreMatchOutcome reading storeAfter (readAnswer awaited storeBefore response)
   pub sized : length storeAfter ≡ storeSize
   pub half : 2 * reading .objects ≤ length response - 2

@@ -30,7 +30,8 @@ use Rattle.reading.specs.declared.OpenedResponse.the-variants.{Template,
 use Rattle.reading.specs.Taking.{PrimitiveItem, storingState, storeAllItems}
 use Rattle.reading.specs.Items.{IsItemList, unpackedFirstItems}
 use Rattle.reading.specs.Answer.{ReadingOutcome, readingOutcome, verdictNumber, templateBody, responseTemplateTag}
-use Rattle.reading.specs.Answer.{responseBit, readingIfAllAllowed, readBodyItems, readParsedBody, responseLengthIs2To258}
+use Rattle.reading.specs.Answer.{responseBit, readingIfAllAllowed, readBodyItems, readParsedBody}
+use Rattle.reading.specs.Answer.{responseLengthIs2To258}
 use Rattle.reading.specs.Answer.{isStatus9000, isBodyToBeRead, readAnswer}
 
 -- a reading of these parts
@@ -67,7 +68,8 @@ outerObject s = outerObjectOfFront s (headerOf s)
 abbrev pub readingOutcomeOfListing : Awaited → Response → StoreBytes → ItemListing → List ℕ → ReadingOutcome
 readingOutcomeOfListing a s b (Decided r) l = readingOutcome (verdictNumber (r .verdict)) (r .objects) b
 readingOutcomeOfListing a s b (Objects t) l =
-    readingIfAllAllowed b (t .objects) (storeAllItems (responseBit a) (storingState true b) (unpackedFirstItems s (t .items) l))
+    readingIfAllAllowed b (t .objects)
+        (storeAllItems (responseBit a) (storingState true b) (unpackedFirstItems s (t .items) l))
 
 -- the objects stand in the answer
 abbrev pub ListedItemsLieInResponse : Response → ItemListing → List ℕ → Type 0
@@ -75,7 +77,8 @@ ListedItemsLieInResponse s (Decided r) l = Unit {0}
 ListedItemsLieInResponse s (Objects t) l = IsItemList s (t .items) l
 
 -- a listing of the object whose outcome f gives by the store
-pub record ListingGivesReading (awaited : Awaited) (response : Response) (outcomeForStore : StoreBytes → ReadingOutcome) (listing : ItemListing)
+pub record ListingGivesReading (awaited : Awaited) (response : Response) (outcomeForStore : StoreBytes → ReadingOutcome)
+    (listing : ItemListing)
     (packedItems : List ℕ) : Type 0 where
   pub gives : (b : StoreBytes) → outcomeForStore b ≡ readingOutcomeOfListing awaited response b listing packedItems
   pub fits : ListedItemsLieInResponse response listing packedItems
@@ -89,9 +92,11 @@ abbrev pub valueOfHeader : Response → TlvHeader → Value
 valueOfHeader s h = take (h .len) (drop (h .start) s)
 
 -- the parts f of a value of n bytes that starts at a place, in every answer in which it lies
-abbrev pub ListingGivesPrimitiveBodyReading : Awaited → (Value → Option (List PrimitiveItem)) → Offset → Length → ItemListing → List ℕ → Type 0
+abbrev pub ListingGivesPrimitiveBodyReading : Awaited → (Value → Option (List PrimitiveItem)) → Offset → Length
+    → ItemListing → List ℕ → Type 0
 ListingGivesPrimitiveBodyReading a f start n x l =
-    (s : Response) → start + n ≤ length s → ListingGivesReading a s (λ b. readBodyItems a b 1 (f (take n (drop start s)))) x l
+    (s : Response) → start + n ≤ length s
+        → ListingGivesReading a s (λ b. readBodyItems a b 1 (f (take n (drop start s)))) x l
 
 -- a template in an answer s: what it gives is what s gives, and its contents lie in the first 256 bytes
 pub record ResponseIsTemplate (awaited : Awaited) (response : Response) (header : TlvHeader) : Type 0 where

@@ -78,7 +78,8 @@ tally n k = record { objects = n; items = k }
 
 -- what a walk from a to e in s must find after n objects, of which l lists k: the contents lie in the first 256 bytes,
 -- and the list has room for all that they can hold, an object having two bytes at least
-pub record TemplateWalkHasRoom (answerBytes : Bytes) (from to : Offset) (visitedCount listedCount : Count) (packedItems : List ℕ) : Type 0 where
+pub record TemplateWalkHasRoom (answerBytes : Bytes) (from to : Offset) (visitedCount listedCount : Count)
+    (packedItems : List ℕ) : Type 0 where
   pub begins : from ≤ to
   pub ends : to ≤ length answerBytes
   pub short : to ≤ 256
@@ -88,14 +89,16 @@ pub record TemplateWalkHasRoom (answerBytes : Bytes) (from to : Offset) (visited
   pub inside : AllItemValuesInside answerBytes (take listedCount packedItems)
 
 -- n objects visited, of which l lists `is`: r is reported
-pub record WalkListedItems (answerBytes : Bytes) (packedItems : List ℕ) (walkResult : TemplateWalkResult) (visitedCount : Count) (listed : List PrimitiveItem) : Type 0 where
+pub record WalkListedItems (answerBytes : Bytes) (packedItems : List ℕ) (walkResult : TemplateWalkResult)
+    (visitedCount : Count) (listed : List PrimitiveItem) : Type 0 where
   pub reports : walkResult ≡ Whole (tally visitedCount (length listed))
   pub items : IsItemList answerBytes (length listed) packedItems
   pub are : unpackedFirstItems answerBytes (length listed) packedItems ≡ listed
 
 -- a tree directly inside the template `around`, after n objects of which `is` are listed: its count is added, its
 -- objects are listed behind them, and k holds of both; r is what is reported where there is no tree
-abbrev pub ListsTreeThen : Tag → Option Forest → TemplateWalkResult → (Count → List PrimitiveItem → Type 0) → Count → List PrimitiveItem
+abbrev pub ListsTreeThen : Tag → Option Forest → TemplateWalkResult → (Count → List PrimitiveItem → Type 0) → Count
+    → List PrimitiveItem
   → Type 0
 ListsTreeThen around none r k n is = r ≡ Broken
 ListsTreeThen around (some f) r k n is = k (n + objectCount f) (is ++ primitiveItems around f)

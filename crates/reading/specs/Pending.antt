@@ -19,7 +19,8 @@ use Rattle.reading.specs.declared.ItemVerdict.{ItemVerdict}
 use Rattle.reading.specs.declared.ItemVerdict.the-variants.{Skipped, NotAllowed, ForRow}
 use Rattle.reading.specs.declared.ItemsVerdict.{ItemsVerdict}
 use Rattle.reading.specs.declared.ItemsVerdict.the-variants as items
-use Rattle.reading.specs.Taking.{PrimitiveItem, cardMaySet, rowAllowsValueFromCard, StoringState, storingState, storeAllItems}
+use Rattle.reading.specs.Taking.{PrimitiveItem, cardMaySet, rowAllowsValueFromCard, StoringState, storingState}
+use Rattle.reading.specs.Taking.{storeAllItems}
 use Rattle.reading.specs.Items.{packedItemValueIn, packedItemValueLength, ItemValueInside, mostListedItems}
 
 -- ---- one object, before the store is asked
@@ -85,18 +86,22 @@ markRowFilledIfNonEmpty filled k n =
     else set filled k 1
 
 -- the values xs are pending for the store b, with a mark for each row that has bytes pending
-pub record PendingEntriesAndMarksForStore (answerBytes : Bytes) (storeBefore : StoreBytes) (packedEntries filledMarks : List ℕ) : Type 0 where
+pub record PendingEntriesAndMarksForStore (answerBytes : Bytes) (storeBefore : StoreBytes)
+    (packedEntries filledMarks : List ℕ) : Type 0 where
   pub fitting : AllPendingEntriesFitRowAndBytes answerBytes packedEntries
   pub sized : length storeBefore ≡ storeSize
   pub marks : length filledMarks ≡ rowCount
   pub free : (k : ℕ) → k < rowCount
-    → isRowAbsentOrEmpty dictionaryRows (storeWithPending answerBytes storeBefore packedEntries) k ≡ (isRowAbsentOrEmpty dictionaryRows storeBefore k and getD filledMarks k 0 =? 0)
+    → isRowAbsentOrEmpty dictionaryRows (storeWithPending answerBytes storeBefore packedEntries) k
+        ≡ (isRowAbsentOrEmpty dictionaryRows storeBefore k and getD filledMarks k 0 =? 0)
 
 -- ---- all objects
 
 -- the objects `is` in an answer to the store b: r is said of them, and l lists what is pending
-abbrev pub ItemsVerdictMatchesStoringItems : ℕ → Bytes → StoreBytes → List PrimitiveItem → ItemsVerdict → List ℕ → Type 0
+abbrev pub ItemsVerdictMatchesStoringItems : ℕ → Bytes → StoreBytes → List PrimitiveItem → ItemsVerdict → List ℕ
+    → Type 0
 ItemsVerdictMatchesStoringItems answer s b is items.NotAllowed l =
     storeAllItems answer (storingState true b) is .good ≡ false
 ItemsVerdictMatchesStoringItems answer s b is (items.Pending k) l =
-    (storeAllItems answer (storingState true b) is ≡ storingState true (storeWithPending s b (take k l))) × IsPendingList s k l
+    (storeAllItems answer (storingState true b) is ≡ storingState true (storeWithPending s b (take k l)))
+        × IsPendingList s k l

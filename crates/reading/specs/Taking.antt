@@ -11,7 +11,8 @@ use Rattle.tlv.specs.Tag.{isPrivate}
 use Rattle.tlv.specs.Tree.{Forest, end, leaf, node}
 use Rattle.dictionary.specs.declared.RowFound.{RowFound}
 use Rattle.dictionary.specs.declared.RowFound.the-variants.{At, Unknown}
-use Rattle.dictionary.specs.Rows.{Row, dictionaryRows, rowAt, findRow, setByCard, inTemplate70, inTemplate77, inTemplateA5, inTemplateBF0C, inTemplate6F}
+use Rattle.dictionary.specs.Rows.{Row, dictionaryRows, rowAt, findRow, setByCard, inTemplate70, inTemplate77}
+use Rattle.dictionary.specs.Rows.{inTemplateA5, inTemplateBF0C, inTemplate6F}
 use Rattle.dictionary.specs.Form.{lengthAndDigitsFitRow}
 use Rattle.store.specs.Place.{isRowAbsentOrEmpty, putRow}
 
@@ -75,7 +76,8 @@ storingState g b = record { good = g; store = b }
 abbrev pub storeKnownItem : ℕ → StoreBytes → PrimitiveItem → RowNumber → StoringState
 storeKnownItem answer b i k =
     if isPrivate (i .tag) and not (cardMaySet (rowAt k)) then storingState true b
-    else if rowAllowsValueAndAbsentOrEmpty answer b k (i .around) (i .value) then storingState true (putRow dictionaryRows b k (i .value))
+    else if rowAllowsValueAndAbsentOrEmpty answer b k (i .around) (i .value) then storingState true
+        (putRow dictionaryRows b k (i .value))
     else storingState false b
 
 -- by its row in the table; an unknown one is skipped

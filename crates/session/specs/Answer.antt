@@ -26,7 +26,8 @@ use Rattle.session_record.specs.declared.AwaitedResponse.{AwaitedResponse}
 use Rattle.session_record.specs.declared.Session.{Session}
 use Rattle.session_record.specs.Session.{storeBytes, endingOf, endingForReason}
 use Rattle.session_record.specs.Ranges.{emvMode, emvOrMagStripeMode, storedAfl, expiryPanAndCdol1NonEmpty}
-use Rattle.session.specs.Steps.{NextAction, ask, end, endForReason, requestCommandOrEndForDol, reasonOfNext, readResponseThen, storeWithFindings}
+use Rattle.session.specs.Steps.{NextAction, ask, end, endForReason, requestCommandOrEndForDol, reasonOfNext}
+use Rattle.session.specs.Steps.{readResponseThen, storeWithFindings}
 use Rattle.session.specs.Steps.{Step, stepIfAdmitted, effectIfRunning}
 use Rattle.session.specs.MagStripe.{nextAfterRecordsInMagStripeMode, nextOnChecksumResponse}
 

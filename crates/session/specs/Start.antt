@@ -10,7 +10,8 @@ use Rattle.session_record.specs.declared.Session.{Session}
 use Rattle.session_record.specs.Session.{storeBytes}
 use Rattle.session_record.specs.Ranges.{zeroTvr}
 use Rattle.start_data.specs.StartData.{LoadedStore, refusal, loaded, loadStartBytes}
-use Rattle.session.specs.Steps.{NextAction, requestCommandOrEndForDol, storeWithTvr, CallEffect, refuse, follow, Step, stepIfAdmitted}
+use Rattle.session.specs.Steps.{NextAction, requestCommandOrEndForDol, storeWithTvr, CallEffect, refuse, follow}
+use Rattle.session.specs.Steps.{Step, stepIfAdmitted}
 
 -- GPO carries the filled PDOL
 unfoldable pub requestGpo : StoreBytes → NextAction

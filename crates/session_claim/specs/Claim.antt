@@ -14,7 +14,8 @@ use Rattle.session_record.specs.declared.CallResult.{CallResult}
 use Rattle.session_record.specs.Session.{SessionStage, fresh, running, ended, sessionStageOf, isRunning, isEnded}
 use Rattle.session_claim.specs.Calls.{commandsSent, callsAccepted, lastElement, unansweredCommands}
 use Rattle.session.specs.Calls.{CallMade, callResult}
-use Rattle.session_claim.specs.Order.{commandKind, firstAnswer, finalCommandKindByGpoAnswer, aflAcceptedFromGpoAnswer, publishedOrder}
+use Rattle.session_claim.specs.Order.{commandKind, firstAnswer, finalCommandKindByGpoAnswer}
+use Rattle.session_claim.specs.Order.{aflAcceptedFromGpoAnswer, publishedOrder}
 
 -- ---- the stage of a session
 
@@ -43,11 +44,13 @@ pub record CallsAndSessionAfterInPublishedOrder (callsMade : List CallMade) (ses
   -- the N commands handed out are the first N of the published order
   pub order : let first = firstAnswer (callsAccepted callsMade) in
       map commandKind (commandsSent callsMade)
-      ≡ take (length (commandsSent callsMade)) (publishedOrder (finalCommandKindByGpoAnswer first) (aflAcceptedFromGpoAnswer first))
+      ≡ take (length (commandsSent callsMade))
+          (publishedOrder (finalCommandKindByGpoAnswer first) (aflAcceptedFromGpoAnswer first))
   -- N is the count that the session reports
   pub count : sessionAfter .count ≡ length (commandsSent callsMade)
   -- N is at most 1 while no AFL is accepted, and at most 2 + R from then on
-  pub bound : length (commandsSent callsMade) ≤ mostCommandsForAcceptedAfl (aflAcceptedFromGpoAnswer (firstAnswer (callsAccepted callsMade)))
+  pub bound : length (commandsSent callsMade) ≤ mostCommandsForAcceptedAfl
+      (aflAcceptedFromGpoAnswer (firstAnswer (callsAccepted callsMade)))
   -- N is never over 130
   pub never-over : length (commandsSent callsMade) ≤ 130
   -- the session is fresh, runs or has ended by the last call not refused
@@ -55,7 +58,8 @@ pub record CallsAndSessionAfterInPublishedOrder (callsMade : List CallMade) (ses
   -- while the session runs exactly one command is unanswered, the last one handed out
   pub one-unanswered : isRunning (sessionAfter .phase) ≡ true → length (unansweredCommands callsMade) ≡ 1
   pub last-unanswered :
-      isRunning (sessionAfter .phase) ≡ true → lastElement (unansweredCommands callsMade) ≡ lastElement (commandsSent callsMade)
+      isRunning (sessionAfter .phase) ≡ true → lastElement (unansweredCommands callsMade)
+          ≡ lastElement (commandsSent callsMade)
   -- the calls not refused are N, and one more once the session has ended; so they are never over 131
   pub calls : length (callsAccepted callsMade) ≡ length (commandsSent callsMade) + oneIf (isEnded (sessionAfter .phase))
   pub never-over-131 : length (callsAccepted callsMade) ≤ 131

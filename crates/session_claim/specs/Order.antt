@@ -81,7 +81,8 @@ cardBytes (stop buf)        = []
 abbrev pub aflAcceptedFromGpoAnswer : Option CallMade → Option AflBytes
 aflAcceptedFromGpoAnswer none = none
 aflAcceptedFromGpoAnswer (some m) =
-    if gpoReason (storeBytes (m .before)) (cardBytes (m .call)) =? reasonNone then aflInGpoResponse (cardBytes (m .call))
+    if gpoReason (storeBytes (m .before)) (cardBytes (m .call)) =? reasonNone
+    then aflInGpoResponse (cardBytes (m .call))
     else none
 
 -- ---- the published order

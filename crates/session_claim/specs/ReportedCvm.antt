@@ -31,7 +31,8 @@ choiceMadeIn (Phase.Waiting w) emv reason = choiceMadeBeforeEnd w emv reason
 choiceMadeIn (Phase.Ended e)   emv reason = false
 
 -- the CVM of an outcome, by its reason and the phase and mode before it
-pub record OutcomeCvmMatchesPhaseBefore (phaseBefore : Phase) (inEmvMode : Bool) (reason : Reason) (cvm : CvmNumber) : Type 0 where
+pub record OutcomeCvmMatchesPhaseBefore (phaseBefore : Phase) (inEmvMode : Bool) (reason : Reason) (cvm : CvmNumber) :
+    Type 0 where
   -- not applicable exactly where no choice was made or held
   pub applicable : cvm =? cvmNumberNotApplicable ≡ not (choiceMadeIn phaseBefore inEmvMode reason)
   -- the one that the session held

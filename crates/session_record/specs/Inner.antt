@@ -14,7 +14,8 @@ use Rattle.dictionary.specs.Rows.{Row, dictionaryRows, rowCount, optionalAtStar
 use Rattle.dictionary.specs.Named.{requiredAtStartCount, rowNumbersRequiredAtStart}
 use Rattle.store.specs.Place.{valueInPlace, rowSizeInStore, rowOffset}
 use Rattle.session_record.specs.declared.RowPosition.{RowPosition}
-use Rattle.session_record.specs.Ranges.{absentOrLengthAndDigitsFitRow, allStoredObjectsFitRows, allRequiredAtStartPresent}
+use Rattle.session_record.specs.Ranges.{absentOrLengthAndDigitsFitRow, allStoredObjectsFitRows}
+use Rattle.session_record.specs.Ranges.{allRequiredAtStartPresent}
 
 -- ---- one place
 
@@ -28,7 +29,8 @@ placeLengthAndValueFitRow r p =
 
 -- a walk came from a row to another, whose place starts at the byte `at`: by their length bytes the objects between are
 -- absent
-pub record AbsentRowsPassed (storeBytesWalked : StoreBytes) (fromRow toRow : RowNumber) (toRowOffset : Offset) : Type 0 where
+pub record AbsentRowsPassed (storeBytesWalked : StoreBytes) (fromRow toRow : RowNumber) (toRowOffset : Offset) : Type 0
+    where
   pub later : fromRow ≤ toRow
   pub within : toRow ≤ rowCount
   pub place : toRowOffset ≡ rowOffset dictionaryRows toRow

@@ -111,7 +111,8 @@ storeAfterLoad b (refusal n) = b
 storeAfterLoad b (loaded c) = c
 
 -- what is reported, and the store c that is left of b
-pub record LoadResultAndStoreMatchLoaded (result : LoadResult) (storeAfter storeBefore : StoreBytes) (expected : LoadedStore) : Type 0 where
+pub record LoadResultAndStoreMatchLoaded (result : LoadResult) (storeAfter storeBefore : StoreBytes)
+    (expected : LoadedStore) : Type 0 where
   pub said : result ≡ loadResultOf expected
   pub store : storeAfter ≡ storeAfterLoad storeBefore expected
 

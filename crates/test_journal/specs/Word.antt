@@ -24,4 +24,5 @@ verdictWord (JournalVerdict.Truncated n) = 2 * verdictKindWeightInWord + n % ver
 -- how many bytes are given, and the slice afterwards
 pub record GivesBytesIfRoom (returnedSize : Length) (bufferAfter expectedBytes bufferBefore : Bytes) : Type 0 where
   pub size : returnedSize ≡ (if length bufferBefore <? length expectedBytes then 0 else length expectedBytes)
-  pub bytes : bufferAfter ≡ (if length bufferBefore <? length expectedBytes then bufferBefore else writtenOverFront expectedBytes bufferBefore)
+  pub bytes : bufferAfter ≡ (if length bufferBefore <? length expectedBytes then bufferBefore else writtenOverFront
+      expectedBytes bufferBefore)

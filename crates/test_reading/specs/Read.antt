@@ -17,7 +17,8 @@ pub record TestReading : Type 0 where
   pub store : StoreBytes
 
 -- the returned number w and the store b are those of r
-pub record ReturnsTestReading (returnedWord : ResultWord) (storeAfter : StoreBytes) (expected : TestReading) : Type 0 where
+pub record ReturnsTestReading (returnedWord : ResultWord) (storeAfter : StoreBytes) (expected : TestReading) : Type 0
+    where
   pub word : returnedWord ≡ expected .word
   pub store : storeAfter ≡ expected .store
 

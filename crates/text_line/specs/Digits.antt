@@ -64,7 +64,8 @@ abbrev pub hexDecodedSizeAndProblem : HexTextDecoding → HexDecoded
 hexDecodedSizeAndProblem r = record { size = length (r .bytes); problem = r .problem }
 
 -- the report d is that of a spelling, whose bytes are at the front of the caller's bytes at exit; those after stay
-pub record DecodesHex (reported : HexDecoded) (bufferAfter : Bytes) (decoding : HexTextDecoding) (bufferBefore : Bytes) : Type 0 where
+pub record DecodesHex (reported : HexDecoded) (bufferAfter : Bytes) (decoding : HexTextDecoding)
+    (bufferBefore : Bytes) : Type 0 where
   pub report : reported ≡ hexDecodedSizeAndProblem decoding
   pub buffer : bufferAfter ≡ writtenOverFront (decoding .bytes) bufferBefore
 

@@ -16,7 +16,8 @@ use Rattle.text_line.specs.declared.LineWord.the-variants.{Absent, Start
 use Rattle.text_line.specs.declared.LineWord.the-variants.{Session, Unknown}
 use Rattle.text_line.specs.Text.{isCharacterOfKind, afterLongestPrefix, uncommented, firstWord, behindFirstWord}
 use Rattle.basics.specs.Alike.{bytesEqual}
-use Rattle.text_line.specs.Digits.{hexDecodingOf, hexDecodingWithinRoom, hexDecodedSizeAndProblem, bufferLineIfUpTo4096}
+use Rattle.text_line.specs.Digits.{hexDecodingOf, hexDecodingWithinRoom, hexDecodedSizeAndProblem}
+use Rattle.text_line.specs.Digits.{bufferLineIfUpTo4096}
 
 -- a word and its characters
 pub record WordText : Type 0 where

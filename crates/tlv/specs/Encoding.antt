@@ -49,7 +49,8 @@ EncodableWithinLevels end levels = Unit {0}
 EncodableWithinLevels (leaf t v r) levels =
     (wellFormedTag t ≡ true) × (isTemplate t ≡ false) × (length v < 0x10000) × EncodableWithinLevels r levels
 EncodableWithinLevels (node t f r) levels =
-    (wellFormedTag t ≡ true) × (isTemplate t ≡ true) × (length (encodeTree f) < 0x10000) × HoldsWithOneLevelLess (EncodableWithinLevels f) levels
+    (wellFormedTag t ≡ true) × (isTemplate t ≡ true) × (length (encodeTree f) < 0x10000) × HoldsWithOneLevelLess
+        (EncodableWithinLevels f) levels
     × EncodableWithinLevels r levels
 
 -- ---- what holds of it, proved in proofs/Encoding for all tags, lengths, values and trees, whatever follows

@@ -37,7 +37,8 @@ headerOf s = headerWithTag s (tagAt s)
 
 -- the same object, with so many more bytes before it
 abbrev pub headerShifted : ℕ → TlvHeader → TlvHeader
-headerShifted n h = record { tag = h .tag; start = n + h .start; len = h .len; template = h .template; private = h .private }
+headerShifted n h = record { tag = h .tag; start = n + h .start; len = h .len; template = h .template; private =
+    h .private }
 
 -- an object's value, and the bytes after the object
 abbrev pub headerValue : List ℕ → TlvHeader → List ℕ

@@ -18,8 +18,10 @@ paddingZeros n = replicate n 0
 pub data EncodesTreeWithPadding : Forest → List ℕ → Type 0 where
   nothing : EncodesTreeWithPadding end []
   padding : {f : Forest} {s : List ℕ} → EncodesTreeWithPadding f s → EncodesTreeWithPadding f (0 ∷ s)
-  primitive : (t : ℕ) (v : List ℕ) {r : Forest} {s : List ℕ} → EncodesTreeWithPadding r s → EncodesTreeWithPadding (leaf t v r) (objectBytes t v ++ s)
-  template : (t : ℕ) {f r : Forest} {v s : List ℕ} → length v < 0x10000 → EncodesTreeWithPadding f v → EncodesTreeWithPadding r s
+  primitive : (t : ℕ) (v : List ℕ) {r : Forest} {s : List ℕ} → EncodesTreeWithPadding r s
+      → EncodesTreeWithPadding (leaf t v r) (objectBytes t v ++ s)
+  template : (t : ℕ) {f r : Forest} {v s : List ℕ} → length v < 0x10000 → EncodesTreeWithPadding f v
+      → EncodesTreeWithPadding r s
     → EncodesTreeWithPadding (node t f r) (objectBytes t v ++ s)
 
 -- how bytes s are read as a template's contents
@@ -28,7 +30,8 @@ pub record PaddingDoesNotChangeParse (templateContents : List ℕ) : Type 0 wher
   pub in-front : (n levels : ℕ)
       → parseTree levels (paddingZeros n ++ templateContents) ≡ parseTree levels templateContents
   -- padding after a whole run changes nothing
-  pub behind : (n levels : ℕ) (f : Forest) → parseTree levels templateContents ≡ some f → parseTree levels (templateContents ++ paddingZeros n) ≡ some f
+  pub behind : (n levels : ℕ) (f : Forest) → parseTree levels templateContents ≡ some f
+      → parseTree levels (templateContents ++ paddingZeros n) ≡ some f
   -- padding between two whole runs changes nothing
   pub between : (t : List ℕ) (n levels : ℕ) (f g : Forest) → parseTree levels templateContents ≡ some f
       → parseTree levels t ≡ some g
@@ -48,5 +51,6 @@ pub record PaddingDoesNotChangeParse (templateContents : List ℕ) : Type 0 wher
 -- what is next in s is what is next from `at` on, so many bytes further on, and no 00 is there
 pub record LeadingPaddingEndsAt (templateContents : List ℕ) (paddingEnd : ℕ) : Type 0 where
   pub inside : paddingEnd ≤ length templateContents
-  pub next : nextInTemplate templateContents ≡ nextInTemplateShifted paddingEnd (nextInTemplate (drop paddingEnd templateContents))
+  pub next : nextInTemplate templateContents ≡ nextInTemplateShifted paddingEnd
+      (nextInTemplate (drop paddingEnd templateContents))
   pub stops : paddingEnd < length templateContents → getD templateContents paddingEnd 0 ≡ 0 → ⊥

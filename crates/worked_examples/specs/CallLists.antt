@@ -41,10 +41,12 @@ pub record CallListExamples : Type 0 where
   -- kind 0, kind 5, and a link failure that brings a byte
   pub no-calls :
       map parsedCalls
-      ((0 ∷ lengthInEightBytes 0 ++ lengthInEightBytes 0) ∷ (5 ∷ lengthInEightBytes 0 ++ lengthInEightBytes 0) ∷ (3 ∷ lengthInEightBytes 1 ++ lengthInEightBytes 0 ++ (0x07 ∷ [])) ∷ [])
+      ((0 ∷ lengthInEightBytes 0 ++ lengthInEightBytes 0) ∷ (5 ∷ lengthInEightBytes 0 ++ lengthInEightBytes 0)
+          ∷ (3 ∷ lengthInEightBytes 1 ++ lengthInEightBytes 0 ++ (0x07 ∷ [])) ∷ [])
       ≡ none ∷ none ∷ none ∷ []
   pub replies : map resultBytes (commandResult 261 ∷ outcomeResult Outcome.Ended 8 2 ∷ refusalResult 25 ∷ [])
       ≡ (0 ∷ 0x01 ∷ 0x05 ∷ []) ∷ (1 ∷ 3 ∷ 8 ∷ []) ∷ (2 ∷ 0 ∷ 25 ∷ []) ∷ []
   -- a stop with room for its reply; no list of calls; a stop with a byte too little room
-  pub numbers : examplePlayResultNumber (4 ∷ lengthInEightBytes 0 ++ lengthInEightBytes 0) 4 ∷ examplePlayResultNumber (5 ∷ []) 4 ∷ examplePlayResultNumber (4 ∷ lengthInEightBytes 0 ++ lengthInEightBytes 0) 3 ∷ []
+  pub numbers : examplePlayResultNumber (4 ∷ lengthInEightBytes 0 ++ lengthInEightBytes 0) 4 ∷ examplePlayResultNumber
+      (5 ∷ []) 4 ∷ examplePlayResultNumber (4 ∷ lengthInEightBytes 0 ++ lengthInEightBytes 0) 3 ∷ []
       ≡ 0 ∷ 1 ∷ 2 ∷ []

@@ -14,7 +14,8 @@ use Rattle.session_record.specs.declared.CallResult.{CallResult}
 use Rattle.session_record.specs.declared.Outcome.{Outcome}
 use Rattle.session_record.specs.declared.Session.{Session}
 use Rattle.worked_examples.specs.Sessions.{encodedTagValues, waitsOnCryptogram}
-use Rattle.worked_examples.specs.Calls.{resultOfAnswer, resultsOfAnswers, storedValueAfterAnswer, outcomeResult, endedResultWithOnlinePin}
+use Rattle.worked_examples.specs.Calls.{resultOfAnswer, resultsOfAnswers, storedValueAfterAnswer, outcomeResult}
+use Rattle.worked_examples.specs.Calls.{endedResultWithOnlinePin}
 use Rattle.worked_examples.specs.Calls.{with9000, with6A82, answerWithContentsIn77}
 use Rattle.worked_examples.specs.ReadingOrder.{ReasonsInReadingOrder, ReadingReasonsBeforeLaterReason}
 
@@ -56,15 +57,20 @@ cryptogramUnder80 =
 pub record CryptogramExamples : Type 0 where
   -- by what was requested: AAC, TC, ARQC and the reserved type
   pub decline-asked : resultsOfAnswers (waitsOnCryptogram Choice.Decline) answersOfEachCryptogramType
-      ≡ declinedResultWithOnlinePin ∷ cryptogramTypeNotAllowedResult ∷ cryptogramTypeNotAllowedResult ∷ cryptogramTypeNotAllowedResult ∷ []
-  pub online-asked : resultsOfAnswers waitsOnArqc answersOfEachCryptogramType ≡ declinedResultWithOnlinePin ∷ cryptogramTypeNotAllowedResult ∷ onlineRequestResultWithOnlinePin ∷ cryptogramTypeNotAllowedResult ∷ []
+      ≡ declinedResultWithOnlinePin ∷ cryptogramTypeNotAllowedResult ∷ cryptogramTypeNotAllowedResult
+          ∷ cryptogramTypeNotAllowedResult ∷ []
+  pub online-asked : resultsOfAnswers waitsOnArqc answersOfEachCryptogramType ≡ declinedResultWithOnlinePin
+      ∷ cryptogramTypeNotAllowedResult ∷ onlineRequestResultWithOnlinePin ∷ cryptogramTypeNotAllowedResult ∷ []
   pub offline-asked : resultsOfAnswers (waitsOnCryptogram Choice.Offline) answersOfEachCryptogramType
-      ≡ declinedResultWithOnlinePin ∷ approvedResultWithOnlinePin ∷ onlineRequestResultWithOnlinePin ∷ cryptogramTypeNotAllowedResult ∷ []
+      ≡ declinedResultWithOnlinePin ∷ approvedResultWithOnlinePin ∷ onlineRequestResultWithOnlinePin
+          ∷ cryptogramTypeNotAllowedResult ∷ []
   -- the order
   pub reading : ReasonsInReadingOrder waitsOnArqc 0x77 0x70 endedResultWithOnlinePin
   pub missing : ReadingReasonsBeforeLaterReason waitsOnArqc 0x77 [] endedResultWithOnlinePin
-  pub cryptogram-type : ReadingReasonsBeforeLaterReason waitsOnArqc 0x77 (cryptogramObjects 0x40) endedResultWithOnlinePin
-  pub body-type : resultOfAnswer waitsOnArqc (with9000 (objectBytes 0x80 (0x40 ∷ 0x00 ∷ 0x2A ∷ []))) ≡ endedResultWithOnlinePin 2
+  pub cryptogram-type : ReadingReasonsBeforeLaterReason waitsOnArqc 0x77 (cryptogramObjects 0x40)
+      endedResultWithOnlinePin
+  pub body-type : resultOfAnswer waitsOnArqc (with9000 (objectBytes 0x80 (0x40 ∷ 0x00 ∷ 0x2A ∷ [])))
+      ≡ endedResultWithOnlinePin 2
   -- a type that is not allowed without 9F26; an AAC without 9F36 and 9F26, and none of the three: a decline does not
   -- come before an object that is missing
   pub missing-others :

@@ -42,8 +42,10 @@ recordAnswersEachInTemplate template objects =
     map (λ o. with9000 (objectBytes 0x70 (objectBytes template (objectBytes (o .0) (o .1))))) objects
 
 pub record EncodingExamples : Type 0 where
-  pub lengths : resultsOfAnswers waitsOnFirstOfTwoRecords recordAnswersOfLengthForms ≡ replicate 5 (commandResult 5) ++ replicate 3 (endedResultWithoutCvm 2)
-  pub tags : resultsOfAnswers waitsOnFirstOfTwoRecords recordAnswersOfTagForms ≡ replicate 3 (commandResult 5) ++ replicate 2 (endedResultWithoutCvm 2)
+  pub lengths : resultsOfAnswers waitsOnFirstOfTwoRecords recordAnswersOfLengthForms ≡ replicate 5 (commandResult 5)
+      ++ replicate 3 (endedResultWithoutCvm 2)
+  pub tags : resultsOfAnswers waitsOnFirstOfTwoRecords recordAnswersOfTagForms ≡ replicate 3 (commandResult 5)
+      ++ replicate 2 (endedResultWithoutCvm 2)
   pub in-A5 : resultsOfAnswers waitsOnFirstOfTwoRecords (recordAnswersEachInTemplate 0xA5 objectsOfFciTemplates)
       ≡ replicate 5 (commandResult 5) ++ replicate 5 (endedResultWithoutCvm 3)
   pub in-BF0C : resultsOfAnswers waitsOnFirstOfTwoRecords (recordAnswersEachInTemplate 0xBF0C objectsOfFciTemplates)
@@ -52,4 +54,5 @@ pub record EncodingExamples : Type 0 where
       ≡ replicate 9 (endedResultWithoutCvm 3) ++ (commandResult 5 ∷ [])
   pub in-70 : resultsOfAnswers waitsOnFirstOfTwoRecords (recordAnswersEachInTemplate 0x70 objectsOfFciTemplates)
       ≡ replicate 8 (endedResultWithoutCvm 3) ++ (commandResult 5 ∷ endedResultWithoutCvm 3 ∷ [])
-  pub in-77 : resultsOfAnswers waitsOnFirstOfTwoRecords (recordAnswersEachInTemplate 0x77 objectsOfFciTemplates) ≡ replicate 10 (endedResultWithoutCvm 3)
+  pub in-77 : resultsOfAnswers waitsOnFirstOfTwoRecords (recordAnswersEachInTemplate 0x77 objectsOfFciTemplates)
+      ≡ replicate 10 (endedResultWithoutCvm 3)

@@ -8,7 +8,8 @@ use lib.ListN.{replicate}
 use Rattle.basics.specs.Types.{Bytes, Value, AflBytes}
 use Rattle.tlv.specs.Encoding.{objectBytes}
 use Rattle.worked_examples.specs.Sessions.{emvAip, magStripeAip, oneRecordAfl, aflOfFileZero, waitsOnGpo}
-use Rattle.worked_examples.specs.Calls.{resultOfAnswer, resultsOfAnswers, commandResult, endedResultWithoutCvm, with9000, with6A82}
+use Rattle.worked_examples.specs.Calls.{resultOfAnswer, resultsOfAnswers, commandResult, endedResultWithoutCvm}
+use Rattle.worked_examples.specs.Calls.{with9000, with6A82}
 use Rattle.worked_examples.specs.Calls.{answerOf259Bytes, withTrailingByte, tvrObjectFromCard}
 use Rattle.worked_examples.specs.ReadingOrder.{ReasonsInReadingOrder, ReadingReasonsBeforeLaterReason}
 
@@ -23,12 +24,18 @@ gpoBodyIn77 aip afl = objectBytes 0x77 (aipAndAflObjects aip afl)
 pub record GpoExamples : Type 0 where
   pub reading : ReasonsInReadingOrder waitsOnGpo 0x77 0x70 endedResultWithoutCvm
   pub missing : ReadingReasonsBeforeLaterReason waitsOnGpo 0x77 [] endedResultWithoutCvm
-  pub mode : ReadingReasonsBeforeLaterReason waitsOnGpo 0x77 (aipAndAflObjects magStripeAip oneRecordAfl) endedResultWithoutCvm
-  pub afl : ReadingReasonsBeforeLaterReason waitsOnGpo 0x77 (aipAndAflObjects emvAip aflOfFileZero) endedResultWithoutCvm
-  pub body-mode : resultOfAnswer waitsOnGpo (with9000 (objectBytes 0x80 (magStripeAip ++ 0x00 ∷ oneRecordAfl))) ≡ endedResultWithoutCvm 2
-  pub missing-mode : resultOfAnswer waitsOnGpo (with9000 (objectBytes 0x77 (objectBytes 0x82 magStripeAip))) ≡ endedResultWithoutCvm 4
-  pub missing-afl : resultOfAnswer waitsOnGpo (with9000 (objectBytes 0x77 (objectBytes 0x94 aflOfFileZero))) ≡ endedResultWithoutCvm 4
-  pub mode-afl : resultOfAnswer waitsOnGpo (with9000 (gpoBodyIn77 magStripeAip aflOfFileZero)) ≡ endedResultWithoutCvm 11
+  pub mode : ReadingReasonsBeforeLaterReason waitsOnGpo 0x77 (aipAndAflObjects magStripeAip oneRecordAfl)
+      endedResultWithoutCvm
+  pub afl : ReadingReasonsBeforeLaterReason waitsOnGpo 0x77 (aipAndAflObjects emvAip aflOfFileZero)
+      endedResultWithoutCvm
+  pub body-mode : resultOfAnswer waitsOnGpo (with9000 (objectBytes 0x80 (magStripeAip ++ 0x00 ∷ oneRecordAfl)))
+      ≡ endedResultWithoutCvm 2
+  pub missing-mode : resultOfAnswer waitsOnGpo (with9000 (objectBytes 0x77 (objectBytes 0x82 magStripeAip)))
+      ≡ endedResultWithoutCvm 4
+  pub missing-afl : resultOfAnswer waitsOnGpo (with9000 (objectBytes 0x77 (objectBytes 0x94 aflOfFileZero)))
+      ≡ endedResultWithoutCvm 4
+  pub mode-afl : resultOfAnswer waitsOnGpo (with9000 (gpoBodyIn77 magStripeAip aflOfFileZero)) ≡ endedResultWithoutCvm
+      11
   -- each reason alone: 259 bytes with 90 00, another status, a byte after, an outer 70 around a 77, a body of 7 bytes
   -- under 80, 95, no 94, no 82, no mode, file 0; and none: with 258 bytes and with 14 the first record is requested
   pub alone :
@@ -46,4 +53,5 @@ pub record GpoExamples : Type 0 where
       ∷ with9000 (objectBytes 0x77 (aipAndAflObjects emvAip oneRecordAfl ++ replicate 243 0))
       ∷ with9000 (gpoBodyIn77 emvAip oneRecordAfl)
       ∷ [])
-      ≡ map endedResultWithoutCvm (2 ∷ 1 ∷ 2 ∷ 2 ∷ 2 ∷ 3 ∷ 4 ∷ 4 ∷ 11 ∷ 5 ∷ []) ++ (commandResult 5 ∷ commandResult 5 ∷ [])
+      ≡ map endedResultWithoutCvm (2 ∷ 1 ∷ 2 ∷ 2 ∷ 2 ∷ 3 ∷ 4 ∷ 4 ∷ 11 ∷ 5 ∷ [])
+          ++ (commandResult 5 ∷ commandResult 5 ∷ [])

@@ -66,7 +66,8 @@ pub record JournalExamples : Type 0 where
   pub calls-written : map journalCallRecord journalExampleCalls ≡ journalExampleCallRecords
   pub calls-read : map callFromJournalRecord journalExampleCallRecords ≡ map (λ c. some c) journalExampleCalls
   pub no-call : map callFromJournalRecord ((5 ∷ []) ∷ (6 ∷ []) ∷ []) ≡ none ∷ none ∷ []
-  pub replies-written : map (λ a. journalReplyRecord a bufferWithRecordCommand) journalExampleResults ≡ journalExampleReplyRecords
+  pub replies-written : map (λ a. journalReplyRecord a bufferWithRecordCommand) journalExampleResults
+      ≡ journalExampleReplyRecords
   -- a command of 261 bytes
   pub longest-command : journalReplyRecord (commandResult 261) (replicate 261 0xAA)
       ≡ 5 ∷ 0x01 ∷ 0x05 ∷ replicate 261 0xAA

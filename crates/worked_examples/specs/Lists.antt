@@ -7,8 +7,10 @@ use mathlib.Core.List.{List, [], _∷_}
 use Rattle.basics.specs.Types.{StartBytes, DolBytes}
 use Rattle.session_record.specs.Session.{freshSession}
 use Rattle.session.specs.Calls.{Call, start, answer}
-use Rattle.worked_examples.specs.Sessions.{TagValue, encodedTagValues, startObjectsOfUnitsAndConfiguration, bcdUnitsBelowLimit, configurationMagStripeOff}
-use Rattle.worked_examples.specs.Sessions.{emvAip, magStripeAip, trackObjects, trackWithSeparator, waitsOnOnlyRecordWithPdol}
+use Rattle.worked_examples.specs.Sessions.{TagValue, encodedTagValues, startObjectsOfUnitsAndConfiguration}
+use Rattle.worked_examples.specs.Sessions.{bcdUnitsBelowLimit, configurationMagStripeOff}
+use Rattle.worked_examples.specs.Sessions.{emvAip, magStripeAip, trackObjects, trackWithSeparator}
+use Rattle.worked_examples.specs.Sessions.{waitsOnOnlyRecordWithPdol}
 use Rattle.worked_examples.specs.Calls.{bufferOf261, commandOf}
 use Rattle.worked_examples.specs.Records.{recordAnswerOf}
 
@@ -22,14 +24,16 @@ dolOfAmount = 0x9F ∷ 0x02 ∷ 0x06 ∷ []
 -- a start with a PDOL, and the last record with its objects, its list and the other's
 abbrev pub startBytesWithPdol : StartBytes
 startBytesWithPdol =
-    encodedTagValues ((0x9F38, dolOfUnpredictableNumber) ∷ startObjectsOfUnitsAndConfiguration bcdUnitsBelowLimit configurationMagStripeOff)
+    encodedTagValues ((0x9F38, dolOfUnpredictableNumber) ∷ startObjectsOfUnitsAndConfiguration bcdUnitsBelowLimit
+        configurationMagStripeOff)
 
 abbrev pub recordAnswerCall : List TagValue → Call
 recordAnswerCall objects = answer (recordAnswerOf objects) bufferOf261
 
 abbrev pub recordObjectsWithCdolAndUdol : List TagValue
 recordObjectsWithCdolAndUdol =
-    (0x5F24, 0x30 ∷ 0x12 ∷ 0x31 ∷ []) ∷ (0x5A, 0x54 ∷ 0x13 ∷ []) ∷ (0x8C, dolOfUnpredictableNumber) ∷ (0x9F69, dolOfAmount) ∷ []
+    (0x5F24, 0x30 ∷ 0x12 ∷ 0x31 ∷ []) ∷ (0x5A, 0x54 ∷ 0x13 ∷ []) ∷ (0x8C, dolOfUnpredictableNumber)
+        ∷ (0x9F69, dolOfAmount) ∷ []
 
 pub record DolExamples : Type 0 where
   pub gpo : commandOf freshSession (start startBytesWithPdol bufferOf261)

@@ -8,9 +8,12 @@ use Rattle.basics.specs.Types.{Bytes, Value, Response, DolBytes, Tag}
 use Rattle.tlv.specs.Encoding.{objectBytes}
 use Rattle.session_record.specs.declared.CallResult.{CallResult}
 use Rattle.session_record.specs.declared.Outcome.{Outcome}
-use Rattle.worked_examples.specs.Sessions.{TagValue, encodedTagValues, bcdUnitsBelowLimit, bcdUnitsOverLimit, emvAip}
-use Rattle.worked_examples.specs.Sessions.{magStripeAip, requiredEmvRecordObjects, trackObjects, trackWithSeparator, waitsOnOnlyRecord}
-use Rattle.worked_examples.specs.Calls.{resultOfAnswer, resultsOfAnswers, commandResult, outcomeResult, endedResultWithoutCvm, with9000}
+use Rattle.worked_examples.specs.Sessions.{TagValue, encodedTagValues, bcdUnitsBelowLimit, bcdUnitsOverLimit}
+use Rattle.worked_examples.specs.Sessions.{emvAip}
+use Rattle.worked_examples.specs.Sessions.{magStripeAip, requiredEmvRecordObjects, trackObjects}
+use Rattle.worked_examples.specs.Sessions.{trackWithSeparator, waitsOnOnlyRecord}
+use Rattle.worked_examples.specs.Calls.{resultOfAnswer, resultsOfAnswers, commandResult, outcomeResult}
+use Rattle.worked_examples.specs.Calls.{endedResultWithoutCvm, with9000}
 use Rattle.worked_examples.specs.ReadingOrder.{ReasonsInReadingOrder, ReadingReasonsBeforeLaterReason}
 
 -- a record of objects, and the answer that brings it
@@ -43,26 +46,37 @@ abbrev pub objectForbiddenToCard : TagValue
 objectForbiddenToCard = (0x95, 0x00 ∷ [])
 
 -- after the last record in a mode, by the tag of its DOL, all that is needed, and the same with a broken DOL
-pub record ReasonsAfterLastRecord (aip : Value) (dolTag : Tag) (requiredObjects objectsWithBrokenDol : List TagValue) : Type 0 where
-  pub objects-limit : resultOfAnswer (waitsOnOnlyRecord aip bcdUnitsOverLimit) (recordAnswerOf (objectForbiddenToCard ∷ [])) ≡ endedResultWithoutCvm 3
-  pub objects-missing : resultOfAnswer (waitsOnOnlyRecord aip bcdUnitsBelowLimit) (recordAnswerOf (objectForbiddenToCard ∷ [])) ≡ endedResultWithoutCvm 3
-  pub objects-list : resultOfAnswer (waitsOnOnlyRecord aip bcdUnitsBelowLimit) (recordAnswerOf (objectForbiddenToCard ∷ (dolTag, brokenDol) ∷ []))
+pub record ReasonsAfterLastRecord (aip : Value) (dolTag : Tag) (requiredObjects objectsWithBrokenDol : List TagValue) :
+    Type 0 where
+  pub objects-limit : resultOfAnswer (waitsOnOnlyRecord aip bcdUnitsOverLimit)
+      (recordAnswerOf (objectForbiddenToCard ∷ [])) ≡ endedResultWithoutCvm 3
+  pub objects-missing : resultOfAnswer (waitsOnOnlyRecord aip bcdUnitsBelowLimit)
+      (recordAnswerOf (objectForbiddenToCard ∷ [])) ≡ endedResultWithoutCvm 3
+  pub objects-list : resultOfAnswer (waitsOnOnlyRecord aip bcdUnitsBelowLimit)
+      (recordAnswerOf (objectForbiddenToCard ∷ (dolTag, brokenDol) ∷ []))
       ≡ endedResultWithoutCvm 3
   pub limit-missing : resultOfAnswer (waitsOnOnlyRecord aip bcdUnitsOverLimit) (recordAnswerOf []) ≡ selectNextResult
-  pub limit-list : resultOfAnswer (waitsOnOnlyRecord aip bcdUnitsOverLimit) (recordAnswerOf objectsWithBrokenDol) ≡ selectNextResult
-  pub missing-list : resultOfAnswer (waitsOnOnlyRecord aip bcdUnitsBelowLimit) (recordAnswerOf ((dolTag, brokenDol) ∷ [])) ≡ endedResultWithoutCvm 4
-  pub limit-alone : resultOfAnswer (waitsOnOnlyRecord aip bcdUnitsOverLimit) (recordAnswerOf requiredObjects) ≡ selectNextResult
+  pub limit-list : resultOfAnswer (waitsOnOnlyRecord aip bcdUnitsOverLimit) (recordAnswerOf objectsWithBrokenDol)
+      ≡ selectNextResult
+  pub missing-list : resultOfAnswer (waitsOnOnlyRecord aip bcdUnitsBelowLimit)
+      (recordAnswerOf ((dolTag, brokenDol) ∷ [])) ≡ endedResultWithoutCvm 4
+  pub limit-alone : resultOfAnswer (waitsOnOnlyRecord aip bcdUnitsOverLimit) (recordAnswerOf requiredObjects)
+      ≡ selectNextResult
 
 -- in EMV mode
 pub record RecordExamples : Type 0 where
   pub reading : ReasonsInReadingOrder (waitsOnOnlyRecord emvAip bcdUnitsBelowLimit) 0x70 0x77 endedResultWithoutCvm
-  pub limit : ReadingReasonsBeforeLaterReason (waitsOnOnlyRecord emvAip bcdUnitsOverLimit) 0x70 (encodedTagValues requiredEmvRecordObjects) endedResultWithoutCvm
-  pub missing : ReadingReasonsBeforeLaterReason (waitsOnOnlyRecord emvAip bcdUnitsBelowLimit) 0x70 [] endedResultWithoutCvm
-  pub list : ReadingReasonsBeforeLaterReason (waitsOnOnlyRecord emvAip bcdUnitsBelowLimit) 0x70 (encodedTagValues recordWithBrokenCdol) endedResultWithoutCvm
+  pub limit : ReadingReasonsBeforeLaterReason (waitsOnOnlyRecord emvAip bcdUnitsOverLimit) 0x70
+      (encodedTagValues requiredEmvRecordObjects) endedResultWithoutCvm
+  pub missing : ReadingReasonsBeforeLaterReason (waitsOnOnlyRecord emvAip bcdUnitsBelowLimit) 0x70 []
+      endedResultWithoutCvm
+  pub list : ReadingReasonsBeforeLaterReason (waitsOnOnlyRecord emvAip bcdUnitsBelowLimit) 0x70
+      (encodedTagValues recordWithBrokenCdol) endedResultWithoutCvm
   pub last : ReasonsAfterLastRecord emvAip 0x8C requiredEmvRecordObjects recordWithBrokenCdol
   -- nothing; a broken CDOL1; and the cryptogram is requested
   pub alone :
-      resultsOfAnswers (waitsOnOnlyRecord emvAip bcdUnitsBelowLimit) (recordAnswerOf [] ∷ recordAnswerOf recordWithBrokenCdol ∷ recordAnswerOf requiredEmvRecordObjects ∷ [])
+      resultsOfAnswers (waitsOnOnlyRecord emvAip bcdUnitsBelowLimit)
+          (recordAnswerOf [] ∷ recordAnswerOf recordWithBrokenCdol ∷ recordAnswerOf requiredEmvRecordObjects ∷ [])
       ≡ endedResultWithoutCvm 4 ∷ brokenCdolResult ∷ commandResult 11 ∷ []
 
 -- in mag-stripe mode

@@ -7,8 +7,10 @@ use mathlib.Core.List.{List, [], _∷_, _++_}
 use Rattle.basics.specs.Types.{StartBytes, Response, Buffer}
 use Rattle.session_record.specs.Session.{freshSession}
 use Rattle.session.specs.Calls.{Call, start, answer, link-failed, stop}
-use Rattle.worked_examples.specs.Sessions.{encodedTagValues, startObjectsOfUnitsAndConfiguration, bcdUnitsBelowLimit, configurationMagStripeOff, waitsOnGpo}
-use Rattle.worked_examples.specs.Sessions.{sessionStopped, freshOutOfRanges, waitsOnGpoOutOfRanges, endedOutOfRanges}
+use Rattle.worked_examples.specs.Sessions.{encodedTagValues, startObjectsOfUnitsAndConfiguration}
+use Rattle.worked_examples.specs.Sessions.{bcdUnitsBelowLimit, configurationMagStripeOff, waitsOnGpo}
+use Rattle.worked_examples.specs.Sessions.{sessionStopped, freshOutOfRanges, waitsOnGpoOutOfRanges}
+use Rattle.worked_examples.specs.Sessions.{endedOutOfRanges}
 use Rattle.worked_examples.specs.Calls.{bufferOf261, bufferOf260, resultOf, refusalResult, endedResultWithoutCvm}
 
 -- all that a start must bring; a template; an object of the session alone
@@ -51,13 +53,15 @@ pub record RefusalExamples : Type 0 where
   pub phase-run : resultOf waitsOnGpo (start startBytesWithTemplate bufferOf261) ≡ refusalResult 21
   pub phase-object : resultOf waitsOnGpo (start startBytesWithTvr bufferOf261) ≡ refusalResult 21
   pub phase-absent : resultOf waitsOnGpo (start [] bufferOf261) ≡ refusalResult 21
-  pub run-object : resultOf freshSession (start (startBytesWithTvr ++ startBytesWithTemplate) bufferOf261) ≡ refusalResult 20
+  pub run-object : resultOf freshSession (start (startBytesWithTvr ++ startBytesWithTemplate) bufferOf261)
+      ≡ refusalResult 20
   pub run-absent : resultOf freshSession (start startBytesWithTemplate bufferOf261) ≡ refusalResult 20
   pub object-absent : resultOf freshSession (start startBytesWithTvr bufferOf261) ≡ refusalResult 23
   pub absent-alone : resultOf freshSession (start [] bufferOf261) ≡ refusalResult 24
   -- a PDOL that makes no command (reason 7) comes after the refusals
   pub absent-list : resultOf freshSession (start startBytesOnlyBrokenPdol bufferOf261) ≡ refusalResult 24
-  pub list-alone : resultOf freshSession (start (startBytesOnlyBrokenPdol ++ startBytesWithAllRequired) bufferOf261) ≡ endedResultWithoutCvm 7
+  pub list-alone : resultOf freshSession (start (startBytesOnlyBrokenPdol ++ startBytesWithAllRequired) bufferOf261)
+      ≡ endedResultWithoutCvm 7
   -- answer
   pub answer-buffer-ranges : resultOf waitsOnGpoOutOfRanges (answer cardStatus6A82 bufferOf260) ≡ refusalResult 22
   pub answer-buffer-phase : resultOf freshSession (answer cardStatus6A82 bufferOf260) ≡ refusalResult 22

@@ -34,7 +34,8 @@ startObjectsOfUnitsAndConfiguration amount configuration =
     ∷ (0x9F37, 0x01 ∷ 0x02 ∷ 0x03 ∷ 0x04 ∷ []) ∷ (0x9F6A, 0x00 ∷ 0x00 ∷ 0x34 ∷ 0x56 ∷ [])
     ∷ (0xDF811B, configuration ∷ [])
     ∷ (0xDF8120, replicate 5 0) ∷ (0xDF8121, replicate 5 0) ∷ (0xDF8122, replicate 5 0)
-    ∷ (0xDF8123, amountOfBcdUnits 0x25) ∷ (0xDF8124, amountOfBcdUnits 0x25) ∷ (0xDF8125, amountOfBcdUnits 0x25) ∷ (0xDF8126, amountOfBcdUnits 0x25)
+    ∷ (0xDF8123, amountOfBcdUnits 0x25) ∷ (0xDF8124, amountOfBcdUnits 0x25) ∷ (0xDF8125, amountOfBcdUnits 0x25)
+        ∷ (0xDF8126, amountOfBcdUnits 0x25)
     ∷ []
 
 -- objects concatenated, as a start brings them
@@ -133,7 +134,8 @@ waitsOnOnlyRecordWithPdol aip =
 abbrev pub waitsOnCryptogram : Choice → Session
 waitsOnCryptogram choice =
     waitsOn (AwaitedResponse.Cryptogram (record { choice = choice; cvm = Cvm.OnlinePin; limit = 2500 })) 3
-    (storing ((0x9F34, 0x42 ∷ 0x03 ∷ 0x00 ∷ []) ∷ requiredEmvRecordObjects ++ objectsAfterGpo emvAip oneRecordAfl bcdUnitsBelowLimit))
+    (storing ((0x9F34, 0x42 ∷ 0x03 ∷ 0x00 ∷ []) ∷ requiredEmvRecordObjects ++ objectsAfterGpo emvAip oneRecordAfl
+        bcdUnitsBelowLimit))
 
 -- waiting on the checksum, with a track
 abbrev pub waitsOnChecksum : Value → Session

@@ -35,7 +35,8 @@ pub record PersonaliseWordExamples : Type 0 where
   -- 13 bytes of records and 4 of AFL
   pub written : personaliseExampleWord twoObjects twoRecordEntry bothPlacedInRecord1 32768 248 ≡ 0x000000040000000D
   -- each refusal, with those after it given too
-  pub short-records : personaliseExampleWord (0x95 ∷ []) badSecondEntry secondPlacedInRecord3 32767 247 ≡ 0x0001000000000000
+  pub short-records : personaliseExampleWord (0x95 ∷ []) badSecondEntry secondPlacedInRecord3 32767 247
+      ≡ 0x0001000000000000
   pub short-afl : personaliseExampleWord (0x95 ∷ []) badSecondEntry secondPlacedInRecord3 32768 247 ≡ 0x0002000000000000
   pub bad-list : personaliseExampleWord (0x95 ∷ []) badSecondEntry secondPlacedInRecord3 32768 248 ≡ 0x0003000000000000
   pub bad-entry : personaliseExampleWord twoObjects badSecondEntry secondPlacedInRecord3 32768 248 ≡ 0x0004000000000002
