@@ -223,17 +223,17 @@ rowNumbersRequiredAtStart =
 -- ---- the first row of each part of the search, after that of the tags of one byte (`searchPartNumber`, specs/Search)
 
 -- tags of two bytes before 9F
-abbrev pub firstOf5F : RowNumber
-firstOf5F = 16
+abbrev pub firstRowOf5F : RowNumber
+firstRowOf5F = 16
 
 -- tags from 9F on
-abbrev pub firstOf9F : RowNumber
-firstOf9F = 25
+abbrev pub firstRowOf9F : RowNumber
+firstRowOf9F = 25
 
 -- tags from DF on
-abbrev pub firstOfDF : RowNumber
-firstOfDF = 101
+abbrev pub firstRowOfDF : RowNumber
+firstRowOfDF = 101
 
 -- tags of three bytes
-abbrev pub firstOfThree : RowNumber
-firstOfThree = 106
+abbrev pub firstRowOfThreeByteTags : RowNumber
+firstRowOfThreeByteTags = 106

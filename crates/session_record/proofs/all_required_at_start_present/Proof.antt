@@ -28,7 +28,7 @@ abbrev Claims : lts.Claims
 Claims = (is-there.Asked, is-there.Learnt)
 
 -- what is said of the row at hand
-told : (c : lts.After-is-there Claims reads.Pre reads.Post Inv-loop μ-loop)
+told : (c : lts.After-is-present Claims reads.Pre reads.Post Inv-loop μ-loop)
     → thereAt (c .before .before .before .before .args .bytes .now)
     (getD rowNumbersRequiredAtStart (c .before .before .loop .i) 0) ≡ c .is-present .result
 unfolding rowNumbersRequiredAtStart

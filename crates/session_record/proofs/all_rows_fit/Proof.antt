@@ -73,14 +73,14 @@ returns c =
     (n .next-held .result .row) _ (come n) (omega arith))
 
 -- what the row at hand says, and where its place is
-read : (c : lts.After-unpacked Claims reads.Pre reads.Post Inv-loop μ-loop) → c .unpack-row-attributes .result
+read : (c : lts.After-unpack-row-attributes Claims reads.Pre reads.Post Inv-loop μ-loop) → c .unpack-row-attributes .result
     ≡ attributesOf (rowAt (c .before .before .next-held .result .row))
 read c =
     let n = c .before .before in
     row-read _ (n .next-held .result .row) _ (omega arith) (n .before .before .before .packed-row-attributes .ensures)
     (c .unpack-row-attributes .ensures)
 
-stood : (c : lts.After-unpacked Claims reads.Pre reads.Post Inv-loop μ-loop)
+stood : (c : lts.After-unpack-row-attributes Claims reads.Pre reads.Post Inv-loop μ-loop)
     → let h = c .before .before .next-held .result in
     Stands (h .row) (h .at) (c .unpack-row-attributes .result .greatest)
 stood c =

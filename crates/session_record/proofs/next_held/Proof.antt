@@ -32,7 +32,7 @@ returns : tie.Need-returns Inv-loop μ-loop
 returns c = let lp = c .before .before .before .loop in record { passed = lp .inv; there = λ h. omega arith }
 
 -- where the place of the row at hand is
-stood : (c : lts.After-unpacked (unpacked.Asked, unpacked.Learnt) reads.Pre reads.Post Inv-loop μ-loop)
+stood : (c : lts.After-unpack-row-attributes (unpacked.Asked, unpacked.Learnt) reads.Pre reads.Post Inv-loop μ-loop)
     → let lp = c .before .before .before .before .before .loop in
     Stands (lp .row) (lp .at) (c .unpack-row-attributes .result .greatest)
 stood c =
