@@ -8,7 +8,7 @@ use Rattle.store.specs.Place.{StoredValue, absent, present, objectValue}
 use Rattle.analysis.specs.Action.{actionCodesOf, choiceForTvr}
 use Rattle.analysis.specs.Bits.{hasBitCountedFromZeroAtByte1B8}
 use Rattle.analysis.specs.Choice.{denialStage, onlineStage, defaultStage, tvrBitIsInEitherActionCode}
-use Rattle.analysis.specs.Choice.{lowestBitFrom, lowestTvrBitInCodes, iacOrDefault, actionCodesAt}
+use Rattle.analysis.specs.Choice.{lowestBitFromStartWithinCount, lowestTvrBitInCodes, iacOrDefault, actionCodesAt}
 use Rattle.analysis.specs.Choice.{someTvrBitInCodesOfStage, onlineCapabilityByDigit, terminalActionAnalysis}
 use Rattle.analysis.specs.Value.{firstBytesZeroPadded}
 use Rattle.analysis.specs.declared.choice.Choice.the-variants.{Decline, Online, Offline}
@@ -41,7 +41,7 @@ asked-of store kind p e = simp (e, p .denial-card, p .denial-terminal, p .online
 
 asked-rows : (v : StoredValue) → (asked 0x22 absent v ≡ Online)
     × ((asked 0x22 (present zeros) v ≡ Offline) × (asked 0x23 v absent ≡ Decline))
-unfolding if both either hasBitCountedFromZeroAtByte1B8 tvrBitIsInEitherActionCode lowestBitFrom lowestTvrBitInCodes
+unfolding if both either hasBitCountedFromZeroAtByte1B8 tvrBitIsInEitherActionCode lowestBitFromStartWithinCount lowestTvrBitInCodes
     iacOrDefault someTvrBitInCodesOfStage onlineCapabilityByDigit terminalActionAnalysis firstBytesZeroPadded
 asked-rows v = (refl, (refl, refl))
 

@@ -18,7 +18,7 @@ use Rattle.analysis.specs.Action.{aucViolatedInStore, restrictionsTvrByt
 use Rattle.analysis.specs.Action.{choiceForTvr}
 use Rattle.analysis.specs.Bits.{hasBitCountedFromZeroAtByte1B8}
 use Rattle.analysis.specs.Choice.{denialStage, onlineStage, defaultStage, tvrBitIsInEitherActionCode}
-use Rattle.analysis.specs.Choice.{lowestBitFrom, lowestTvrBitInCodes, allZerosActionCode, allOnesActionCode}
+use Rattle.analysis.specs.Choice.{lowestBitFromStartWithinCount, lowestTvrBitInCodes, allZerosActionCode, allOnesActionCode}
 use Rattle.analysis.specs.Choice.{iacOrDefault, someTvrBitInCodesOfStage, onlineCapabilityByDigit}
 use Rattle.analysis.specs.Choice.{terminalActionAnalysis, generateAcP1, generateAcP1For}
 use Rattle.analysis.specs.Digits.{appendDecimalDigits, fourDigitYear, dateAsNumber, firstDateIsLater, amountOf}
@@ -248,7 +248,7 @@ bit-numbers : map (λ s. lowestTvrBitInCodes s (record { card = s; terminal = al
     ((0x80 ∷ 0 ∷ 0 ∷ 0 ∷ 0 ∷ []) ∷ (0x01 ∷ 0 ∷ 0 ∷ 0 ∷ 0 ∷ []) ∷ (0 ∷ 0x80 ∷ 0 ∷ 0 ∷ 0 ∷ [])
     ∷ (0 ∷ 0 ∷ 0 ∷ 0 ∷ 0x01 ∷ []) ∷ allZerosActionCode ∷ [])
     ≡ Bit 0 ∷ Bit 7 ∷ Bit 8 ∷ Bit 39 ∷ NoBit ∷ []
-unfolding lowestTvrBitInCodes lowestBitFrom tvrBitIsInEitherActionCode hasBitCountedFromZeroAtByte1B8 both either if
+unfolding lowestTvrBitInCodes lowestBitFromStartWithinCount tvrBitIsInEitherActionCode hasBitCountedFromZeroAtByte1B8 both either if
 bit-numbers = refl
 
 -- held by the card's code alone, by the terminal's alone, by neither
@@ -257,7 +257,7 @@ held-bits : map (lowestTvrBitInCodes (0x80 ∷ 0 ∷ 0 ∷ 0 ∷ 0 ∷ []))
     ∷ record { card = allZerosActionCode; terminal = 0x80 ∷ 0 ∷ 0 ∷ 0 ∷ 0 ∷ [] }
     ∷ record { card = 0x7F ∷ 0xFF ∷ 0xFF ∷ 0xFF ∷ 0xFF ∷ []; terminal = 0x7F ∷ 0xFF ∷ 0xFF ∷ 0xFF ∷ 0xFF ∷ [] } ∷ [])
     ≡ Bit 0 ∷ Bit 0 ∷ NoBit ∷ []
-unfolding lowestTvrBitInCodes lowestBitFrom tvrBitIsInEitherActionCode hasBitCountedFromZeroAtByte1B8 both either if
+unfolding lowestTvrBitInCodes lowestBitFromStartWithinCount tvrBitIsInEitherActionCode hasBitCountedFromZeroAtByte1B8 both either if
 held-bits = refl
 
 -- an absent card code: zeros for denial, ones for online and default
@@ -280,25 +280,25 @@ endings = 0x21 ∷ 0x22 ∷ 0x23 ∷ 0x24 ∷ 0x25 ∷ 0x26 ∷ 0x20 ∷ 0x27 �
 -- a bit in no code; in the online code; in the default code; in the denial code and all others
 no-bit : map (asked allZerosActionCode allZerosActionCode allZerosActionCode) endings ≡ 0x80 ∷ 0x40 ∷ 0x40 ∷ 0x80 ∷ 0x40
     ∷ 0x40 ∷ 0x00 ∷ 0x00 ∷ []
-unfolding generateAcP1For someTvrBitInCodesOfStage lowestTvrBitInCodes lowestBitFrom tvrBitIsInEitherActionCode
+unfolding generateAcP1For someTvrBitInCodesOfStage lowestTvrBitInCodes lowestBitFromStartWithinCount tvrBitIsInEitherActionCode
     hasBitCountedFromZeroAtByte1B8 both either if
 no-bit = refl
 
 online-bit : map (asked allZerosActionCode allOnesActionCode allZerosActionCode) endings ≡ 0x80 ∷ 0x80 ∷ 0x40 ∷ 0x80
     ∷ 0x80 ∷ 0x40 ∷ 0x00 ∷ 0x00 ∷ []
-unfolding generateAcP1For someTvrBitInCodesOfStage lowestTvrBitInCodes lowestBitFrom tvrBitIsInEitherActionCode
+unfolding generateAcP1For someTvrBitInCodesOfStage lowestTvrBitInCodes lowestBitFromStartWithinCount tvrBitIsInEitherActionCode
     hasBitCountedFromZeroAtByte1B8 both either if
 online-bit = refl
 
 default-bit : map (asked allZerosActionCode allZerosActionCode allOnesActionCode) endings ≡ 0x80 ∷ 0x40 ∷ 0x00 ∷ 0x80
     ∷ 0x40 ∷ 0x00 ∷ 0x00 ∷ 0x00 ∷ []
-unfolding generateAcP1For someTvrBitInCodesOfStage lowestTvrBitInCodes lowestBitFrom tvrBitIsInEitherActionCode
+unfolding generateAcP1For someTvrBitInCodesOfStage lowestTvrBitInCodes lowestBitFromStartWithinCount tvrBitIsInEitherActionCode
     hasBitCountedFromZeroAtByte1B8 both either if
 default-bit = refl
 
 denial-bit : map (asked allOnesActionCode allOnesActionCode allOnesActionCode) endings ≡ 0x00 ∷ 0x00 ∷ 0x00 ∷ 0x00
     ∷ 0x00 ∷ 0x00 ∷ 0x00 ∷ 0x00 ∷ []
-unfolding generateAcP1For someTvrBitInCodesOfStage lowestTvrBitInCodes lowestBitFrom tvrBitIsInEitherActionCode
+unfolding generateAcP1For someTvrBitInCodesOfStage lowestTvrBitInCodes lowestBitFromStartWithinCount tvrBitIsInEitherActionCode
     hasBitCountedFromZeroAtByte1B8 both either if
 denial-bit = refl
 
@@ -401,7 +401,7 @@ asks kind t =
 codes-22 : map (asks 0x22) (0x9F0E ∷ 0xDF8121 ∷ 0x9F0F ∷ 0xDF8122 ∷ 0x9F0D ∷ 0xDF8120 ∷ []) ≡ 0x00 ∷ 0x00 ∷ 0x80 ∷ 0x80
     ∷ 0x40 ∷ 0x40 ∷ []
 unfolding choiceForTvr actionCodesOf iacOrDefault terminalActionAnalysis onlineCapabilityByDigit
-    someTvrBitInCodesOfStage lowestTvrBitInCodes lowestBitFrom tvrBitIsInEitherActionCode hasBitCountedFromZeroAtByte1B8
+    someTvrBitInCodesOfStage lowestTvrBitInCodes lowestBitFromStartWithinCount tvrBitIsInEitherActionCode hasBitCountedFromZeroAtByte1B8
     firstBytesZeroPadded both either if
     putRow rowNumberOfTagOrZero objectValueIn rowValue rowPlaceBytes valueInPlace rowOffset findRow rowFoundShifted
     dictionaryRows
@@ -411,7 +411,7 @@ codes-22 = refl
 codes-23 : map (asks 0x23) (0x9F0E ∷ 0xDF8121 ∷ 0x9F0F ∷ 0xDF8122 ∷ 0x9F0D ∷ 0xDF8120 ∷ []) ≡ 0x00 ∷ 0x00 ∷ 0x40 ∷ 0x40
     ∷ 0x00 ∷ 0x00 ∷ []
 unfolding choiceForTvr actionCodesOf iacOrDefault terminalActionAnalysis onlineCapabilityByDigit
-    someTvrBitInCodesOfStage lowestTvrBitInCodes lowestBitFrom tvrBitIsInEitherActionCode hasBitCountedFromZeroAtByte1B8
+    someTvrBitInCodesOfStage lowestTvrBitInCodes lowestBitFromStartWithinCount tvrBitIsInEitherActionCode hasBitCountedFromZeroAtByte1B8
     firstBytesZeroPadded both either if
     putRow rowNumberOfTagOrZero objectValueIn rowValue rowPlaceBytes valueInPlace rowOffset findRow rowFoundShifted
     dictionaryRows

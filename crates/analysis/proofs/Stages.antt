@@ -12,7 +12,7 @@ use lib.ListN.{getD}
 use Rattle.basics.proofs.Order.{le-or-gt}
 use Rattle.basics.specs.Choice.{if, both, either}
 use Rattle.analysis.specs.Bits.{hasBitCountedFromZeroAtByte1B8, byteHasBit}
-use Rattle.analysis.specs.Choice.{tvrBitIsInEitherActionCode, lowestBitFrom, lowestTvrBitInCodes}
+use Rattle.analysis.specs.Choice.{tvrBitIsInEitherActionCode, lowestBitFromStartWithinCount, lowestTvrBitInCodes}
 use Rattle.analysis.specs.Choice.{someTvrBitInCodesOfStage, onlineCapabilityOfType, choiceByStages}
 use Rattle.analysis.specs.Choice.{terminalActionAnalysis}
 use Rattle.analysis.specs.Inner.{tvrByteBitInCodes, stageConsulted, choiceForcedAtStage, choiceWithoutForcingBit}
@@ -63,7 +63,7 @@ module _ (result : List ℕ) (pair : ActionCodes) where
       ap (tvrBitIsInEitherActionCode result pair) e ∙ held-at i (m - i * 8) (omega arith)
 
   -- the bytes before are clear, and this one has a bit: it is the lowest
-  pub byte-found : (i k : ℕ) → i < 5 → Clear (i * 8) → lowestBitFrom (at-byte i) 0 8 ≡ Bit k
+  pub byte-found : (i k : ℕ) → i < 5 → Clear (i * 8) → lowestBitFromStartWithinCount (at-byte i) 0 8 ≡ Bit k
       → lowestTvrBitInCodes result pair ≡ Bit (i * 8 + k)
   unfolding lowestTvrBitInCodes
   byte-found i k h clear e =
@@ -81,7 +81,7 @@ module _ (result : List ℕ) (pair : ActionCodes) where
       })
 
   -- .. or is clear as well
-  pub byte-clear : (i : ℕ) → Clear (i * 8) → lowestBitFrom (at-byte i) 0 8 ≡ NoBit → Clear ((i + 1) * 8)
+  pub byte-clear : (i : ℕ) → Clear (i * 8) → lowestBitFromStartWithinCount (at-byte i) 0 8 ≡ NoBit → Clear ((i + 1) * 8)
   byte-clear i clear e m v =
       elim (le-or-gt (i * 8) m) [
         | inl g ↦ held-of i m g (omega arith) ∙ none-passes (at-byte i) 8 0 e (m - i * 8) (omega arith) (omega arith)
@@ -97,7 +97,7 @@ unfolding tvrByteBitInCodes both
 nothing-in-zero card terminal m = simp zero-div
 
 -- a zero byte of the TVR holds nothing
-pub zero-byte : (card terminal : ℕ) → lowestBitFrom (tvrByteBitInCodes 0 card terminal) 0 8 ≡ NoBit
+pub zero-byte : (card terminal : ℕ) → lowestBitFromStartWithinCount (tvrByteBitInCodes 0 card terminal) 0 8 ≡ NoBit
 zero-byte card terminal = lowest-none (tvrByteBitInCodes 0 card terminal) 8 0 (λ m u v. nothing-in-zero card terminal m)
 
 -- ---- the stages

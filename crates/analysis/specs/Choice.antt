@@ -29,13 +29,13 @@ tvrBitIsInEitherActionCode result pair i =
         and (hasBitCountedFromZeroAtByte1B8 (pair .card) i or hasBitCountedFromZeroAtByte1B8 (pair .terminal) i)
 
 -- the lowest of the n numbers from i on that passes a test
-unfoldable pub lowestBitFrom : (ℕ → Bool) → ℕ → ℕ → LowestBit
-lowestBitFrom f i zero = NoBit
-lowestBitFrom f i (suc n) = if f i then Bit i else lowestBitFrom f (suc i) n
+unfoldable pub lowestBitFromStartWithinCount : (ℕ → Bool) → ℕ → ℕ → LowestBit
+lowestBitFromStartWithinCount f i zero = NoBit
+lowestBitFromStartWithinCount f i (suc n) = if f i then Bit i else lowestBitFromStartWithinCount f (suc i) n
 
 -- the lowest bit, 0 to 39, that a stage holds, or none
 unfoldable pub lowestTvrBitInCodes : TvrBytes → ActionCodes → LowestBit
-lowestTvrBitInCodes result pair = lowestBitFrom (tvrBitIsInEitherActionCode result pair) 0 40
+lowestTvrBitInCodes result pair = lowestBitFromStartWithinCount (tvrBitIsInEitherActionCode result pair) 0 40
 
 -- there is such a bit
 abbrev pub isSomeBit : LowestBit → Bool

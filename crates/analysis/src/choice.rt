@@ -3,7 +3,7 @@ use crate::byte;
 ghost use mathlib.Core.Path.{_≡_};
 ghost use Prim.Native.Nat.{_<_};
 ghost use Rattle.analysis.specs.Value.{storedValueIf};
-ghost use Rattle.analysis.specs.Choice.{lowestBitFrom, lowestTvrBitInCodes, onlineCapabilityOfType, terminalActionAnalysis, generateAcP1, generateAcP1For, iacOrDefault, actionCodesAt};
+ghost use Rattle.analysis.specs.Choice.{lowestBitFromStartWithinCount, lowestTvrBitInCodes, onlineCapabilityOfType, terminalActionAnalysis, generateAcP1, generateAcP1For, iacOrDefault, actionCodesAt};
 ghost use Rattle.analysis.specs.Inner.{tvrByteBitInCodes, stageConsulted as isConsulted, choiceForcedAtStage, choiceWithoutForcingBit};
 
 // The action codes of a stage, five bytes each.
@@ -101,7 +101,7 @@ pub fn lowest_tvr_bit_in_codes(bits: [u8; 5], pair: ActionCodes) -> LowestBit
 
 // The same within a byte: 0 is b8 and 7 is b1.
 fn byte_bit(result: u8, card: u8, terminal: u8) -> LowestBit
-    ensures { λ r. ⌜ r ≡ lowestBitFrom (tvrByteBitInCodes result card terminal) 0 8 ⌝ }
+    ensures { λ r. ⌜ r ≡ lowestBitFromStartWithinCount (tvrByteBitInCodes result card terminal) 0 8 ⌝ }
 {
     if result == 0 {
         return LowestBit::NoBit;

@@ -18,7 +18,7 @@ use Rattle.afl.specs.Entry.{validEntry}
 use Rattle.afl.specs.Records.{aflEntries, aflLengthIsMultipleOf4, sumOverEntries, acceptsAfl}
 use Rattle.analysis.specs.Bits.{hasBitCountedFromZeroAtByte1B8}
 use Rattle.analysis.specs.Value.{firstBytesZeroPadded}
-use Rattle.analysis.specs.Choice.{tvrBitIsInEitherActionCode, lowestBitFrom, lowestTvrBitInCodes, iacOrDefault}
+use Rattle.analysis.specs.Choice.{tvrBitIsInEitherActionCode, lowestBitFromStartWithinCount, lowestTvrBitInCodes, iacOrDefault}
 use Rattle.analysis.specs.Choice.{someTvrBitInCodesOfStage, onlineCapabilityByDigit, terminalActionAnalysis}
 use Rattle.analysis.specs.Digits.{appendDecimalDigits, amountOf}
 use Rattle.analysis.specs.Cvm.{aipAndConfigurationSupportOnDeviceCvm}
@@ -135,7 +135,7 @@ waiting-online : told (waiting Choice.Online 0x22 usual [] ∷ waiting Choice.Of
     ≡ explainedChoiceWord Stage.Online ActionCodeHolder.Card 0 ∷ explainedChoiceWord Stage.Online
     ActionCodeHolder.Nobody 255 ∷ refused ∷ explainedChoiceWord Stage.Online ActionCodeHolder.Terminal 9 ∷ []
 unfolding decidingStageIn decidingStageIfItsDataPresent actionCodeHolderOfBit actionCodesOfStage explanationAtStage
-    hasBitCountedFromZeroAtByte1B8 firstBytesZeroPadded tvrBitIsInEitherActionCode lowestBitFrom lowestTvrBitInCodes
+    hasBitCountedFromZeroAtByte1B8 firstBytesZeroPadded tvrBitIsInEitherActionCode lowestBitFromStartWithinCount lowestTvrBitInCodes
     iacOrDefault someTvrBitInCodesOfStage onlineCapabilityByDigit terminalActionAnalysis actionCodesOf choiceForTvr
     fitAlong placeLengthAndValueFitRow lengthAndDigitsFitRow digitsMatchForm isNumeric isCompressedNumeric
     isDigitsThenFs nibbles putRow rowNumberOfTagOrZero objectValueIn rowValue rowPlaceBytes valueInPlace rowOffset
@@ -155,7 +155,7 @@ waiting-denial : told (waiting Choice.Decline 0x22 (five 0x80 0x40 0 0x80 0)
     ≡ explainedChoiceWord Stage.Denial ActionCodeHolder.Terminal 9 ∷ explainedChoiceWord Stage.Denial
     ActionCodeHolder.Both 24 ∷ explainedChoiceWord Stage.Denial ActionCodeHolder.Card 24 ∷ []
 unfolding decidingStageIn decidingStageIfItsDataPresent actionCodeHolderOfBit actionCodesOfStage explanationAtStage
-    hasBitCountedFromZeroAtByte1B8 firstBytesZeroPadded tvrBitIsInEitherActionCode lowestBitFrom lowestTvrBitInCodes
+    hasBitCountedFromZeroAtByte1B8 firstBytesZeroPadded tvrBitIsInEitherActionCode lowestBitFromStartWithinCount lowestTvrBitInCodes
     iacOrDefault someTvrBitInCodesOfStage onlineCapabilityByDigit terminalActionAnalysis actionCodesOf choiceForTvr
     fitAlong placeLengthAndValueFitRow lengthAndDigitsFitRow digitsMatchForm isNumeric isCompressedNumeric
     isDigitsThenFs nibbles putRow rowNumberOfTagOrZero objectValueIn rowValue rowPlaceBytes valueInPlace rowOffset
@@ -174,7 +174,7 @@ waiting-types : told (waiting Choice.Online 0x21 usual [] ∷ waiting Choice.Dec
     ActionCodeHolder.Card 0 ∷ explainedChoiceWord Stage.Default ActionCodeHolder.Both 39
     ∷ explainedChoiceWord Stage.Default ActionCodeHolder.Nobody 255 ∷ []
 unfolding decidingStageIn decidingStageIfItsDataPresent actionCodeHolderOfBit actionCodesOfStage explanationAtStage
-    hasBitCountedFromZeroAtByte1B8 firstBytesZeroPadded tvrBitIsInEitherActionCode lowestBitFrom lowestTvrBitInCodes
+    hasBitCountedFromZeroAtByte1B8 firstBytesZeroPadded tvrBitIsInEitherActionCode lowestBitFromStartWithinCount lowestTvrBitInCodes
     iacOrDefault someTvrBitInCodesOfStage onlineCapabilityByDigit terminalActionAnalysis actionCodesOf choiceForTvr
     fitAlong placeLengthAndValueFitRow lengthAndDigitsFitRow digitsMatchForm isNumeric isCompressedNumeric
     isDigitsThenFs nibbles putRow rowNumberOfTagOrZero objectValueIn rowValue rowPlaceBytes valueInPlace rowOffset
@@ -195,7 +195,7 @@ ended-given : told (ended 0 Outcome.OnlineRequest 0x80 [] ∷ ended 0 Outcome.De
     ActionCodeHolder.Nobody 255 ∷ []
 unfolding explanationOfEndingByMode explanationOfEnding rankOfCryptogramType outcomeForCryptogramType decidingStageIn
     decidingStageIfItsDataPresent actionCodeHolderOfBit actionCodesOfStage explanationAtStage
-    hasBitCountedFromZeroAtByte1B8 firstBytesZeroPadded tvrBitIsInEitherActionCode lowestBitFrom lowestTvrBitInCodes
+    hasBitCountedFromZeroAtByte1B8 firstBytesZeroPadded tvrBitIsInEitherActionCode lowestBitFromStartWithinCount lowestTvrBitInCodes
     iacOrDefault someTvrBitInCodesOfStage onlineCapabilityByDigit terminalActionAnalysis actionCodesOf choiceForTvr
     fitAlong placeLengthAndValueFitRow lengthAndDigitsFitRow digitsMatchForm isNumeric isCompressedNumeric
     isDigitsThenFs nibbles putRow rowNumberOfTagOrZero objectValueIn rowValue rowPlaceBytes valueInPlace rowOffset
@@ -209,7 +209,7 @@ ended-refused : told (ended 0 Outcome.Approved 0x40 [] ∷ ended 0 Outcome.Decli
     ≡ replicate 5 refused
 unfolding explanationOfEndingByMode explanationOfEnding rankOfCryptogramType outcomeForCryptogramType decidingStageIn
     decidingStageIfItsDataPresent actionCodeHolderOfBit actionCodesOfStage explanationAtStage
-    hasBitCountedFromZeroAtByte1B8 firstBytesZeroPadded tvrBitIsInEitherActionCode lowestBitFrom lowestTvrBitInCodes
+    hasBitCountedFromZeroAtByte1B8 firstBytesZeroPadded tvrBitIsInEitherActionCode lowestBitFromStartWithinCount lowestTvrBitInCodes
     iacOrDefault someTvrBitInCodesOfStage onlineCapabilityByDigit terminalActionAnalysis actionCodesOf choiceForTvr
     fitAlong placeLengthAndValueFitRow lengthAndDigitsFitRow digitsMatchForm isNumeric isCompressedNumeric
     isDigitsThenFs nibbles putRow rowNumberOfTagOrZero objectValueIn rowValue rowPlaceBytes valueInPlace rowOffset
@@ -225,7 +225,7 @@ ended-needs : told (map (λ t. ended t Outcome.OnlineRequest 0x80 []) (0xDF8121 
     ActionCodeHolder.Card 0 ∷ []
 unfolding explanationOfEndingByMode explanationOfEnding rankOfCryptogramType outcomeForCryptogramType decidingStageIn
     decidingStageIfItsDataPresent actionCodeHolderOfBit actionCodesOfStage explanationAtStage
-    hasBitCountedFromZeroAtByte1B8 firstBytesZeroPadded tvrBitIsInEitherActionCode lowestBitFrom lowestTvrBitInCodes
+    hasBitCountedFromZeroAtByte1B8 firstBytesZeroPadded tvrBitIsInEitherActionCode lowestBitFromStartWithinCount lowestTvrBitInCodes
     iacOrDefault someTvrBitInCodesOfStage onlineCapabilityByDigit terminalActionAnalysis actionCodesOf choiceForTvr
     fitAlong placeLengthAndValueFitRow lengthAndDigitsFitRow digitsMatchForm isNumeric isCompressedNumeric
     isDigitsThenFs nibbles putRow rowNumberOfTagOrZero objectValueIn rowValue rowPlaceBytes valueInPlace rowOffset
@@ -279,7 +279,7 @@ in-mag-stripe-mode :
     ≡ noChoice ∷ noChoice ∷ noChoice ∷ explanationWord (Explanation.Reason 4) ∷ refused ∷ refused ∷ []
 unfolding explanationOfEndingByMode explanationOfEnding rankOfCryptogramType outcomeForCryptogramType decidingStageIn
     decidingStageIfItsDataPresent actionCodeHolderOfBit actionCodesOfStage explanationAtStage
-    hasBitCountedFromZeroAtByte1B8 firstBytesZeroPadded tvrBitIsInEitherActionCode lowestBitFrom lowestTvrBitInCodes
+    hasBitCountedFromZeroAtByte1B8 firstBytesZeroPadded tvrBitIsInEitherActionCode lowestBitFromStartWithinCount lowestTvrBitInCodes
     iacOrDefault someTvrBitInCodesOfStage onlineCapabilityByDigit terminalActionAnalysis actionCodesOf choiceForTvr
     fitAlong placeLengthAndValueFitRow lengthAndDigitsFitRow digitsMatchForm isNumeric isCompressedNumeric
     isDigitsThenFs nibbles putRow rowNumberOfTagOrZero objectValueIn rowValue rowPlaceBytes valueInPlace rowOffset

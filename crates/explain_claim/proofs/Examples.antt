@@ -46,7 +46,7 @@ use Rattle.analysis.specs.Digits.{firstAmountIsAbove}
 use Rattle.analysis.specs.Restrictions.{cardVersionPresentAndDiffers, notYetEffective, isAtmTypeWithCashCapability}
 use Rattle.analysis.specs.Restrictions.{issuerCountryMatch, cashbackRequested, aucViolated}
 use Rattle.analysis.specs.Tvr.{tvrWithBits}
-use Rattle.analysis.specs.Choice.{tvrBitIsInEitherActionCode, lowestBitFrom, lowestTvrBitInCodes, iacOrDefault}
+use Rattle.analysis.specs.Choice.{tvrBitIsInEitherActionCode, lowestBitFromStartWithinCount, lowestTvrBitInCodes, iacOrDefault}
 use Rattle.analysis.specs.Choice.{someTvrBitInCodesOfStage, onlineCapabilityByDigit, terminalActionAnalysis}
 use Rattle.analysis.specs.Cvm.{cvmRulesFromPairs, cvmRecognised, cvmSupported, cvmConditionMet}
 use Rattle.analysis.specs.Cvm.{cvmResultOfSupported as takenBy, cvmResultOfUnsuccessful, cvmResultByRules}
@@ -177,7 +177,7 @@ unfolding playIn finalIn callsAccepted lastElement commandsSent generateAcComman
     hasBitCountedFromZeroAtByte1B8 firstBytesZeroPadded appendDecimalDigits
     fourDigitYear dateAsNumber firstDateIsLater amountOf firstAmountIsAbove cardVersionPresentAndDiffers notYetEffective
     isAtmTypeWithCashCapability issuerCountryMatch cashbackRequested aucViolated tvrWithBits tvrBitIsInEitherActionCode
-    lowestBitFrom lowestTvrBitInCodes iacOrDefault someTvrBitInCodesOfStage
+    lowestBitFromStartWithinCount lowestTvrBitInCodes iacOrDefault someTvrBitInCodesOfStage
     onlineCapabilityByDigit terminalActionAnalysis cvmRulesFromPairs cvmRecognised cvmSupported cvmConditionMet takenBy
     cvmResultOfUnsuccessful cvmResultByRules cvmProcessing bytesEqual outcomeForCryptogramType cryptogramEnding
     nextOnCryptogramResponse decidingStageIn decidingStageIfItsDataPresent actionCodeHolderOfBit actionCodesOfStage

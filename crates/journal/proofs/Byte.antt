@@ -18,7 +18,7 @@ use Rattle.basics.specs.Choice.{if}
 use Rattle.journal.specs.declared.JournalCheckState.{JournalCheckState}
 use Rattle.journal.specs.declared.JournalChecker.{JournalChecker}
 use Rattle.journal.specs.Record.{journalRecordSize}
-use Rattle.journal.specs.Verdict.{ExpectedNext, expectedNext, judgeRecord, firstRecordSize}
+use Rattle.journal.specs.Verdict.{ExpectedNext, expectedNextOfSessionAndDueReply, judgeRecord, firstRecordSize}
 use Rattle.journal.specs.Inner.{expectedNextInState, checkStateOf, checkStateAfterRecord}
 use Rattle.journal.specs.Inner.{checkerHoldingOneMoreByte, checkerAfterJudgingRecord}
 use Rattle.journal.specs.Inner.{checkerJudgingOnceRecordWhole, checkerAfterByte}
@@ -94,7 +94,7 @@ judged-state : (s : JournalCheckState) (n : ℕ) (o : Option ExpectedNext)
     → state (checkStateAfterRecord s o .conforming) (expectedNextInState (checkStateAfterRecord s o)) n []
     ≡ judgedState (expectedNextInState s) n o
 judged-state s n none = refl
-judged-state s n (some e) = ap (λ (d : List ℕ). state true (expectedNext (e .session) d) n []) (due-back e)
+judged-state s n (some e) = ap (λ (d : List ℕ). state true (expectedNextOfSessionAndDueReply (e .session) d) n []) (due-back e)
 
 -- within the bounds
 pub record Fine (c : JournalChecker) : Type 0 where

@@ -18,7 +18,7 @@ use Rattle.step_laws.proofs.EveryCall.{Came}
 use Rattle.journal.specs.declared.JournalCheckState.{JournalCheckState}
 use Rattle.journal.specs.Record.{lengthInTwoBytes, zeroPadded, mostCommandBytesInJournalRecord}
 use Rattle.journal.specs.Record.{journalCommandBuffer, journalReplyRecord}
-use Rattle.journal.specs.Verdict.{ExpectedNext, expectedNext, expectReplyUnlessEmpty, judgeRecordBy}
+use Rattle.journal.specs.Verdict.{ExpectedNext, expectedNextOfSessionAndDueReply, expectReplyUnlessEmpty, judgeRecordBy}
 use Rattle.journal.specs.Inner.{replyRecordWithWholeBuffer, checkStateOf, checkStateAfterRecord}
 use Rattle.journal.proofs.Walk.{replyExpectedAfter}
 
@@ -65,7 +65,7 @@ did-due {s} {st} {q} {buf} y c d h =
 -- ---- where a reply is expected
 
 pub reply-due : (s : Session) (d r : List ℕ) → 0 < length d
-    → judgeRecordBy s d r ≡ if (bytesEqual r d) (some (expectedNext s [])) none
+    → judgeRecordBy s d r ≡ if (bytesEqual r d) (some (expectedNextOfSessionAndDueReply s [])) none
 reply-due s [] r h = absurd (omega arith)
 reply-due s (b ∷ d) r h = refl
 
@@ -77,10 +77,10 @@ standing s d n = record { session = s; due = d; size = n; conforming = true }
 -- a command's record is filled whole
 pub command-whole : (s : Session) (x y : ℕ) (v b : List ℕ) → v ≡ b → length b ≡ 261
     → record { session = s; due = 5 ∷ x ∷ y ∷ (v ++ []); size = 264; conforming = true }
-    ≡ checkStateOf (expectedNext s (5 ∷ x ∷ y ∷ b))
+    ≡ checkStateOf (expectedNextOfSessionAndDueReply s (5 ∷ x ∷ y ∷ b))
 command-whole s x y v b e l =
     let z : 0 ≡ 264 - length (5 ∷ x ∷ y ∷ b) = let g = l in omega arith in
     let n : 264 ≡ length (5 ∷ x ∷ y ∷ b) = let g = l in omega arith in
     ap (λ (w : List ℕ). standing s (5 ∷ x ∷ y ∷ (w ++ [])) 264) e
     ∙ ap (λ (m : ℕ). standing s (5 ∷ x ∷ y ∷ (b ++ replicate m 0)) 264) z ∙ ap
-    (standing s (checkStateOf (expectedNext s (5 ∷ x ∷ y ∷ b)) .due)) n
+    (standing s (checkStateOf (expectedNextOfSessionAndDueReply s (5 ∷ x ∷ y ∷ b)) .due)) n

@@ -17,7 +17,7 @@ use Rattle.session.specs.Steps.{Step}
 use Rattle.session.specs.Calls.{Call, CallMade, callStep, playCalls, isRefusal, callRefused}
 use Rattle.step_laws.proofs.EveryCall.{Came}
 use Rattle.journal.specs.Record.{journalCallRecord, callFromJournalRecord, journalRecordsOf, journalOfRecords}
-use Rattle.journal.specs.Verdict.{ExpectedNext, expectedNext, judgeCall, judgeRecord, judgeRecordBy}
+use Rattle.journal.specs.Verdict.{ExpectedNext, expectedNextOfSessionAndDueReply, judgeCall, judgeRecord, judgeRecordBy}
 use Rattle.journal.specs.ConformingRecords.{AllEntriesBelow256, CallBytesAllBelow256}
 use Rattle.journal.specs.ConformingRecords.{ByteCallsWriteJournalBeginningWith}
 use Rattle.journal.proofs.Walk.{replyExpectedAfter}
@@ -34,13 +34,13 @@ record Taken (s : Session) (r : List ℕ) (t : ExpectedNext) : Type 0 where
   written : journalCallRecord call ≡ r
   bytes : CallBytesAllBelow256 call
   taken : isRefusal (callStep s call .reply .answer) ≡ false
-  due : t ≡ expectedNext (callStep s call .reply .session) (dueBy (callStep s call))
+  due : t ≡ expectedNextOfSessionAndDueReply (callStep s call .reply .session) (dueBy (callStep s call))
   there : 0 < length (t .due)
 
 -- what a call that is taken leaves expected
 record Answered (st : Step) (t : ExpectedNext) : Type 0 where
   taken : isRefusal (st .reply .answer) ≡ false
-  due : t ≡ expectedNext (st .reply .session) (dueBy st)
+  due : t ≡ expectedNextOfSessionAndDueReply (st .reply .session) (dueBy st)
   there : 0 < length (t .due)
 
 replied-by : {s : Session} {buf : List ℕ} {st : Step} (t : ExpectedNext) → Came s buf st
@@ -65,13 +65,13 @@ taken-by s r t (some c) f e =
 
 record Replied (e : ExpectedNext) (r : List ℕ) (t : ExpectedNext) : Type 0 where
   reply : e .due ≡ r
-  then : t ≡ expectedNext (e .session) []
+  then : t ≡ expectedNextOfSessionAndDueReply (e .session) []
 
 replied-is : (s : Session) (d r : List ℕ) (t : ExpectedNext) → 0 < length d → judgeRecordBy s d r ≡ some t
-    → Replied (expectedNext s d) r t
+    → Replied (expectedNextOfSessionAndDueReply s d) r t
 replied-is s [] r t h = absurd (omega arith)
 replied-is s (b ∷ d) r t h =
-    if-ind (λ (o : Option ExpectedNext). o ≡ some t → Replied (expectedNext s (b ∷ d)) r t) (bytesEqual r (b ∷ d)) _ _
+    if-ind (λ (o : Option ExpectedNext). o ≡ some t → Replied (expectedNextOfSessionAndDueReply s (b ∷ d)) r t) (bytesEqual r (b ∷ d)) _ _
     (λ w e. record { reply = sym (alike-eq r (b ∷ d) w); then = sym (same-some e) }) (λ w e. nothing e)
 
 -- ---- one more call before it
@@ -129,7 +129,7 @@ module _ (s : Session) (r : List ℕ) (t : ExpectedNext) (w : Taken s r t) where
 
 -- ---- all of them
 
-pub writes : {e u : ExpectedNext} {rs : List (List ℕ)} → Walks e rs u → (s : Session) → e ≡ expectedNext s []
+pub writes : {e u : ExpectedNext} {rs : List (List ℕ)} → Walks e rs u → (s : Session) → e ≡ expectedNextOfSessionAndDueReply s []
     → AllEntriesBelow256 (journalOfRecords rs) → ByteCallsWriteJournalBeginningWith s rs
 unfolding journalOfRecords
 writes Walks.done s q g = no-calls s
@@ -145,5 +145,5 @@ writes (Walks.next {t = t} {r = r} h z j (Walks.next {t = t′} {r = r′} {rs =
     let d : dueBy (callStep s (a .call)) ≡ r′ = sym (ap (λ (x : ExpectedNext). x .due) (a .due)) ∙ b .reply in
     subst (λ (x : List ℕ). ByteCallsWriteJournalBeginningWith s (r ∷ x ∷ rs)) d
     (two-records s r t a rs
-    (writes w (callStep s (a .call) .reply .session) (b .then ∙ ap (λ (x : Session). expectedNext x []) n)
+    (writes w (callStep s (a .call) .reply .session) (b .then ∙ ap (λ (x : Session). expectedNextOfSessionAndDueReply x []) n)
     (bytes-behind r′ (journalOfRecords rs) (bytes-behind r (r′ ++ journalOfRecords rs) g))))

@@ -34,7 +34,7 @@ use Rattle.journal.specs.Record.{journalRecordSize, lengthInTwoBytes, ze
 use Rattle.journal.specs.Record.{journalCommandBuffer, mostStartBytesInJournalRecord}
 use Rattle.journal.specs.Record.{mostAnswerBytesInJournalRecord, journalLengthAndZeroPaddingValid}
 use Rattle.journal.specs.Record.{isTooLongAnswerRecord, callFromJournalRecord}
-use Rattle.journal.specs.Verdict.{ExpectedNext, expectedNext, expectedAtStart, judgeCall, judgeRecordBy}
+use Rattle.journal.specs.Verdict.{ExpectedNext, expectedNextOfSessionAndDueReply, expectedAtStart, judgeCall, judgeRecordBy}
 use Rattle.journal.specs.Verdict.{firstRecordSize}
 use Rattle.journal.proofs.Walk.{replyExpectedAfter}
 
@@ -176,18 +176,18 @@ came-kept n t (Came.sent b p c l) m i f h e =
     (record { ranges = i; few = omega arith; fits = omega arith; whole = λ y. z })
 
 called-kept : (s : Session) (o : Option Call) (n : ℕ) (t : ExpectedNext)
-    → ((c : Call) → o ≡ some c → bufferOf c ≡ journalCommandBuffer) → Kept (expectedNext s []) n
+    → ((c : Call) → o ≡ some c → bufferOf c ≡ journalCommandBuffer) → Kept (expectedNextOfSessionAndDueReply s []) n
     → judgeCall s o ≡ some t → Kept t (n + 1)
 called-kept s none n t b k e = nothing e
 called-kept s (some c) n t b k e =
     came-kept n t (call-came s c) (let l = ap length (b c refl) in omega arith) (call-keeps s c (k .ranges))
     (not-ended s c (s .phase) refl) (k .few) e
 
-pub judged-kept : (s : Session) (d r : List ℕ) (n : ℕ) (t : ExpectedNext) → Kept (expectedNext s d) n
+pub judged-kept : (s : Session) (d r : List ℕ) (n : ℕ) (t : ExpectedNext) → Kept (expectedNextOfSessionAndDueReply s d) n
     → judgeRecordBy s d r ≡ some t → Kept t (n + 1)
 judged-kept s [] r n t k e = called-kept s (callFromJournalRecord r) n t (lent-call r) k e
 judged-kept s (b ∷ d) r n t k e =
-    if-ind (λ (o : Option ExpectedNext). o ≡ some t → Kept t (n + 1)) (bytesEqual r (b ∷ d)) (some (expectedNext s []))
+    if-ind (λ (o : Option ExpectedNext). o ≡ some t → Kept t (n + 1)) (bytesEqual r (b ∷ d)) (some (expectedNextOfSessionAndDueReply s []))
     none
     (λ w e. subst (λ (x : ExpectedNext). Kept x (n + 1)) (same-some e)
     (record {

@@ -22,7 +22,7 @@ use Rattle.session_record.specs.declared.Session.{Session}
 use Rattle.session.specs.Calls.{Call, callStep}
 use Rattle.journal.specs.declared.JournalVerdict.{JournalVerdict}
 use Rattle.journal.specs.Record.{journalRecordSize, callFromJournalRecord, journalReplyRecord}
-use Rattle.journal.specs.Verdict.{ExpectedNext, expectedNext, expectedAtStart, expectReplyUnlessEmpty, judgeCall}
+use Rattle.journal.specs.Verdict.{ExpectedNext, expectedNextOfSessionAndDueReply, expectedAtStart, expectReplyUnlessEmpty, judgeCall}
 use Rattle.journal.specs.Verdict.{judgeRecordBy, judgeRecord, verdictFrom, journalVerdictOf, firstRecordSize}
 use Rattle.journal.specs.Verdict.{replyDueAfter, expectedReplyAtMismatch, expectedReplyAtFirstMismatch}
 use Rattle.journal.specs.ConformingRecords.{OnlyConformingRecord, ExpectedReplyOnlyConforming}
@@ -140,15 +140,15 @@ later = shorter-first Later later-next
 -- ---- where a reply is expected
 
 module _ (s : Session) (d : List ℕ) (h : 0 < length d) (z : length d ≡ firstRecordSize d) (n : ℕ) where
-  due-accepted : verdictFrom (expectedNext s d) n d ≡ JournalVerdict.Accepted (n + 1)
+  due-accepted : verdictFrom (expectedNextOfSessionAndDueReply s d) n d ≡ JournalVerdict.Accepted (n + 1)
   due-accepted =
-      ap (verdictFrom (expectedNext s d) n) (sym (append-nil d))
-      ∙ behind (expectedNext s d) (expectedNext s []) n d [] h z (reply-due s d d h ∙ if-yes _ _ (alike-refl d)) ∙ ends
-      (expectedNext s []) (n + 1)
+      ap (verdictFrom (expectedNextOfSessionAndDueReply s d) n) (sym (append-nil d))
+      ∙ behind (expectedNextOfSessionAndDueReply s d) (expectedNextOfSessionAndDueReply s []) n d [] h z (reply-due s d d h ∙ if-yes _ _ (alike-refl d)) ∙ ends
+      (expectedNextOfSessionAndDueReply s []) (n + 1)
 
   same-record : (l : List ℕ) (t : ExpectedNext) → judgeRecordBy s d l ≡ some t → l ≡ d
   same-record l t j =
-      if-ind (λ (o : Option ExpectedNext). o ≡ some t → l ≡ d) (bytesEqual l d) (some (expectedNext s [])) none
+      if-ind (λ (o : Option ExpectedNext). o ≡ some t → l ≡ d) (bytesEqual l d) (some (expectedNextOfSessionAndDueReply s [])) none
       (λ w q. alike-eq l d w) (λ w q. nothing q)
       (sym (reply-due s d l h) ∙ j)
 
@@ -157,8 +157,8 @@ module _ (s : Session) (d : List ℕ) (h : 0 < length d) (z : length d ≡ first
   no-more t [] q = refl
   no-more t (b ∷ rest) q = absurd (omega (arith, shorter-first More more-next (b ∷ rest) t (n + 1) (n + 1) q))
 
-  due-only : (r : List ℕ) → verdictFrom (expectedNext s d) n r ≡ JournalVerdict.Accepted (n + 1) → r ≡ d
-  due-only r q = elim (way (expectedNext s d) n r) [
+  due-only : (r : List ℕ) → verdictFrom (expectedNextOfSessionAndDueReply s d) n r ≡ JournalVerdict.Accepted (n + 1) → r ≡ d
+  due-only r q = elim (way (expectedNextOfSessionAndDueReply s d) n r) [
     | ended x v ↦ absurd (omega (arith, accepted-same n (n + 1) (sym v ∙ q)))
     | is-mismatch v ↦ mismatch-accepted (n + 1) (n + 1) (sym v ∙ q)
     | is-cut v ↦ cut-accepted (n + 1) (n + 1) (sym v ∙ q)
@@ -242,7 +242,7 @@ wanted-only s n q h =
 
 replied-due : (s : Session) (d : List ℕ) (t : ExpectedNext) → expectReplyUnlessEmpty s d ≡ some t → dueOne (t .due) ≡ 1
 replied-due s [] t q = nothing q
-replied-due s (b ∷ d) t q = let w : expectedNext s (b ∷ d) ≡ t = cc in ap (λ (u : ExpectedNext). dueOne (u .due))
+replied-due s (b ∷ d) t q = let w : expectedNextOfSessionAndDueReply s (b ∷ d) ≡ t = cc in ap (λ (u : ExpectedNext). dueOne (u .due))
     (sym w)
 
 called-due : (s : Session) (c : Option Call) (t : ExpectedNext) → judgeCall s c ≡ some t → dueOne (t .due) ≡ 1
@@ -256,8 +256,8 @@ turns s [] l t q = let w = called-due s (callFromJournalRecord l) t q in omega (
 turns s (b ∷ d) l t q =
     let w : dueOne (t .due) ≡ 0 =
     if-ind (λ (o : Option ExpectedNext). o ≡ some t → dueOne (t .due) ≡ 0) (bytesEqual l (b ∷ d))
-    (some (expectedNext s [])) none
-    (λ x e. let z : expectedNext s [] ≡ t = cc in ap (λ (u : ExpectedNext). dueOne (u .due)) (sym z))
+    (some (expectedNextOfSessionAndDueReply s [])) none
+    (λ x e. let z : expectedNextOfSessionAndDueReply s [] ≡ t = cc in ap (λ (u : ExpectedNext). dueOne (u .due)) (sym z))
     (λ x e. nothing e) q in
     omega (arith, w)
 

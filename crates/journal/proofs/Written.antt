@@ -18,7 +18,7 @@ use Rattle.basics.proofs.Laws.{no}
 use Rattle.step_laws.proofs.EveryCall.{Came}
 use Rattle.journal.specs.declared.JournalVerdict.{JournalVerdict}
 use Rattle.journal.specs.Record.{journalRecordSize, journalCallRecord, journalRecordsOf, journalOfRecords}
-use Rattle.journal.specs.Verdict.{ExpectedNext, expectedNext, expectedAtStart, judgeRecord, verdictFrom}
+use Rattle.journal.specs.Verdict.{ExpectedNext, expectedNextOfSessionAndDueReply, expectedAtStart, judgeRecord, verdictFrom}
 use Rattle.journal.specs.Verdict.{journalVerdictOf}
 use Rattle.journal.proofs.Walk.{verdictContinues, ends, whole}
 use Rattle.journal.proofs.Kept.{call-came}
@@ -59,18 +59,18 @@ refused-same (Came.ended y b o n) r = no r
 refused-same (Came.sent b p c l) r = no r
 
 abbrev AllWalked : Session → List (List ℕ) → Type 0
-AllWalked s rs = (m : ℕ) → Walked (expectedNext s []) (take m rs)
+AllWalked s rs = (m : ℕ) → Walked (expectedNextOfSessionAndDueReply s []) (take m rs)
 
 no-records : (s : Session) → AllWalked s []
-no-records s zero = record { last = expectedNext s []; walks = Walks.done }
-no-records s (suc m) = record { last = expectedNext s []; walks = Walks.done }
+no-records s zero = record { last = expectedNextOfSessionAndDueReply s []; walks = Walks.done }
+no-records s (suc m) = record { last = expectedNextOfSessionAndDueReply s []; walks = Walks.done }
 
 two-records : (s : Session) (c : Call) (r : isRefusal (callStep s c .reply .answer) ≡ false) (rs : List (List ℕ))
     → AllWalked (callStep s c .reply .session) rs → AllWalked s (journalCallRecord c ∷ dueBy (callStep s c) ∷ rs)
-two-records s c r rs k zero = record { last = expectedNext s []; walks = Walks.done }
+two-records s c r rs k zero = record { last = expectedNextOfSessionAndDueReply s []; walks = Walks.done }
 two-records s c r rs k (suc zero) =
     record {
-      last = expectedNext (callStep s c .reply .session) (dueBy (callStep s c));
+      last = expectedNextOfSessionAndDueReply (callStep s c .reply .session) (dueBy (callStep s c));
       walks = Walks.next (read s c r .there) (read s c r .sized) (call-judged s c r) Walks.done;
     }
 two-records s c r rs k (suc (suc m)) =

@@ -30,7 +30,7 @@ use Rattle.step_laws.proofs.Long.{answer-long}
 use Rattle.step_laws.proofs.EveryCall.{Came, buffer-length, start-came, answer-came, link-came, stop-came}
 use Rattle.journal.specs.Record.{journalRecordSize, lengthThenPaddedBytes, journalCommandBuffer}
 use Rattle.journal.specs.Record.{answerOf259ZeroBytes, journalCallRecord, callFromJournalRecord}
-use Rattle.journal.specs.Verdict.{expectedNext, judgeCall, judgeRecord}
+use Rattle.journal.specs.Verdict.{expectedNextOfSessionAndDueReply, judgeCall, judgeRecord}
 use Rattle.journal.proofs.Walk.{replyExpectedAfter}
 use Rattle.journal.proofs.Due.{whole-is, reply-due}
 use Rattle.journal.proofs.Back.{start-back, answer-back, long-back, link-back, stop-back}
@@ -167,7 +167,7 @@ module _ {s : Session} where
   reply-there (Came.sent b p c l) r = omega arith
 
   pub reply-some : {st : Step} → Came s journalCommandBuffer st → isRefusal (st .reply .answer) ≡ false
-      → replyExpectedAfter st ≡ some (expectedNext (st .reply .session) (dueBy st))
+      → replyExpectedAfter st ≡ some (expectedNextOfSessionAndDueReply (st .reply .session) (dueBy st))
   reply-some (Came.refused n) r = no (sym r)
   reply-some (Came.ended y b o n) r = refl
   reply-some (Came.sent b p c l) r = refl
@@ -187,11 +187,11 @@ module _ (s : Session) (c : Call) (r : isRefusal (callStep s c .reply .answer) �
   answered : isRefusal (callStep s (read s c r .call) .reply .answer) ≡ false
   answered = sym (ap (λ (q : Reply). isRefusal (q .answer)) (read s c r .reply)) ∙ r
 
-  pub call-judged : judgeRecord (expectedNext s []) (journalCallRecord c)
-      ≡ some (expectedNext (callStep s c .reply .session) (dueBy (callStep s c)))
+  pub call-judged : judgeRecord (expectedNextOfSessionAndDueReply s []) (journalCallRecord c)
+      ≡ some (expectedNextOfSessionAndDueReply (callStep s c .reply .session) (dueBy (callStep s c)))
   call-judged =
       ap (judgeCall s) (read s c r .back) ∙ reply-some (read s c r .came) answered
-      ∙ ap₂ (λ (q : Reply) (d : List ℕ). some (expectedNext (q .session) d)) (sym (read s c r .reply))
+      ∙ ap₂ (λ (q : Reply) (d : List ℕ). some (expectedNextOfSessionAndDueReply (q .session) d)) (sym (read s c r .reply))
       (sym (read s c r .due))
 
   pub due-there : 0 < length (dueBy (callStep s c))
@@ -200,7 +200,7 @@ module _ (s : Session) (c : Call) (r : isRefusal (callStep s c .reply .answer) �
   pub due-sized : length (dueBy (callStep s c)) ≡ journalRecordSize (getD (dueBy (callStep s c)) 0 0)
   due-sized = rw (read s c r .due) (reply-sized (read s c r .came) answered)
 
-  pub due-judged : judgeRecord (expectedNext (callStep s c .reply .session) (dueBy (callStep s c)))
-      (dueBy (callStep s c)) ≡ some (expectedNext (callStep s c .reply .session) [])
+  pub due-judged : judgeRecord (expectedNextOfSessionAndDueReply (callStep s c .reply .session) (dueBy (callStep s c)))
+      (dueBy (callStep s c)) ≡ some (expectedNextOfSessionAndDueReply (callStep s c .reply .session) [])
   due-judged = reply-due (callStep s c .reply .session) (dueBy (callStep s c)) (dueBy (callStep s c)) due-there ∙ if-yes
       _ _ (alike-refl (dueBy (callStep s c)))

@@ -17,7 +17,7 @@ use Rattle.journal.specs.declared.JournalCheckState.{JournalCheckState}
 use Rattle.journal.specs.declared.JournalChecker.{JournalChecker}
 use Rattle.journal.specs.declared.ExpectedReplyRecord.{ExpectedReplyRecord}
 use Rattle.journal.specs.Record.{lengthInTwoBytes, zeroPadded, startJournalRecordSize, commandJournalRecordSize}
-use Rattle.journal.specs.Verdict.{ExpectedNext, expectedNext, expectedAtStart, judgeRecord, firstRecordSize}
+use Rattle.journal.specs.Verdict.{ExpectedNext, expectedNextOfSessionAndDueReply, expectedAtStart, judgeRecord, firstRecordSize}
 
 -- more records than this no session has: 131 calls and their replies
 abbrev pub mostRecordsCheckerCounts : Count
@@ -33,7 +33,7 @@ replyRecordWithWholeBuffer (CallResult.Refused r) buf = []
 
 -- what is expected in a standing; once a record was a mismatch, what was expected there
 abbrev pub expectedNextInState : JournalCheckState → ExpectedNext
-expectedNextInState s = expectedNext (s .session) (take (s .size) (s .due))
+expectedNextInState s = expectedNextOfSessionAndDueReply (s .session) (take (s .size) (s .due))
 
 -- the standing in which this is expected
 abbrev pub checkStateOf : ExpectedNext → JournalCheckState

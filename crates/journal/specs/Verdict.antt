@@ -23,19 +23,19 @@ pub record ExpectedNext : Type 0 where
   pub due : Bytes
 
 -- the same as a function of the two
-abbrev pub expectedNext : Session → Bytes → ExpectedNext
-expectedNext s d = record { session = s; due = d }
+abbrev pub expectedNextOfSessionAndDueReply : Session → Bytes → ExpectedNext
+expectedNextOfSessionAndDueReply s d = record { session = s; due = d }
 
 -- the session begins fresh, and a call comes first
 abbrev pub expectedAtStart : ExpectedNext
-expectedAtStart = expectedNext freshSession []
+expectedAtStart = expectedNextOfSessionAndDueReply freshSession []
 
 -- ---- one whole record: what is expected after it, or none where it differs from what document 01 gives
 
 -- the reply of a call that is taken is expected; a refused call has none, and is itself a mismatch
 abbrev pub expectReplyUnlessEmpty : Session → Bytes → Option ExpectedNext
 expectReplyUnlessEmpty s [] = none
-expectReplyUnlessEmpty s (b ∷ d) = some (expectedNext s (b ∷ d))
+expectReplyUnlessEmpty s (b ∷ d) = some (expectedNextOfSessionAndDueReply s (b ∷ d))
 
 -- a record that stands for no call is a mismatch
 abbrev pub judgeCall : Session → Option Call → Option ExpectedNext
@@ -48,7 +48,7 @@ judgeCall s (some c) =
 abbrev pub judgeRecordBy : Session → Bytes → Bytes → Option ExpectedNext
 judgeRecordBy s [] r = judgeCall s (callFromJournalRecord r)
 judgeRecordBy s (b ∷ d) r =
-    if bytesEqual r (b ∷ d) then some (expectedNext s [])
+    if bytesEqual r (b ∷ d) then some (expectedNextOfSessionAndDueReply s [])
     else none
 
 abbrev pub judgeRecord : ExpectedNext → Bytes → Option ExpectedNext

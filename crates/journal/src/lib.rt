@@ -42,7 +42,7 @@ ghost use Rattle.session_record.specs.Numbers.{outcomeNumber};
 ghost use Rattle.journal.specs.Record.{journalRecordSize, lengthInTwoBytes, journalRecordLengthField, journalLengthAndZeroPaddingValid as fitsIn, isTooLongAnswerRecord, startCallFromRecord, answerCallFromRecord, callFromJournalRecord};
 ghost use Rattle.journal.specs.Record.{journalCommandBuffer};
 ghost use Rattle.session.specs.Calls.{link-failed as linkFailedCall, stop as stopCall};
-ghost use Rattle.journal.specs.Verdict.{expectedNext, expectReplyUnlessEmpty as repliedOf, judgeCall as calledOf, judgeRecord, journalVerdictOf, expectedReplyAtFirstMismatch};
+ghost use Rattle.journal.specs.Verdict.{expectedNextOfSessionAndDueReply, expectReplyUnlessEmpty as repliedOf, judgeCall as calledOf, judgeRecord, journalVerdictOf, expectedReplyAtFirstMismatch};
 ghost use Rattle.journal.specs.ConformingRecords.{AllEntriesBelow256, VerdictIsExact, ConformingBytesFromByteCalls, ConformingJournalsAccepted, AcceptedHasAtMost262Records, ExpectedReplyOnlyConforming, ExpectedReplyAtEvenRecords};
 ghost use Rattle.journal.specs.Inner.{replyRecordWithWholeBuffer, expectedNextInState, checkStateOf, checkStateAfterRecord};
 ghost use Rattle.journal.specs.Inner.{newChecker, checkerAfterByte, checkerAfterBytes, checkerVerdict, checkerExpectedReply, CheckerWasFed};
@@ -237,7 +237,7 @@ fn judge(standing: JournalCheckState, whole: &[u8]) -> JournalCheckState
 
 // A call comes next.
 fn waiting(session: Session) -> JournalCheckState
-    ensures { λ r. ⌜ r ≡ checkStateOf (expectedNext session []) ⌝ }
+    ensures { λ r. ⌜ r ≡ checkStateOf (expectedNextOfSessionAndDueReply session []) ⌝ }
 {
     JournalCheckState {
         session,
@@ -399,7 +399,7 @@ fn due_of(standing: JournalCheckState, reply: Reply, buffer: [u8; MOST_COMMAND])
 
 // A command's record is expected.
 fn command_due(session: Session, size: usize, buffer: [u8; MOST_COMMAND]) -> JournalCheckState
-    ensures { λ r. ⌜ r ≡ checkStateOf (expectedNext session (5 ∷ (lengthInTwoBytes size ++ buffer))) ⌝ }
+    ensures { λ r. ⌜ r ≡ checkStateOf (expectedNextOfSessionAndDueReply session (5 ∷ (lengthInTwoBytes size ++ buffer))) ⌝ }
 {
     let mut due = [0u8; COMMAND_RECORD];
     due[0] = 5;
@@ -416,7 +416,7 @@ fn command_due(session: Session, size: usize, buffer: [u8; MOST_COMMAND]) -> Jou
 
 // An outcome's record is expected.
 fn outcome_due(session: Session, end: OutcomeParameters) -> JournalCheckState
-    ensures { λ r. ⌜ r ≡ checkStateOf (expectedNext session (6 ∷ outcomeNumber (end .outcome) ∷ end .reason ∷ [])) ⌝ }
+    ensures { λ r. ⌜ r ≡ checkStateOf (expectedNextOfSessionAndDueReply session (6 ∷ outcomeNumber (end .outcome) ∷ end .reason ∷ [])) ⌝ }
 {
     let outcome = end.outcome;
     let mut due = [0u8; COMMAND_RECORD];

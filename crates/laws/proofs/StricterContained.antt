@@ -7,7 +7,7 @@ use Prim.Native.Nat.{ℕ}
 use native.Mathlib.Omega.{arith}
 use Rattle.basics.specs.Choice.{both, _and_}
 use Rattle.analysis.specs.Bits.{hasBitCountedFromZeroAtByte1B8}
-use Rattle.analysis.specs.Choice.{lowestBitFrom, isSomeBit}
+use Rattle.analysis.specs.Choice.{lowestBitFromStartWithinCount, isSomeBit}
 use Rattle.analysis.specs.declared.choice.LowestBit.{LowestBit}
 use Rattle.analysis.specs.declared.choice.LowestBit.the-variants.{Bit, NoBit}
 use Rattle.analysis.proofs.Lowest.{lowest-none, none-passes}
@@ -18,7 +18,7 @@ abbrev pub missing : List ℕ → List ℕ → ℕ → Bool
 missing s t i = hasBitCountedFromZeroAtByte1B8 s i and not (hasBitCountedFromZeroAtByte1B8 t i)
 
 abbrev pub contained : List ℕ → List ℕ → Bool
-contained s t = not (isSomeBit (lowestBitFrom (missing s t) 0 40))
+contained s t = not (isSomeBit (lowestBitFromStartWithinCount (missing s t) 0 40))
 
 -- ---- a test that passes
 

@@ -15,7 +15,7 @@ use Rattle.dictionary.specs.Rows.{dictionaryRows, rowFoundShifted, findRow}
 use Rattle.store.specs.Place.{StoredValue, absent, bytesOrEmptyIfAbsent, objectValue}
 use Rattle.analysis.specs.Bits.{hasBitCountedFromZeroAtByte1B8}
 use Rattle.analysis.specs.Value.{firstBytesZeroPadded}
-use Rattle.analysis.specs.Choice.{denialStage, onlineStage, defaultStage, tvrBitIsInEitherActionCode, lowestBitFrom}
+use Rattle.analysis.specs.Choice.{denialStage, onlineStage, defaultStage, tvrBitIsInEitherActionCode, lowestBitFromStartWithinCount}
 use Rattle.analysis.specs.Choice.{lowestTvrBitInCodes, allZerosActionCode, allOnesActionCode, iacOrDefault}
 use Rattle.analysis.specs.Choice.{actionCodesAt, someTvrBitInCodesOfStage, onlineCapabilityByDigit}
 use Rattle.analysis.specs.Choice.{terminalActionAnalysis}
@@ -209,7 +209,7 @@ falling =
 
 falling-adds : map adds falling ≡ true ∷ true ∷ true ∷ true ∷ true ∷ true ∷ true ∷ true ∷ true ∷ true ∷ true ∷ true
     ∷ true ∷ []
-unfolding valueAmong lowestBitFrom iacOrDefault hasBitCountedFromZeroAtByte1B8 firstBytesZeroPadded both either if
+unfolding valueAmong lowestBitFromStartWithinCount iacOrDefault hasBitCountedFromZeroAtByte1B8 firstBytesZeroPadded both either if
 falling-adds = refl
 
 falling-ranks : map ranks falling
@@ -228,7 +228,7 @@ falling-ranks : map ranks falling
     ∷ ((Offline, 2) ∷ (Decline, 0) ∷ [])
     ∷ []
 unfolding valueAmong terminalActionAnalysis onlineCapabilityByDigit someTvrBitInCodesOfStage lowestTvrBitInCodes
-    lowestBitFrom tvrBitIsInEitherActionCode iacOrDefault hasBitCountedFromZeroAtByte1B8 firstBytesZeroPadded both
+    lowestBitFromStartWithinCount tvrBitIsInEitherActionCode iacOrDefault hasBitCountedFromZeroAtByte1B8 firstBytesZeroPadded both
     either if
 falling-ranks = refl
 
@@ -249,7 +249,7 @@ keeping =
     ∷ []
 
 keeping-adds : map adds keeping ≡ true ∷ true ∷ true ∷ true ∷ true ∷ true ∷ []
-unfolding valueAmong lowestBitFrom iacOrDefault hasBitCountedFromZeroAtByte1B8 firstBytesZeroPadded both either if
+unfolding valueAmong lowestBitFromStartWithinCount iacOrDefault hasBitCountedFromZeroAtByte1B8 firstBytesZeroPadded both either if
 keeping-adds = refl
 
 keeping-ranks : map ranks keeping
@@ -261,7 +261,7 @@ keeping-ranks : map ranks keeping
     ∷ ((Decline, 0) ∷ (Decline, 0) ∷ [])
     ∷ []
 unfolding valueAmong terminalActionAnalysis onlineCapabilityByDigit someTvrBitInCodesOfStage lowestTvrBitInCodes
-    lowestBitFrom tvrBitIsInEitherActionCode iacOrDefault hasBitCountedFromZeroAtByte1B8 firstBytesZeroPadded both
+    lowestBitFromStartWithinCount tvrBitIsInEitherActionCode iacOrDefault hasBitCountedFromZeroAtByte1B8 firstBytesZeroPadded both
     either if
 keeping-ranks = refl
 
@@ -285,7 +285,7 @@ rising =
     ∷ []
 
 rising-adds : map adds rising ≡ false ∷ false ∷ false ∷ false ∷ false ∷ false ∷ false ∷ []
-unfolding valueAmong lowestBitFrom iacOrDefault hasBitCountedFromZeroAtByte1B8 firstBytesZeroPadded both either if
+unfolding valueAmong lowestBitFromStartWithinCount iacOrDefault hasBitCountedFromZeroAtByte1B8 firstBytesZeroPadded both either if
 rising-adds = refl
 
 rising-ranks : map ranks rising
@@ -298,7 +298,7 @@ rising-ranks : map ranks rising
     ∷ ((Online, 1) ∷ (Offline, 2) ∷ [])
     ∷ []
 unfolding valueAmong terminalActionAnalysis onlineCapabilityByDigit someTvrBitInCodesOfStage lowestTvrBitInCodes
-    lowestBitFrom tvrBitIsInEitherActionCode iacOrDefault hasBitCountedFromZeroAtByte1B8 firstBytesZeroPadded both
+    lowestBitFromStartWithinCount tvrBitIsInEitherActionCode iacOrDefault hasBitCountedFromZeroAtByte1B8 firstBytesZeroPadded both
     either if
 rising-ranks = refl
 

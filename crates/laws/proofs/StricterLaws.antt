@@ -17,7 +17,7 @@ use Rattle.store.specs.Place.{absent}
 use Rattle.analysis.specs.Bits.{hasBitCountedFromZeroAtByte1B8}
 use Rattle.analysis.specs.Value.{firstBytesZeroPadded}
 use Rattle.analysis.specs.Choice.{denialStage, allZerosActionCode, allOnesActionCode, iacOrDefault}
-use Rattle.analysis.specs.Choice.{tvrBitIsInEitherActionCode, lowestBitFrom, lowestTvrBitInCodes, isSomeBit}
+use Rattle.analysis.specs.Choice.{tvrBitIsInEitherActionCode, lowestBitFromStartWithinCount, lowestTvrBitInCodes, isSomeBit}
 use Rattle.analysis.specs.Choice.{someTvrBitInCodesOfStage, onlineCapabilityOfType, choiceByStages}
 use Rattle.analysis.specs.Choice.{terminalActionAnalysis}
 use Rattle.analysis.specs.Action.{terminalType, cardAndKernelSupportOnDeviceCvm, aucViolatedInStore}
@@ -43,19 +43,19 @@ apart e = let z : _≡_ {A = ℕ} 0 1 = cc in absurd (omega arith)
 
 -- a test that passes wherever another does finds a number where the other finds one
 some-still : (f g : ℕ → Bool) (n i : ℕ) → ((m : ℕ) → m < i + n → f m ≡ true → g m ≡ true)
-    → isSomeBit (lowestBitFrom f i n) ≡ true → isSomeBit (lowestBitFrom g i n) ≡ true
-unfolding lowestBitFrom
+    → isSomeBit (lowestBitFromStartWithinCount f i n) ≡ true → isSomeBit (lowestBitFromStartWithinCount g i n) ≡ true
+unfolding lowestBitFromStartWithinCount
 some-still f g zero i h e = e
 some-still f g (suc n) i h e =
     elim (bool-cases (g i)) [
-      | inl t ↦ ap isSomeBit (if-yes (Bit i) (lowestBitFrom g (suc i) n) t)
+      | inl t ↦ ap isSomeBit (if-yes (Bit i) (lowestBitFromStartWithinCount g (suc i) n) t)
       | inr t ↦
-          ap isSomeBit (if-no (Bit i) (lowestBitFrom g (suc i) n) t)
+          ap isSomeBit (if-no (Bit i) (lowestBitFromStartWithinCount g (suc i) n) t)
           ∙ elim (bool-cases (f i)) [
             | inl u ↦ apart (sym t ∙ h i (omega arith) u)
             | inr u ↦
                 some-still f g n (suc i) (λ m l. h m (omega arith))
-                (sym (ap isSomeBit (if-no (Bit i) (lowestBitFrom f (suc i) n) u)) ∙ e)
+                (sym (ap isSomeBit (if-no (Bit i) (lowestBitFromStartWithinCount f (suc i) n) u)) ∙ e)
           ]
     ]
 
@@ -215,7 +215,7 @@ unfolding hasBitCountedFromZeroAtByte1B8
 no-bit i = simp (zeros (i / 8 + 1 - 1), zero-div)
 
 all-bits : AllFortyBitsSet allOnesActionCode
-unfolding lowestBitFrom if hasBitCountedFromZeroAtByte1B8
+unfolding lowestBitFromStartWithinCount if hasBitCountedFromZeroAtByte1B8
 all-bits i l = not-false _ (none-passes (λ i. not (hasBitCountedFromZeroAtByte1B8 allOnesActionCode i)) 40 0 refl i
     (omega arith) l)
 

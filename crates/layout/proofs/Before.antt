@@ -25,7 +25,7 @@ use Rattle.layout.specs.Layout.{layoutVersion, recordHeadSize, sessionRe
 use Rattle.layout.specs.Layout.{phaseFieldsOfAwaited, phaseFieldsOf, bigEndianBytes, recordHeadBytes}
 use Rattle.layout.specs.Layout.{elementWithNumber, choiceOfP1, cvmOfNumber, outcomeOfNumber, awaitedOfPhaseFields}
 use Rattle.layout.specs.Layout.{phaseOfPhaseFields}
-use Rattle.layout.specs.Layout.{phaseFieldsIn, phaseInHead, commandCountInHead, hasRecordLengthAndCanonicalHead}
+use Rattle.layout.specs.Layout.{phaseFieldsIn, phaseInHead, commandCountInHead, hasAtLeastRecordLengthAndCanonicalHead}
 use Rattle.layout.proofs.Number.{eight-bytes}
 
 -- the transaction limit that a phase holds, 0 where it holds none
@@ -136,8 +136,8 @@ head-tests v n d r c m t k =
     ∙ (ap (λ (x : Bool). both (eqb (k .number) n) (both (eqb (k .datum) d) x)) (both-assoc _ _ _)
     ∙ (ap (both (eqb (k .number) n)) (both-assoc _ _ _) ∙ both-assoc _ _ _)))
 
-holds-record : (l : List ℕ) → hasRecordLengthAndCanonicalHead l ≡ heldRecord l
-unfolding hasRecordLengthAndCanonicalHead heldRecord samePhaseCode
+holds-record : (l : List ℕ) → hasAtLeastRecordLengthAndCanonicalHead l ≡ heldRecord l
+unfolding hasAtLeastRecordLengthAndCanonicalHead heldRecord samePhaseCode
 holds-record l = elim (bool-cases (sessionRecordSize ≤? length l)) [
   | inl h ↦ ap (both (sessionRecordSize ≤? length l)) (long l (leb-true sessionRecordSize (length l) h))
   | inr h ↦ both-no-left _ _ h ∙ sym (both-no-left _ _ h)

@@ -38,7 +38,7 @@ use Rattle.layout.specs.Layout.{phaseFieldsOfAwaited, phaseFieldsOf, big
 use Rattle.layout.specs.Layout.{encodedSession}
 use Rattle.layout.specs.Layout.{elementWithNumber, choiceOfP1, cvmOfNumber, outcomeOfNumber, awaitedOfPhaseFields}
 use Rattle.layout.specs.Layout.{phaseOfPhaseFields, phaseFieldsIn, phaseInHead, commandCountInHead}
-use Rattle.layout.specs.Layout.{sessionWrittenOverFrontIfRoom, hasRecordLengthAndCanonicalHead, decodedSession}
+use Rattle.layout.specs.Layout.{sessionWrittenOverFrontIfRoom, hasAtLeastRecordLengthAndCanonicalHead, decodedSession}
 use Rattle.layout.specs.Layout.{decodedRecordHead, decodedStoreOrUnchanged}
 use Rattle.layout.proofs.Number.{bytes-length, bytes-number}
 use Rattle.layout.specs.Word.{resultWordKind, wordKindCommand, wordKindOutcome, wordKindRefusal, commandWord}
@@ -104,16 +104,16 @@ ownHead l = recordHeadBytes (phaseFieldsOf (phaseInHead l)) (commandCountInHead 
 
 module _ (l : List ℕ) where
   pub decoded-short : length l < sessionRecordSize → decodedSession l ≡ none
-  unfolding decodedSession hasRecordLengthAndCanonicalHead
+  unfolding decodedSession hasAtLeastRecordLengthAndCanonicalHead
   decoded-short h = if-no _ _ (both-no-left _ _ (lt-leb sessionRecordSize (length l) h))
 
   pub decoded-head : bytesEqual (ownHead l) (take recordHeadSize l) ≡ false → decodedSession l ≡ none
-  unfolding decodedSession hasRecordLengthAndCanonicalHead
+  unfolding decodedSession hasAtLeastRecordLengthAndCanonicalHead
   decoded-head e = if-no _ _ (both-no-right _ _ e)
 
   pub decoded-some : sessionRecordSize ≤ length l → bytesEqual (ownHead l) (take recordHeadSize l) ≡ true
       → decodedSession l ≡ some (sessionIn l)
-  unfolding decodedSession hasRecordLengthAndCanonicalHead
+  unfolding decodedSession hasAtLeastRecordLengthAndCanonicalHead
   decoded-some h e = if-yes _ _ (both-yes _ _ (le-leb sessionRecordSize (length l) h) e)
 
 -- bytes of another version are no record
@@ -155,8 +155,8 @@ record Known (l : List ℕ) : Type 0 where
   enough : sessionRecordSize ≤ length l
   head : ownHead l ≡ take recordHeadSize l
 
-known : (l : List ℕ) → hasRecordLengthAndCanonicalHead l ≡ true → Known l
-unfolding hasRecordLengthAndCanonicalHead
+known : (l : List ℕ) → hasAtLeastRecordLengthAndCanonicalHead l ≡ true → Known l
+unfolding hasAtLeastRecordLengthAndCanonicalHead
 known l t = record {
   enough = leb-true sessionRecordSize (length l) (both-left _ _ t);
   head =
@@ -183,7 +183,7 @@ held-none (some s) e = let z : _≡_ {A = ℕ} 0 1 = cc in absurd (omega arith)
 pub held-some : (l : List ℕ) (h : SessionRecordHead) → decodedRecordHead (decodedSession l) ≡ DecodedRecordHead.Record h
     → (sessionRecordSize ≤ length l) × (decodedSession l ≡ some (sessionIn l))
 unfolding decodedSession
-held-some l h e = elim (bool-cases (hasRecordLengthAndCanonicalHead l)) [
+held-some l h e = elim (bool-cases (hasAtLeastRecordLengthAndCanonicalHead l)) [
   | inl t ↦ (known l t .enough, if-yes _ _ t)
   | inr t ↦
       let f : DecodedRecordHead.Nothing ≡ DecodedRecordHead.Record h = sym (ap decodedRecordHead (if-no _ _ t)) ∙ e in
@@ -213,7 +213,7 @@ was-record (some s) h b c e f =
 pub encode-decode : (l : List ℕ) (s : Session) → decodedSession l ≡ some s
     → encodedSession s ++ drop sessionRecordSize l ≡ l
 unfolding decodedSession
-encode-decode l s e = elim (bool-cases (hasRecordLengthAndCanonicalHead l)) [
+encode-decode l s e = elim (bool-cases (hasAtLeastRecordLengthAndCanonicalHead l)) [
   | inl t ↦
       let f : some (sessionIn l) ≡ some s = sym (if-yes _ _ t) ∙ e in
       let g : sessionIn l ≡ s = cc in

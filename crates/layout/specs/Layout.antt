@@ -131,15 +131,15 @@ abbrev pub commandCountInHead : Bytes → Count
 commandCountInHead l = getD l 4 0
 
 -- the bytes hold a record: enough of them, whose head is that of the phase and the count that are read from it
-unfoldable pub hasRecordLengthAndCanonicalHead : Bytes → Bool
-hasRecordLengthAndCanonicalHead l =
+unfoldable pub hasAtLeastRecordLengthAndCanonicalHead : Bytes → Bool
+hasAtLeastRecordLengthAndCanonicalHead l =
     sessionRecordSize ≤? length l
     and bytesEqual (recordHeadBytes (phaseFieldsOf (phaseInHead l)) (commandCountInHead l)) (take recordHeadSize l)
 
 -- the session that bytes hold, with the store after the head; none where they hold no record
 unfoldable pub decodedSession : Bytes → Option Session
 decodedSession l =
-    if hasRecordLengthAndCanonicalHead l
+    if hasAtLeastRecordLengthAndCanonicalHead l
         then some (sessionOf (phaseInHead l) (commandCountInHead l) (take storeSize (drop recordHeadSize l)))
     else none
 

@@ -68,7 +68,7 @@ use Rattle.analysis.specs.Digits.{firstAmountIsAbove}
 use Rattle.analysis.specs.Restrictions.{cardVersionPresentAndDiffers, notYetEffective, isAtmTypeWithCashCapability}
 use Rattle.analysis.specs.Restrictions.{issuerCountryMatch, cashbackRequested, aucViolated}
 use Rattle.analysis.specs.Tvr.{tvrWithBits}
-use Rattle.analysis.specs.Choice.{tvrBitIsInEitherActionCode, lowestBitFrom, lowestTvrBitInCodes, iacOrDefault}
+use Rattle.analysis.specs.Choice.{tvrBitIsInEitherActionCode, lowestBitFromStartWithinCount, lowestTvrBitInCodes, iacOrDefault}
 use Rattle.analysis.specs.Choice.{someTvrBitInCodesOfStage, onlineCapabilityByDigit, terminalActionAnalysis}
 use Rattle.analysis.specs.declared.choice.Choice.{Choice}
 use Rattle.analysis.specs.declared.cvm.Cvm.{Cvm}
@@ -240,7 +240,7 @@ unfolding commandsSent playIn finalIn callsAccepted outcomeOfNonzeroReason expir
     findingsOf actionCodesOf choiceForTvr hasBitCountedFromZeroAtByte1B8 firstBytesZeroPadded appendDecimalDigits
     fourDigitYear dateAsNumber firstDateIsLater amountOf firstAmountIsAbove cardVersionPresentAndDiffers notYetEffective
     isAtmTypeWithCashCapability issuerCountryMatch cashbackRequested aucViolated tvrWithBits tvrBitIsInEitherActionCode
-    lowestBitFrom lowestTvrBitInCodes iacOrDefault someTvrBitInCodesOfStage onlineCapabilityByDigit
+    lowestBitFromStartWithinCount lowestTvrBitInCodes iacOrDefault someTvrBitInCodesOfStage onlineCapabilityByDigit
     terminalActionAnalysis cvmRulesFromPairs cvmRecognised cvmSupported cvmConditionMet takenBy cvmResultOfUnsuccessful
     cvmResultByRules cvmProcessing aipAndConfigurationSupportOnDeviceCvm bytesEqual
 verified = ap (map callResult) (play-in freshSession fresh-keeps (failing verifyingAnswer))
@@ -270,7 +270,7 @@ unfolding commandsSent playIn finalIn callsAccepted outcomeOfNonzeroReason expir
     findingsOf actionCodesOf choiceForTvr hasBitCountedFromZeroAtByte1B8 firstBytesZeroPadded appendDecimalDigits
     fourDigitYear dateAsNumber firstDateIsLater amountOf firstAmountIsAbove cardVersionPresentAndDiffers notYetEffective
     isAtmTypeWithCashCapability issuerCountryMatch cashbackRequested aucViolated tvrWithBits tvrBitIsInEitherActionCode
-    lowestBitFrom lowestTvrBitInCodes iacOrDefault someTvrBitInCodesOfStage onlineCapabilityByDigit
+    lowestBitFromStartWithinCount lowestTvrBitInCodes iacOrDefault someTvrBitInCodesOfStage onlineCapabilityByDigit
     terminalActionAnalysis cvmRulesFromPairs cvmRecognised cvmSupported cvmConditionMet takenBy cvmResultOfUnsuccessful
     cvmResultByRules cvmProcessing aipAndConfigurationSupportOnDeviceCvm bytesEqual
 verified-sent = ap commandsSent (play-in freshSession fresh-keeps (asking verifyingAnswer))
@@ -308,7 +308,7 @@ unfolding commandsSent playIn finalIn callsAccepted outcomeOfNonzeroReason expir
     findingsOf actionCodesOf choiceForTvr hasBitCountedFromZeroAtByte1B8 firstBytesZeroPadded appendDecimalDigits
     fourDigitYear dateAsNumber firstDateIsLater amountOf firstAmountIsAbove cardVersionPresentAndDiffers notYetEffective
     isAtmTypeWithCashCapability issuerCountryMatch cashbackRequested aucViolated tvrWithBits tvrBitIsInEitherActionCode
-    lowestBitFrom lowestTvrBitInCodes iacOrDefault someTvrBitInCodesOfStage onlineCapabilityByDigit
+    lowestBitFromStartWithinCount lowestTvrBitInCodes iacOrDefault someTvrBitInCodesOfStage onlineCapabilityByDigit
     terminalActionAnalysis cvmRulesFromPairs cvmRecognised cvmSupported cvmConditionMet takenBy cvmResultOfUnsuccessful
     cvmResultByRules cvmProcessing aipAndConfigurationSupportOnDeviceCvm onDeviceCvmResultByAboveLimit bytesEqual
 onDevice = ap (map callResult) (play-in freshSession fresh-keeps (failing onDeviceAnswer))
@@ -338,7 +338,7 @@ unfolding commandsSent playIn finalIn callsAccepted outcomeOfNonzeroReason expir
     findingsOf actionCodesOf choiceForTvr hasBitCountedFromZeroAtByte1B8 firstBytesZeroPadded appendDecimalDigits
     fourDigitYear dateAsNumber firstDateIsLater amountOf firstAmountIsAbove cardVersionPresentAndDiffers notYetEffective
     isAtmTypeWithCashCapability issuerCountryMatch cashbackRequested aucViolated tvrWithBits tvrBitIsInEitherActionCode
-    lowestBitFrom lowestTvrBitInCodes iacOrDefault someTvrBitInCodesOfStage onlineCapabilityByDigit
+    lowestBitFromStartWithinCount lowestTvrBitInCodes iacOrDefault someTvrBitInCodesOfStage onlineCapabilityByDigit
     terminalActionAnalysis cvmRulesFromPairs cvmRecognised cvmSupported cvmConditionMet takenBy cvmResultOfUnsuccessful
     cvmResultByRules cvmProcessing aipAndConfigurationSupportOnDeviceCvm onDeviceCvmResultByAboveLimit bytesEqual
 on-device-held = ap (λ (s : Session). s .phase) (final-in freshSession fresh-keeps (asking onDeviceAnswer))
@@ -368,7 +368,7 @@ unfolding commandsSent playIn finalIn callsAccepted outcomeOfNonzeroReason expir
     findingsOf actionCodesOf choiceForTvr hasBitCountedFromZeroAtByte1B8 firstBytesZeroPadded appendDecimalDigits
     fourDigitYear dateAsNumber firstDateIsLater amountOf firstAmountIsAbove cardVersionPresentAndDiffers notYetEffective
     isAtmTypeWithCashCapability issuerCountryMatch cashbackRequested aucViolated tvrWithBits tvrBitIsInEitherActionCode
-    lowestBitFrom lowestTvrBitInCodes iacOrDefault someTvrBitInCodesOfStage onlineCapabilityByDigit
+    lowestBitFromStartWithinCount lowestTvrBitInCodes iacOrDefault someTvrBitInCodesOfStage onlineCapabilityByDigit
     terminalActionAnalysis cvmRulesFromPairs cvmRecognised cvmSupported cvmConditionMet takenBy cvmResultOfUnsuccessful
     cvmResultByRules cvmProcessing aipAndConfigurationSupportOnDeviceCvm onDeviceCvmResultByAboveLimit bytesEqual
 on-device-sent = ap commandsSent (play-in freshSession fresh-keeps (asking onDeviceAnswer))
@@ -419,7 +419,7 @@ unfolding commandsSent playIn finalIn callsAccepted outcomeOfNonzeroReason expir
     findingsOf actionCodesOf choiceForTvr hasBitCountedFromZeroAtByte1B8 firstBytesZeroPadded appendDecimalDigits
     fourDigitYear dateAsNumber firstDateIsLater amountOf firstAmountIsAbove cardVersionPresentAndDiffers notYetEffective
     isAtmTypeWithCashCapability issuerCountryMatch cashbackRequested aucViolated tvrWithBits tvrBitIsInEitherActionCode
-    lowestBitFrom lowestTvrBitInCodes iacOrDefault someTvrBitInCodesOfStage onlineCapabilityByDigit
+    lowestBitFromStartWithinCount lowestTvrBitInCodes iacOrDefault someTvrBitInCodesOfStage onlineCapabilityByDigit
     terminalActionAnalysis cvmRulesFromPairs cvmRecognised cvmSupported cvmConditionMet takenBy cvmResultOfUnsuccessful
     cvmResultByRules cvmProcessing aipAndConfigurationSupportOnDeviceCvm bytesEqual track2AndBitmapsNonEmpty
     udolOrDefault computeCryptographicChecksum requestChecksum nextAfterRecordsInMagStripeMode nextAfterChecksumRead
@@ -452,7 +452,7 @@ unfolding commandsSent playIn finalIn callsAccepted outcomeOfNonzeroReason expir
     findingsOf actionCodesOf choiceForTvr hasBitCountedFromZeroAtByte1B8 firstBytesZeroPadded appendDecimalDigits
     fourDigitYear dateAsNumber firstDateIsLater amountOf firstAmountIsAbove cardVersionPresentAndDiffers notYetEffective
     isAtmTypeWithCashCapability issuerCountryMatch cashbackRequested aucViolated tvrWithBits tvrBitIsInEitherActionCode
-    lowestBitFrom lowestTvrBitInCodes iacOrDefault someTvrBitInCodesOfStage onlineCapabilityByDigit
+    lowestBitFromStartWithinCount lowestTvrBitInCodes iacOrDefault someTvrBitInCodesOfStage onlineCapabilityByDigit
     terminalActionAnalysis cvmRulesFromPairs cvmRecognised cvmSupported cvmConditionMet takenBy cvmResultOfUnsuccessful
     cvmResultByRules cvmProcessing aipAndConfigurationSupportOnDeviceCvm bytesEqual track2AndBitmapsNonEmpty
     udolOrDefault computeCryptographicChecksum requestChecksum nextAfterRecordsInMagStripeMode

@@ -35,7 +35,7 @@ use Rattle.analysis.specs.Digits.{firstAmountIsAbove}
 use Rattle.analysis.specs.Restrictions.{cardVersionPresentAndDiffers, notYetEffective, isAtmTypeWithCashCapability}
 use Rattle.analysis.specs.Restrictions.{issuerCountryMatch, cashbackRequested, aucViolated}
 use Rattle.analysis.specs.Tvr.{tvrWithBits}
-use Rattle.analysis.specs.Choice.{tvrBitIsInEitherActionCode, lowestBitFrom, lowestTvrBitInCodes, iacOrDefault}
+use Rattle.analysis.specs.Choice.{tvrBitIsInEitherActionCode, lowestBitFromStartWithinCount, lowestTvrBitInCodes, iacOrDefault}
 use Rattle.analysis.specs.Choice.{someTvrBitInCodesOfStage, onlineCapabilityByDigit, terminalActionAnalysis}
 use Rattle.analysis.specs.Cvm.{cvmProcessing, aipAndConfigurationSupportOnDeviceCvm}
 use Rattle.analysis.specs.Action.{cardAndKernelSupportOnDeviceCvm, transactionLimit, storedAmountAboveLimit}
@@ -74,7 +74,7 @@ unfolding recurseWithFuelFromLength recurseWithFuel if both either every appendB
     generateAc udolOrDefault computeCryptographicChecksum hasBitCountedFromZeroAtByte1B8 firstBytesZeroPadded
     appendDecimalDigits fourDigitYear dateAsNumber firstDateIsLater amountOf firstAmountIsAbove
     cardVersionPresentAndDiffers notYetEffective isAtmTypeWithCashCapability issuerCountryMatch
-    cashbackRequested aucViolated tvrWithBits tvrBitIsInEitherActionCode lowestBitFrom lowestTvrBitInCodes iacOrDefault
+    cashbackRequested aucViolated tvrWithBits tvrBitIsInEitherActionCode lowestBitFromStartWithinCount lowestTvrBitInCodes iacOrDefault
     someTvrBitInCodesOfStage onlineCapabilityByDigit terminalActionAnalysis cvmProcessing
     aipAndConfigurationSupportOnDeviceCvm cardAndKernelSupportOnDeviceCvm transactionLimit
     storedAmountAboveLimit aucViolatedInStore restrictionsTvrByte2 tvrBeforeCvm currenciesPresentAndEqual
@@ -121,7 +121,7 @@ unfolding recurseWithFuelFromLength recurseWithFuel if both either every appendB
     generateAc udolOrDefault computeCryptographicChecksum hasBitCountedFromZeroAtByte1B8 firstBytesZeroPadded
     appendDecimalDigits fourDigitYear dateAsNumber firstDateIsLater amountOf firstAmountIsAbove
     cardVersionPresentAndDiffers notYetEffective isAtmTypeWithCashCapability issuerCountryMatch
-    cashbackRequested aucViolated tvrWithBits tvrBitIsInEitherActionCode lowestBitFrom lowestTvrBitInCodes iacOrDefault
+    cashbackRequested aucViolated tvrWithBits tvrBitIsInEitherActionCode lowestBitFromStartWithinCount lowestTvrBitInCodes iacOrDefault
     someTvrBitInCodesOfStage onlineCapabilityByDigit terminalActionAnalysis cvmProcessing
     aipAndConfigurationSupportOnDeviceCvm cardAndKernelSupportOnDeviceCvm transactionLimit
     storedAmountAboveLimit aucViolatedInStore restrictionsTvrByte2 tvrBeforeCvm currenciesPresentAndEqual

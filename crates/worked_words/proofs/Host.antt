@@ -48,7 +48,7 @@ use Rattle.session_record.specs.declared.Session.{Session}
 use Rattle.session_record.specs.Session.{freshSession, storeBytes}
 use Rattle.session_record.specs.Ranges.{sessionRecordInRanges}
 use Rattle.session_record.proofs.Phases.{fresh-keeps}
-use Rattle.layout.specs.Layout.{hasRecordLengthAndCanonicalHead, decodedSession}
+use Rattle.layout.specs.Layout.{hasAtLeastRecordLengthAndCanonicalHead, decodedSession}
 use Rattle.layout.specs.Word.{commandWord, resultWord}
 use Rattle.layout.proofs.Laws.{decode-encode}
 use Rattle.find.specs.Find.{firstFoundUnlessMalformed, foundShifted, findTagWithinLevels, findTag}
@@ -59,7 +59,7 @@ use Rattle.session.specs.Calls.{answer}
 use Rattle.worked_examples.specs.Calls.{bufferOf261, resultOf}
 use Rattle.worked_examples.proofs.Laws.{answer-in}
 use Rattle.worked_examples.proofs.Ranges.{kept}
-use Rattle.worked_words.specs.Host.{encodedSessionWithTrailingByte, hostAnswerWord, HostWordExamples}
+use Rattle.worked_words.specs.Host.{encodedSessionThenIgnoredByte, hostAnswerWord, HostWordExamples}
 
 -- the word of an answer on a session in bytes is that of the session's own
 word-of : (s : Session) → length (storeBytes s) ≡ storeSize → (card : List ℕ) {a : CallResult} {w : ℕ}
@@ -68,10 +68,10 @@ word-of : (s : Session) → length (storeBytes s) ≡ storeSize → (card : List
 unfolding hostAnswerWord resultOf performHostCallIfAdmitted if
 word-of s z card e f =
     ap (λ (x : Option Session). hostStepOrRefusal (λ (t : Session) b. answerStep t card b)
-    (encodedSessionWithTrailingByte s) bufferOf261 x .word) (decode-encode s (0xEE ∷ []) z) ∙ ap resultWord e ∙ f
+    (encodedSessionThenIgnoredByte s) bufferOf261 x .word) (decode-encode s (0xEE ∷ []) z) ∙ ap resultWord e ∙ f
 
 counts : (s : Session) → length (storeBytes s) ≡ storeSize
-    → commandCountOrAllOnes (decodedSession (encodedSessionWithTrailingByte s)) ≡ s .count
+    → commandCountOrAllOnes (decodedSession (encodedSessionThenIgnoredByte s)) ≡ s .count
 counts s z = ap commandCountOrAllOnes (decode-encode s (0xEE ∷ []) z)
 
 pub words : HostWordExamples
@@ -96,7 +96,7 @@ unfolding recurseWithFuelFromLength recurseWithFuel if both either every appendB
     nextAfterGpoRead nextOnGpoResponse readResponseThen nextOnRecordResponse nextAfterRecordRead nextAfterLastRecord
     nextAfterRecordsInEmvMode requestedCryptogram requestCryptogram outcomeForCryptogramType cryptogramEnding
     nextOnCryptogramResponse commandWord firstFoundUnlessMalformed
-    foundShifted findTagWithinLevels findTag hasRecordLengthAndCanonicalHead decodedSession performHostCallIfAdmitted
+    foundShifted findTagWithinLevels findTag hasAtLeastRecordLengthAndCanonicalHead decodedSession performHostCallIfAdmitted
     objectCopiedFromStore objectCopiedFromSession
 words = record {
   commands = refl;

@@ -28,12 +28,12 @@ use Rattle.worked_examples.specs.Calls.{with9000, with6A82}
 use Rattle.worked_examples.specs.Gpo.{gpoBodyIn77}
 
 -- a session's record with a byte after it
-abbrev pub encodedSessionWithTrailingByte : Session → Bytes
-encodedSessionWithTrailingByte s = encodedSession s ++ (0xEE ∷ [])
+abbrev pub encodedSessionThenIgnoredByte : Session → Bytes
+encodedSessionThenIgnoredByte s = encodedSession s ++ (0xEE ∷ [])
 
 -- the word of an answer on a session in bytes
 unfoldable pub hostAnswerWord : Session → Response → ResultWord
-hostAnswerWord s card = hostAnswer card (encodedSessionWithTrailingByte s) bufferOf261 .word
+hostAnswerWord s card = hostAnswer card (encodedSessionThenIgnoredByte s) bufferOf261 .word
 
 -- a store whose first place, that of 50, holds two bytes; and one where it is present and empty
 abbrev pub storeWithTwoBytesOf50 : StoreBytes
@@ -71,7 +71,7 @@ pub record HostWordExamples : Type 0 where
   pub answer-phase : hostAnswerWord freshSession (0x6A ∷ 0x82 ∷ []) ≡ 0x20015
   -- no bytes; a session that has handed out one command
   pub count-none : commandCountOrAllOnes (decodedSession []) ≡ 0xFFFFFFFF
-  pub count-one : commandCountOrAllOnes (decodedSession (encodedSessionWithTrailingByte waitsOnGpo)) ≡ 1
+  pub count-one : commandCountOrAllOnes (decodedSession (encodedSessionThenIgnoredByte waitsOnGpo)) ≡ 1
   -- an object: no record; a tag that the dictionary does not have; absent; too little room; two bytes; there and empty
   pub object-refused : objectCopiedFromSession (decodedSession []) 0x50 [] .word ≡ 0x20019
   pub object-unknown : objectCopiedFromStore storeWithTwoBytesOf50 0x5F60 [] .word ≡ 0x40000

@@ -6,7 +6,7 @@ use lib.ListN.{replicate}
 use Rattle.session_record.specs.declared.Session.{Session}
 use Rattle.journal.specs.declared.JournalCheckState.{JournalCheckState}
 use Rattle.journal.specs.declared.JournalChecker.{JournalChecker}
-use Rattle.journal.specs.Verdict.{expectedNext}
+use Rattle.journal.specs.Verdict.{expectedNextOfSessionAndDueReply}
 use Rattle.journal.specs.Inner.{checkStateOf, newChecker, checkerAfterBytes}
 use borrow.Author.Needs.{needs}
 use Rattle.journal.proofs.begin.Statement.{statement}
@@ -18,7 +18,7 @@ holdingNone s = record { standing = s; held = replicate 1027 0; length = 0; reco
 
 returns : tie.Need-returns
 unfolding newChecker checkerAfterBytes
-returns c = let e = ap holdingNone (c .waiting .ensures ∙ ap (λ (f : Session). checkStateOf (expectedNext f []))
+returns c = let e = ap holdingNone (c .waiting .ensures ∙ ap (λ (f : Session). checkStateOf (expectedNextOfSessionAndDueReply f []))
     (c .before .fresh-session .ensures)) in (e, e)
 
 pub begin-spec : {M : Type 1} → statement M

@@ -6,7 +6,7 @@ use Prim.Native.Nat.{ℕ}
 use lib.ListN.{length, take}
 use lib.Seq.{length-take-le}
 use Rattle.basics.proofs.Laws.{if-yes, if-no}
-use Rattle.journal.specs.Verdict.{expectedNext, judgeRecord}
+use Rattle.journal.specs.Verdict.{expectedNextOfSessionAndDueReply, judgeRecord}
 use Rattle.journal.proofs.Due.{stands-as, reply-due}
 use borrow.Author.Needs.{needs}
 use Rattle.journal.proofs.judge.Statement.{statement}
@@ -15,7 +15,7 @@ use Rattle.journal.proofs.judge.Tie as tie
 returns : tie.Need-returns
 returns c = let a = c .before .before .before .before .args in
     stands-as _
-    (ap (λ (k : ℕ). judgeRecord (expectedNext (a .standing .session) (take k (a .standing .due))) (a .whole .now))
+    (ap (λ (k : ℕ). judgeRecord (expectedNextOfSessionAndDueReply (a .standing .session) (take k (a .standing .due))) (a .whole .now))
     (sym (c .before .if1 .taken))) (c .called .ensures)
 
 array-share-prefix-due : tie.Need-array-share-prefix-due

@@ -6,7 +6,7 @@ use mathlib.Core.Path.{_≡_, sym, ap, _∙_}
 use Prim.Native.Nat.{ℕ, _-_, _≤_, _<_}
 use native.Mathlib.Omega.{arith}
 use borrow.Author.Count.{below-more}
-use Rattle.analysis.specs.Choice.{lowestBitFrom}
+use Rattle.analysis.specs.Choice.{lowestBitFromStartWithinCount}
 use Rattle.analysis.specs.Inner.{tvrByteBitInCodes}
 use Rattle.analysis.proofs.Lowest.{lowest-is, lowest-none}
 use Rattle.analysis.proofs.Stages.{zero-byte}
@@ -21,7 +21,7 @@ abbrev μ-loop : tie.MeasureT-loop
 
 returns : tie.Need-returns Inv-loop μ-loop
 returns c =
-    sym (ap (λ (x : ℕ). lowestBitFrom (tvrByteBitInCodes x (c .before .args .card) (c .before .args .terminal)) 0 8)
+    sym (ap (λ (x : ℕ). lowestBitFromStartWithinCount (tvrByteBitInCodes x (c .before .args .card) (c .before .args .terminal)) 0 8)
     (c .if1 .taken) ∙ zero-byte (c .before .args .card) (c .before .args .terminal))
 
 loop-holds : tie.Need-loop-holds Inv-loop μ-loop
