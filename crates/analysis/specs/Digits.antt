@@ -49,4 +49,4 @@ firstAmountIsAbove a b = amountOf b <? amountOf a
 
 -- ---- what holds of it, proved in proofs/Decimal
 --   one-century    on dates whose years are both 00 to 49, or both not, the later one has the greater six digits:
---                  laterThan a b ≡ (decimal (front 3 b) <? decimal (front 3 a))
+--                  there the rule is that of document 01

@@ -44,11 +44,12 @@ reasonStatusNot9000 = 1
 abbrev pub reasonMalformed : ℕ
 reasonMalformed = 2
 
--- an object that the card may not set so
+-- an object that the card may not set so; in mag-stripe mode also a track that cannot take the digits
 abbrev pub reasonObjectNotAllowed : ℕ
 reasonObjectNotAllowed = 3
 
--- an object that the next step needs is absent; 5F24, 5A and 8C count as missing when empty, too
+-- an object that the next step needs is absent; after the last record one that is empty counts as missing, too: in EMV
+-- mode 5F24, 5A and 8C, in mag-stripe mode 9F6B, 9F65, 9F66 and 9F67
 abbrev pub reasonObjectMissing : ℕ
 reasonObjectMissing = 4
 
@@ -76,7 +77,7 @@ reasonLink = 9
 abbrev pub reasonStopped : ℕ
 reasonStopped = 10
 
--- the AIP indicates no EMV mode
+-- the AIP indicates no EMV mode, and mag-stripe mode is off
 abbrev pub reasonNoSupportedMode : ℕ
 reasonNoSupportedMode = 11
 

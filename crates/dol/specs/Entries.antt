@@ -60,6 +60,6 @@ dolTotalLength (e ∷ es) = e .asked + dolTotalLength es
 -- ---- what holds of it, proved in proofs/Entries for all lists
 --   entry-inside     an entry takes two bytes at least, all inside its list
 --   entry-kept       bytes after the list do not change its entry
---   unroll           listEntries s ≡ along listEntries s
+--   unroll           the entries of a list are its first one and those of the rest
 --   entries-end, entries-broken, entries-more    one law for each way out of a step
 --   entries-join     the entries of two whole lists concatenated are the entries of both, concatenated

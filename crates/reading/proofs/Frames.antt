@@ -17,8 +17,8 @@ use Rattle.tlv.specs.Tree.{parseTree}
 use Rattle.reading.specs.declared.TemplateWalkResult.{TemplateWalkResult}
 use Rattle.reading.specs.declared.TemplateWalkResult.the-variants.{Whole, Broken}
 use Rattle.reading.specs.Taking.{PrimitiveItem}
-use Rattle.reading.specs.Items.{tally, unpackedFirstItems, TemplateWalkHasRoom, WalkListedItems, ListsTreeThen}
-use Rattle.reading.specs.Items.{WalkListsTree}
+use Rattle.reading.specs.InnerItems.{tally, unpackedFirstItems, TemplateWalkHasRoom, WalkListedItems, ListsTreeThen}
+use Rattle.reading.specs.InnerItems.{WalkListsTree}
 use Rattle.reading.proofs.Items.{part}
 use Rattle.reading.proofs.Runs.{Run, Next, has-listed, ended, bounds, small, deep, entered, node-same}
 

@@ -23,10 +23,10 @@ use Rattle.tlv.specs.Length.{lengthAt}
 use Rattle.tlv.specs.Object.{headerOf, headerWithLength, headerWithTag, headerValue, behindObject}
 use Rattle.tlv.proofs.Laws.{Bytes, contents-is, number-one, number-two, number-three, tag-fits, HeaderFits}
 use Rattle.reading.specs.Taking.{PrimitiveItem, primitiveItem}
-use Rattle.reading.specs.Items.{packedItem, packedItemTag, packedItemTemplateTag, packedItemValueStart}
-use Rattle.reading.specs.Items.{packedItemValueLength, packedItemValueIn, unpackedItem}
-use Rattle.reading.specs.Items.{mostListedItems, unpackedItems, ItemValueInside, AllItemValuesInside}
-use Rattle.reading.specs.Items.{unpackedFirstItems, TemplateWalkHasRoom}
+use Rattle.reading.specs.InnerItems.{packedItem, packedItemTag, packedItemTemplateTag, packedItemValueStart}
+use Rattle.reading.specs.InnerItems.{packedItemValueLength, packedItemValueIn, unpackedItem}
+use Rattle.reading.specs.InnerItems.{mostListedItems, unpackedItems, ItemValueInside, AllItemValuesInside}
+use Rattle.reading.specs.InnerItems.{unpackedFirstItems, TemplateWalkHasRoom}
 
 -- ---- packing
 

@@ -33,13 +33,13 @@ use Rattle.reading.specs.declared.ItemVerdict.the-variants.{Skipped, Not
 use Rattle.reading.specs.Taking.{PrimitiveItem, cardMaySet, rowAllowsValueFromCard}
 use Rattle.reading.specs.Taking.{rowAllowsValueAndAbsentOrEmpty, StoringState, storingState}
 use Rattle.reading.specs.Taking.{storeKnownItem, storeItemOfRowFound, storeItem, storeNextItem, storeAllItems}
-use Rattle.reading.specs.Items.{packedItemTag, packedItemTemplateTag, unpackedItem, packedItemValueIn}
-use Rattle.reading.specs.Items.{packedItemValueStart, packedItemValueLength, ItemValueInside}
-use Rattle.reading.specs.Items.{mostListedItems, unpackedItems, IsItemList, unpackedFirstItems}
-use Rattle.reading.specs.Pending.{judgeKnownItem, judgeItemOfRowFound, judgeItem, storeJudgedItem}
-use Rattle.reading.specs.Pending.{packedPendingEntry, pendingEntryRow}
-use Rattle.reading.specs.Pending.{storeWithPending, markRowFilledIfNonEmpty, PendingEntryFitsRowAndBytes}
-use Rattle.reading.specs.Pending.{AllPendingEntriesFitRowAndBytes, IsPendingList, PendingEntriesAndMarksForStore}
+use Rattle.reading.specs.InnerItems.{packedItemTag, packedItemTemplateTag, unpackedItem, packedItemValueIn}
+use Rattle.reading.specs.InnerItems.{packedItemValueStart, packedItemValueLength, ItemValueInside}
+use Rattle.reading.specs.InnerItems.{mostListedItems, unpackedItems, IsItemList, unpackedFirstItems}
+use Rattle.reading.specs.InnerPending.{judgeKnownItem, judgeItemOfRowFound, judgeItem, storeJudgedItem}
+use Rattle.reading.specs.InnerPending.{packedPendingEntry, pendingEntryRow}
+use Rattle.reading.specs.InnerPending.{storeWithPending, markRowFilledIfNonEmpty, PendingEntryFitsRowAndBytes}
+use Rattle.reading.specs.InnerPending.{AllPendingEntriesFitRowAndBytes, IsPendingList, PendingEntriesAndMarksForStore}
 use Rattle.reading.proofs.Laws.{row-skipped, row-comes, may-come-fits, next-good, next-bad, took, took-all}
 use Rattle.reading.proofs.Items.{inside-at}
 

@@ -23,8 +23,8 @@ use Rattle.reading.specs.declared.VisitTally.{VisitTally}
 use Rattle.reading.specs.declared.TemplateWalkResult.{TemplateWalkResult}
 use Rattle.reading.specs.declared.TemplateWalkResult.the-variants.{Whole, Broken}
 use Rattle.reading.specs.Taking.{PrimitiveItem, primitiveItem, primitiveItems}
-use Rattle.reading.specs.Items.{packedItem, tally, mostListedItems, unpackedFirstItems, TemplateWalkHasRoom}
-use Rattle.reading.specs.Items.{WalkListedItems, ListsTreeThen, WalkListsTree}
+use Rattle.reading.specs.InnerItems.{packedItem, tally, mostListedItems, unpackedFirstItems, TemplateWalkHasRoom}
+use Rattle.reading.specs.InnerItems.{WalkListedItems, ListsTreeThen, WalkListsTree}
 use Rattle.reading.proofs.Items.{part, part-empty, part-bytes, part-length, part-cons, object-inside, value-in}
 use Rattle.reading.proofs.Items.{value-part, behind-part, tag-small}
 use Rattle.reading.proofs.Items.{item-packed, inside-packed, items-more, items-listed, pass, enter, has-room}

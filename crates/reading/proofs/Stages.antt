@@ -35,9 +35,9 @@ use Rattle.reading.specs.declared.TemplateWalkResult.the-variants as wal
 use Rattle.reading.specs.declared.ItemListing.{ItemListing}
 use Rattle.reading.specs.declared.ItemListing.the-variants.{Objects, Decided}
 use Rattle.reading.specs.Taking.{PrimitiveItem, primitiveItem, StoringState, storingState, storeAllItems}
-use Rattle.reading.specs.Items.{packedItem, unpackedItems, unpackedFirstItems, mostListedItems, IsItemList, tally}
-use Rattle.reading.specs.Items.{WalkListedItems, ListsTreeThen}
-use Rattle.reading.specs.Pending.{storeWithPending}
+use Rattle.reading.specs.InnerItems.{packedItem, unpackedItems, unpackedFirstItems, mostListedItems, IsItemList, tally}
+use Rattle.reading.specs.InnerItems.{WalkListedItems, ListsTreeThen}
+use Rattle.reading.specs.InnerPending.{storeWithPending}
 use Rattle.reading.specs.Answer.{verdictNumber, ReadingOutcome, readingOutcome, ReadingAndStoreMatchOutcome}
 use Rattle.reading.specs.Answer.{primitive, template}
 use Rattle.reading.specs.Answer.{templateBody, bodyOfOneObject, parseResponseBody}

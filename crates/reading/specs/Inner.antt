@@ -28,7 +28,7 @@ use Rattle.reading.specs.declared.ItemListing.the-variants.{Objects, Dec
 use Rattle.reading.specs.declared.OpenedResponse.{OpenedResponse}
 use Rattle.reading.specs.declared.OpenedResponse.the-variants.{Template, Listed}
 use Rattle.reading.specs.Taking.{PrimitiveItem, storingState, storeAllItems}
-use Rattle.reading.specs.Items.{IsItemList, unpackedFirstItems}
+use Rattle.reading.specs.InnerItems.{IsItemList, unpackedFirstItems}
 use Rattle.reading.specs.Answer.{ReadingOutcome, readingOutcome, verdictNumber, templateBody, responseTemplateTag}
 use Rattle.reading.specs.Answer.{responseBit, readingIfAllAllowed, readBodyItems, readParsedBody}
 use Rattle.reading.specs.Answer.{responseLengthIs2To258}

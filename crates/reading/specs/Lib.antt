@@ -1,7 +1,7 @@
 pub mod Taking
 pub mod Answer
 pub mod Count
-pub mod Items
-pub mod Pending
+pub mod InnerItems
+pub mod InnerPending
 pub mod Inner
 pub mod Both

@@ -12,7 +12,7 @@ ghost use lib.ListN.{length, take, drop};
 ghost use Rattle.dictionary.specs.Rows.{storeSize};
 ghost use Rattle.tlv.specs.Tree.{parseTree};
 ghost use Rattle.reading.specs.Count.{objectCountInAnswer};
-ghost use Rattle.reading.specs.Items.{mostListedItems, TemplateWalkHasRoom, WalkListsTree};
+ghost use Rattle.reading.specs.InnerItems.{mostListedItems, TemplateWalkHasRoom, WalkListsTree};
 ghost use Rattle.reading.specs.Inner.{ListingGivesReading};
 ghost use Rattle.reading.specs.Answer.{ReadingAndStoreMatchOutcome, verdictNumber, readAnswer};
 

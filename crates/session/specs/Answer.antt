@@ -100,7 +100,7 @@ nextAfterLastRecord l b =
 unfoldable pub nextAfterRecordRead : AwaitedRecord → StoreBytes → NextAction
 nextAfterRecordRead p b = requestKthRecordOrElse (p .limit) (p .number + 1) b (nextAfterLastRecord (p .limit) b)
 
--- the answer is read by the file of the record that was requested. A record in its ranges always has the one requested
+-- the answer is read by the file of the record that was requested. A session in its ranges has one
 abbrev pub nextOnResponseForRecordFound : AwaitedRecord → StoreBytes → Response → RecordFound → NextAction
 nextOnResponseForRecordFound p b card RecordFound.Nothing = endForReason reasonAflInvalid b
 nextOnResponseForRecordFound p b card (RecordFound.At r)  =

@@ -71,7 +71,7 @@ nextAfterChecksumRead b =
     else end (endingOf Outcome.OnlineRequest reasonNone) cvmNumberNotApplicable (storeWithTrackDigits b)
 
 -- the reading left the store d: where the stored track b cannot take the digits (3) nothing of the answer is kept. The
--- answer cannot change track and bitmaps: none is empty, and it may not bring one again
+-- answer cannot change track and bitmaps: none is empty, and it may not bring one again, so that the digits can go in
 unfoldable pub nextIfTrackTakesDigits : StoreBytes → StoreBytes → NextAction
 nextIfTrackTakesDigits b d =
     if storedTrackCanTakeDigits b then nextAfterChecksumRead d

@@ -1,6 +1,6 @@
 -- What a call does (document 01, "Calls and their numbers"). What follows a call goes by the session's store and by
--- what the call brings; `stepOfEffect` alone adds the count, the command buffer and the reply. `stepIfAdmitted` puts
--- the refusals first that every call checks.
+-- what the call brings; `stepOfEffect` adds the count, the command buffer and the reply. `stepIfAdmitted` puts the
+-- refusals first that every call checks.
 -- Assumes nothing.
 use mathlib.Core.Path.{_≡_}
 use mathlib.Core.Bool.{not}
@@ -49,7 +49,8 @@ heldCvm (AwaitedResponse.Record p)     = cvmNumberNotApplicable
 heldCvm (AwaitedResponse.Cryptogram a) = cvmNumber (a .cvm)
 heldCvm (AwaitedResponse.Checksum c)   = cvmNumberNotApplicable
 
--- a command that carries a filled DOL; where the list is broken, or fills to a length no command can carry, reason 7
+-- a command that carries a filled DOL; where the list is broken, or fills to a length no command can carry, reason 7,
+-- with the CVM that would be held with that command: for CDOL1 (8C) it is chosen already
 abbrev pub requestCommandOrEndForDol : AwaitedResponse → StoreBytes → Option CommandBytes → NextAction
 requestCommandOrEndForDol w b none     = end (endingForReason reasonDolBrokenOrBadLength) (heldCvm w) b
 requestCommandOrEndForDol w b (some c) = ask c w b
@@ -60,7 +61,8 @@ reasonOfNext (ask c w b) = reasonNone
 reasonOfNext (end e m b) = e .reason
 
 -- a response is read into the store: a reason that the reading gives ends the session, which reports the CVM m, and
--- nothing of the response is stored; else what follows goes by the store with what was read
+-- nothing of the response is stored; else what follows goes by the store with what was read. The first argument is the
+-- reading's own kind of response: of a record it has the file alone
 unfoldable pub readResponseThen : Awaited → CvmNumber → StoreBytes → Response → (StoreBytes → NextAction) → NextAction
 readResponseThen a m b card next =
     let o = readAnswer a b card in
@@ -82,7 +84,7 @@ pub record Step : Type 0 where
   pub reply : Reply
   pub buffer : Buffer
 
--- the returned value r and the buffer b are those of the step s
+-- the returned reply and the buffer afterwards are those of the expected step
 pub record ReturnsStep (returnedReply : Reply) (bufferAfter : Buffer) (expected : Step) : Type 0 where
   pub reply : returnedReply ≡ expected .reply
   pub buffer : bufferAfter ≡ expected .buffer

@@ -73,7 +73,7 @@ inRunningRanges b =
 
 -- ---- after GPO
 
--- 82 is present with byte 2 b8 set
+-- 82 is present with byte 2 b8 set; an absent one has no bit
 abbrev pub emvMode : StoreBytes → Bool
 emvMode b = valueHasBit (storedBytes b 0x82) 2 8
 

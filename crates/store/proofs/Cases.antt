@@ -6,7 +6,7 @@ use mathlib.Core.List.{[], _∷_}
 use Prim.Native.Nat.{ℕ, zero, suc, _≤_}
 use native.Mathlib.Omega.{arith}
 use types.Run.{OneOf}
-use Rattle.store.specs.Place.{packedRowOffsetAndMaxLength}
+use Rattle.store.specs.Inner.{packedRowOffsetAndMaxLength}
 
 -- in the case of a row the number is that row's
 pub at : {k x : ℕ} → OneOf (k ∷ []) x → packedRowOffsetAndMaxLength k ≡ packedRowOffsetAndMaxLength x

@@ -15,8 +15,10 @@ use Rattle.basics.proofs.Order.{le-or-gt}
 use Rattle.dictionary.specs.Rows.{dictionaryRows, blankRow, rowAt, rowCount, storeSize}
 use Rattle.dictionary.proofs.Table.{beyond}
 use Rattle.store.specs.declared.RowOffsetAndMaxLength.{RowOffsetAndMaxLength}
-use Rattle.store.specs.Place.{rowOffset, storeSizeOf, packedRowOffsetAndMaxLength, rowOffsetAndMaxLength}
-use Rattle.store.specs.Place.{unpackedRowOffsetAndMaxLength, bytesOrEmptyIfAbsent, rowValue, isRowAbsentOrEmpty}
+use Rattle.store.specs.Place.{rowOffset, storeSizeOf}
+use Rattle.store.specs.Inner.{packedRowOffsetAndMaxLength, rowOffsetAndMaxLength}
+use Rattle.store.specs.Place.{bytesOrEmptyIfAbsent, rowValue, isRowAbsentOrEmpty}
+use Rattle.store.specs.Inner.{unpackedRowOffsetAndMaxLength}
 use Rattle.store.proofs.Places.{inside, ends, storable, short}
 use Rattle.store.proofs.Laws.{Fits, storedLength, value-bytes, length-byte-at}
 

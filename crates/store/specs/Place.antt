@@ -8,7 +8,6 @@ use lib.ListN.{length, getD, take, drop}
 use Rattle.basics.specs.Choice.{if_then_else_, _=?_}
 use Rattle.basics.specs.Types.{Bytes, StoreBytes, Value, Byte, Tag, Length, Offset, RowNumber}
 use Rattle.dictionary.specs.Rows.{Row, dictionaryRows, rowIn, rowAt, findRow}
-use Rattle.store.specs.declared.RowOffsetAndMaxLength.{RowOffsetAndMaxLength}
 use Rattle.dictionary.specs.declared.RowFound.{RowFound}
 use Rattle.dictionary.specs.declared.RowFound.the-variants.{At, Unknown}
 
@@ -74,18 +73,6 @@ lengthAndValueWrittenAt b o v = take o b ++ ((length v + 1) ∷ (v ++ drop (o + 
 -- the store with the value v in row k's place
 unfoldable pub putRow : List Row → StoreBytes → RowNumber → Value → StoreBytes
 putRow table b k v = lengthAndValueWrittenAt b (rowOffset table k) v
-
--- a row's place in the dictionary's store, and the greatest length of its value
-abbrev pub rowOffsetAndMaxLength : RowNumber → RowOffsetAndMaxLength
-rowOffsetAndMaxLength k = record { at = rowOffset dictionaryRows k; most = rowAt k .greatest }
-
--- a row's place in one number, as the source has it: 256 times where it starts, and the greatest length of its value
-abbrev pub packedRowOffsetAndMaxLength : RowNumber → ℕ
-packedRowOffsetAndMaxLength k = rowOffset dictionaryRows k * 256 + rowAt k .greatest
-
--- such a number taken apart
-abbrev pub unpackedRowOffsetAndMaxLength : ℕ → RowOffsetAndMaxLength
-unpackedRowOffsetAndMaxLength n = record { at = n / 256; most = n % 256 }
 
 -- ---- by tag
 

@@ -11,7 +11,8 @@ ghost use mathlib.Core.Path.{_≡_};
 ghost use Prim.Native.Nat.{_+_, _-_, _≤_, _<_, min};
 ghost use lib.ListN.{length, replicate};
 ghost use Rattle.dictionary.specs.Rows.{dictionaryRows, rowAt, rowCount, storeSize};
-ghost use Rattle.store.specs.Place.{rowOffsetAndMaxLength, unpackedRowOffsetAndMaxLength, rowLengthPlusOneOrZero, rowValue, bytesOrEmptyIfAbsent, isPresent, lengthAndValueWrittenAt, putRow};
+ghost use Rattle.store.specs.Place.{rowLengthPlusOneOrZero, rowValue, bytesOrEmptyIfAbsent, isPresent, lengthAndValueWrittenAt, putRow};
+ghost use Rattle.store.specs.Inner.{rowOffsetAndMaxLength, unpackedRowOffsetAndMaxLength};
 
 pub struct Store {
     pub bytes: [u8; SIZE],

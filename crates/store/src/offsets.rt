@@ -2,7 +2,7 @@
 //
 // Where each row's place is in the store.
 ghost use mathlib.Core.Path.{_≡_};
-ghost use Rattle.store.specs.Place.{packedRowOffsetAndMaxLength};
+ghost use Rattle.store.specs.Inner.{packedRowOffsetAndMaxLength};
 
 // A row's place in one number: where it starts, and the greatest length of its value. The compiler keeps the cases as a
 // table, where an array would be built anew each time that it is read.

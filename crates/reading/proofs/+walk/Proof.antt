@@ -9,7 +9,7 @@ use native.Mathlib.Omega.{arith}
 use lib.ListN.{length}
 use Rattle.tlv.specs.Tree.{parseTree}
 use Rattle.reading.specs.declared.TemplateWalkResult.{TemplateWalkResult}
-use Rattle.reading.specs.Items.{WalkListedItems, WalkListsTree}
+use Rattle.reading.specs.InnerItems.{WalkListedItems, WalkListsTree}
 use Rattle.reading.proofs.Items.{part}
 use Rattle.reading.proofs.Runs.{Run, Next, has-listed, stops, ended, padding, failed, bounds, small, list-length}
 use Rattle.reading.proofs.Runs.{deep, number-fits, room}

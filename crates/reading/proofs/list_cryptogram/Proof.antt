@@ -10,7 +10,7 @@ use native.Mathlib.Omega.{arith}
 use lib.ListN.{length, take, drop, set, length-drop}
 use Rattle.reading.specs.Taking.{PrimitiveItem, primitiveItem}
 use Rattle.reading.specs.declared.ItemListing.the-variants.{Objects}
-use Rattle.reading.specs.Items.{packedItem, mostListedItems, tally}
+use Rattle.reading.specs.InnerItems.{packedItem, mostListedItems, tally}
 use Rattle.reading.specs.Inner.{ListingGivesPrimitiveBodyReading}
 use Rattle.reading.specs.Answer.{iadItemIfAny, cryptogramItemsUnder80}
 use Rattle.reading.proofs.Parts.{cryptogram-short, cryptogram-long, cryptogram-whole, iad-none, iad-some}

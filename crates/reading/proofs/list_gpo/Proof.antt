@@ -9,7 +9,7 @@ use lib.ListN.{length, take, drop, set}
 use Rattle.reading.specs.declared.Awaited.the-variants.{Gpo}
 use Rattle.reading.specs.declared.ItemListing.the-variants.{Objects}
 use Rattle.reading.specs.Taking.{PrimitiveItem, primitiveItem}
-use Rattle.reading.specs.Items.{packedItem, mostListedItems, tally}
+use Rattle.reading.specs.InnerItems.{packedItem, mostListedItems, tally}
 use Rattle.reading.specs.Answer.{gpoItemsUnder80}
 use Rattle.reading.specs.Inner.{ListingGivesPrimitiveBodyReading}
 use Rattle.reading.proofs.Parts.{gpo-short, gpo-long, gpo-uneven, gpo-whole}

@@ -8,8 +8,8 @@ use native.Mathlib.Omega.{arith}
 use lib.ListN.{length, getD, take, drop}
 use Rattle.dictionary.specs.Rows.{dictionaryRows, storeSize}
 use Rattle.store.specs.Place.{putRow}
-use Rattle.reading.specs.Items.{packedItemValueIn}
-use Rattle.reading.specs.Pending.{pendingEntryRow, storeWithPending, PendingEntryFitsRowAndBytes}
+use Rattle.reading.specs.InnerItems.{packedItemValueIn}
+use Rattle.reading.specs.InnerPending.{pendingEntryRow, storeWithPending, PendingEntryFitsRowAndBytes}
 use Rattle.reading.proofs.Items.{code-value}
 use Rattle.reading.proofs.Pending.{after-none, value-fits, value-most, after-one}
 use Rattle.reading.proofs.store_pending.Statement.{statement}

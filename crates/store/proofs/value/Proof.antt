@@ -9,7 +9,8 @@ use lib.ListN.{length, getD, take, drop, length-drop}
 use lib.Seq.{take-all}
 use Rattle.dictionary.specs.Rows.{dictionaryRows}
 use Rattle.store.specs.declared.RowOffsetAndMaxLength.{RowOffsetAndMaxLength}
-use Rattle.store.specs.Place.{rowOffset, rowOffsetAndMaxLength, rowLengthPlusOneOrZero, bytesOrEmptyIfAbsent}
+use Rattle.store.specs.Place.{rowOffset, rowLengthPlusOneOrZero, bytesOrEmptyIfAbsent}
+use Rattle.store.specs.Inner.{rowOffsetAndMaxLength}
 use Rattle.store.specs.Place.{rowValue}
 use Rattle.store.proofs.Laws.{length-byte-at, storedLength, value-bytes, no-place}
 use Rattle.store.proofs.value.Statement.{statement}

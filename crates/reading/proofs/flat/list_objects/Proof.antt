@@ -3,7 +3,7 @@
 -- Assumes nothing.
 use borrow.Author.Needs.{needs}
 use native.Mathlib.Omega.{arith}
-use Rattle.reading.specs.Items.{unpackedItems}
+use Rattle.reading.specs.InnerItems.{unpackedItems}
 use Rattle.reading.proofs.Stages.{template-listed}
 use Rattle.reading.proofs.flat.list_objects.Statement.{statement}
 use Rattle.reading.proofs.flat.list_objects.Tie as tie

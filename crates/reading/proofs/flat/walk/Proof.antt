@@ -8,7 +8,7 @@ use Prim.Native.Nat.{_<_}
 use native.Mathlib.Omega.{arith}
 use lib.ListN.{getD}
 use Rattle.tlv.specs.Tree.{parseTree}
-use Rattle.reading.specs.Items.{WalkListsTree}
+use Rattle.reading.specs.InnerItems.{WalkListsTree}
 use Rattle.reading.proofs.Items.{part}
 use Rattle.reading.proofs.Runs.{Next, stops, padding, failed, bounds, list-length, number-fits, room, listed}
 use Rattle.reading.proofs.Frames.{Reached, ahead, begin, inside, run, step, more, done, close, too-deep, push}

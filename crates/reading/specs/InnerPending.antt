@@ -21,7 +21,7 @@ use Rattle.reading.specs.declared.ItemsVerdict.{ItemsVerdict}
 use Rattle.reading.specs.declared.ItemsVerdict.the-variants as items
 use Rattle.reading.specs.Taking.{PrimitiveItem, cardMaySet, rowAllowsValueFromCard, StoringState, storingState}
 use Rattle.reading.specs.Taking.{storeAllItems}
-use Rattle.reading.specs.Items.{packedItemValueIn, packedItemValueLength, ItemValueInside, mostListedItems}
+use Rattle.reading.specs.InnerItems.{packedItemValueIn, packedItemValueLength, ItemValueInside, mostListedItems}
 
 -- ---- one object, before the store is asked
 
