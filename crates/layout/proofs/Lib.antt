@@ -1,5 +1,4 @@
 pub mod Number
 pub mod Laws
 pub mod Lists
-pub mod Before
 pub mod Examples

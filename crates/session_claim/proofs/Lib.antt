@@ -4,4 +4,3 @@ pub mod Trace
 pub mod InRanges
 pub mod Examples
 pub mod ReportedCvm
-pub mod Agreement
