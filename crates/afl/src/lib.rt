@@ -1,5 +1,7 @@
 // The AFL (94) that a card returns in its answer to GPO: whether it satisfies the rules and how many records it names
 // (`check_afl`), and the k-th of them (`kth_record_of_accepted_afl`, k from 1). An AFL comes in as plain bytes of any length and contents.
+#![tactic(auto)]
+
 ghost use Rattle.std.specs.Prelude.{◌≡◌, ◌≤◌, length};
 ghost use Rattle.basics.specs.Reason.{reason_afl_invalid, reason_unless};
 ghost use Rattle.afl.specs.Entry.{first_afl_entry, entry_record_count, valid_entry as keepsRules};
@@ -14,7 +16,7 @@ pub struct CardRecord {
 
 // One entry of an AFL: byte 1 with the short file identifier in its top five bits, the first and the last record, and
 // how many of them offline authentication covers.
-#[derive(Drop)]
+#[derive(Clone, Copy)]
 pub struct AflEntry {
     pub lead: u8,
     pub first: u8,

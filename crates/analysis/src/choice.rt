@@ -7,7 +7,7 @@ ghost use Rattle.analysis.specs.Inner.{tvr_byte_bit_in_codes, stage_consulted as
 use crate::byte;
 
 // The action codes of a stage, five bytes each.
-#[derive(Drop)]
+#[derive(Clone, Copy)]
 pub struct ActionCodes {
     pub card: [u8; 5],
     pub terminal: [u8; 5],
@@ -21,7 +21,7 @@ pub enum LowestBit {
 }
 
 // Where a terminal's type lets it decide, by the type's last digit.
-#[derive(Drop)]
+#[derive(Clone, Copy)]
 pub enum OnlineCapability {
     OnlineOnly,
     OnlineCapable,
@@ -29,7 +29,7 @@ pub enum OnlineCapability {
     Unlisted,
 }
 
-#[derive(Drop)]
+#[derive(Clone, Copy)]
 pub enum Choice {
     Decline,
     Online,

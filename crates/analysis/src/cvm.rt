@@ -10,7 +10,7 @@ ghost use Rattle.analysis.specs.Cvm.{aip_and_configuration_support_on_device_cvm
 use crate::byte;
 
 // The CVMs that the outcome carries.
-#[derive(Drop)]
+#[derive(Clone, Copy)]
 pub enum Cvm {
     NoCvm,
     Signature,
@@ -22,7 +22,7 @@ pub enum Cvm {
 // What the conditions of the CVM List's rules depend on: byte 2 of the terminal capabilities; cash and cashback by
 // the transaction's type; an ATM; whether terminal and application have the same currency; the amount, and the
 // list's X and Y.
-#[derive(Drop)]
+#[derive(Clone, Copy)]
 pub struct CvmConditions {
     pub capabilities: u8,
     pub cash: bool,

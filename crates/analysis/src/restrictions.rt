@@ -8,7 +8,7 @@ ghost use Rattle.analysis.specs.Restrictions.{card_version_present_and_differs, 
 use crate::{byte, digits};
 
 // The terminal's country as the card sees it.
-#[derive(Drop)]
+#[derive(Clone, Copy)]
 pub enum IssuerCountryMatch {
     Home,
     Abroad,

@@ -1,6 +1,8 @@
 // What every layer uses: the numbers of reasons and refusals, bytes widened to numbers, a byte of a list,
 // and lists compared. The definitions that all specifications share are in specs/.
-ghost use Rattle.std.specs.Prelude.{◌≡◌, ◌<◌, get_or};
+#![tactic(auto)]
+
+ghost use Rattle.std.specs.Prelude.{◌≡◌, ◌<◌, ◌≤◌, ◌++◌, length, take, drop, get_or};
 ghost use Rattle.basics.specs.Number.{between};
 ghost use Rattle.basics.specs.Alike.{bytes_equal};
 
@@ -91,4 +93,14 @@ pub fn bytes_equal(a: &[u8], b: &[u8]) -> bool
         i += 1;
     }
     true
+}
+
+// Copies some bytes over the front of others, which have room for them, and reports how many.
+pub fn copy(src: &[u8], dst: &mut [u8]) -> usize
+    requires { length src.now ≤ length dst.old }
+    ensures { (result ≡ length src.now) × (dst.new ≡ take (length src.now) src.now ++ drop (length src.now) dst.old) }
+{
+    let n = src.len();
+    dst[..n].copy_from_slice(src);
+    n
 }

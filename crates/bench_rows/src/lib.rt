@@ -1,4 +1,6 @@
 // The rows of the bench table that are proved, as one statement.
+#![tactic(auto)]
+
 ghost use Rattle.std.specs.Prelude.{◌≡◌};
 ghost use Rattle.bench_rows.specs.BenchTable.{BenchTable, proved_bench_row_count};
 

@@ -4,6 +4,8 @@
 // the amount that is reserved for the running session. A start reserves its amount; an approval spends it, and every
 // other end gives it back. `cabinet_find` looks a start object up in a site's list and the maker's defaults.
 // docs/HOST.md has the state and the words.
+#![tactic(auto)]
+
 ghost use Rattle.std.specs.Prelude.{◌≡◌, ◌+◌, ◌*◌, ◌≤◌, ◌<◌, leb, length};
 ghost use Rattle.basics.specs.Number.{big_endian_number as number_of};
 ghost use Rattle.session.specs.Steps.{least_buffer};
@@ -326,7 +328,7 @@ fn start_fresh(remaining: u64, state: &mut [u8], terminal: &[u8], command: &mut 
         return layout::refusal_word(REFUSED_LEFT);
     }
     hand_over(answer, &first, command);
-    bytes::copy(&store, &mut state[HEAD..RECORD_SIZE]);
+    basics::copy(&store, &mut state[HEAD..RECORD_SIZE]);
     finish(
         transition,
         Amounts {
@@ -346,7 +348,7 @@ fn hand_over(answer: CallResult, first: &[u8], command: &mut [u8])
         return;
     };
     let size = issued.size;
-    bytes::copy(&first[..size], command);
+    basics::copy(&first[..size], command);
 }
 
 // Writes the head and the amounts of a transition, whose store lies in its place, and gives the word of its answer. A
@@ -404,9 +406,9 @@ fn put_amounts(amounts: Amounts, state: &mut [u8])
     ensures { state.new ≡ state_with_amounts amounts state.old }
 {
     let remaining = amount_bytes(amounts.remaining);
-    bytes::copy(&remaining, &mut state[LEFT..ASIDE]);
+    basics::copy(&remaining, &mut state[LEFT..ASIDE]);
     let reserved = amount_bytes(amounts.reserved);
-    bytes::copy(&reserved, &mut state[ASIDE..STATE_SIZE]);
+    basics::copy(&reserved, &mut state[ASIDE..STATE_SIZE]);
 }
 
 // An amount as eight bytes, high byte first.

@@ -1,6 +1,8 @@
 // One claim over every list of calls on a cabinet since an accepted opening: what remains, what is reserved and the
 // amounts of approved sessions are together the cap (specs/Account). And: but for the cap every call is the kernel's
 // (specs/Kernel). The proofs are in proofs/.
+#![tactic(auto)]
+
 ghost use Rattle.std.specs.Prelude.{◌≡◌, List, ℕ};
 ghost use Rattle.std.proofs.Math.Option.{some};
 ghost use Rattle.cabinet.specs.State.{Cabinet, greatest_twelve_digit_amount, decoded_cabinet_if_valid};

@@ -3,6 +3,8 @@
 // `lookup_value` returns the value in place: a part of one of the two lists. `lookup_word` states which list has the
 // tag and where that part lies, as one word, for a host in C. A list is read from its front up to the first bytes that
 // are no whole primitive object.
+#![tactic(auto)]
+
 ghost use Rattle.std.specs.Prelude.{◌≡◌, ◌++◌};
 ghost use Rattle.cabinet_lookup.specs.Value.{lookup_value};
 ghost use Rattle.cabinet_lookup.specs.Place.{lookup_first, span_in_site_then_defaults, span_bytes};

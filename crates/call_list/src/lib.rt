@@ -10,6 +10,8 @@
 // and the command buffer of a call is the part of the slice that carries it. What a call returns goes into four bytes
 // of `replies`: 0 and a command's length in two bytes, 1 with the outcome and the reason, or 2, 0 and the number of a
 // refusal; and then the session's count. Bytes after them stay.
+#![tactic(auto)]
+
 ghost use Rattle.std.specs.Prelude.{◌≡◌, true, List, ◌+◌, ◌≤◌, ◌<◌, min, leb, length, take, drop};
 ghost use Rattle.std.proofs.Math.Option.{some};
 ghost use Rattle.basics.specs.Number.{big_endian_number};
@@ -40,7 +42,7 @@ pub struct ListPlayed {
 }
 
 // What is before a call's bytes and buffer: its kind, and how long the two are.
-#[derive(Drop)]
+#[derive(Clone, Copy)]
 pub struct CallHeader {
     pub kind: u8,
     pub incoming: usize,
@@ -227,7 +229,7 @@ fn one_call(session: Session, calls: &mut [u8], replies: &mut [u8]) -> CallPlaye
 {
     let header = header_of(calls);
     let reply = call_in(session, header, calls);
-    bytes::copy(&reply_bytes(reply), replies);
+    basics::copy(&reply_bytes(reply), replies);
     let next = reply.session;
     CallPlayed {
         session: next,
@@ -255,7 +257,7 @@ fn first_bytes(calls: &[u8], n: usize) -> [u8; 1025]
 {
     let end = HEADER + n;
     let mut incoming = no_bytes();
-    bytes::copy(&calls[17..end], &mut incoming[..n]);
+    basics::copy(&calls[17..end], &mut incoming[..n]);
     incoming
 }
 

@@ -5,6 +5,8 @@
 // The file is read in parts of 4,096 bytes, up to the first record that is a mismatch. What is wrong with the file
 // goes to standard error. With --tell the exit status goes to descriptor 3: 0 accepted, 1 a mismatch or truncated,
 // 2 no verdict.
+#![tactic(auto)]
+
 use journal::{JournalChecker, JournalVerdict};
 use libc::{STDERR_FILENO, STDIN_FILENO};
 use session_record::{CallResult, CommandLength, Outcome};

@@ -3,6 +3,8 @@
 //
 // Those that carry a filled list measure it first, so that a buffer is touched only where a command is handed out. The
 // bytes after the command stay.
+#![tactic(auto)]
+
 ghost use Rattle.std.specs.Prelude.{◌≡◌, ◌+◌, ◌-◌, ◌≤◌, ◌<◌, length, take, drop};
 ghost use Rattle.dol.specs.Measure.{buffer_with_bytes_at};
 ghost use Rattle.command.specs.WithList.{proprietary_command, command_with_dol, gpo_data_tag_and_length, get_processing_options, generate_ac, compute_cryptographic_checksum, command_of_length, dol_command_of, dol_command_reason, reason_dol_if_no_command, buffer_with_command};

@@ -6,6 +6,8 @@
 // `attributes_of` answer for a row, with zeros past the last row; `length_and_digits_fit_row` reports whether a value's
 // length and digits are allowed. `columns` has what a row may say, `rows` the table itself, which `bin/dictionary`
 // writes from `dictionary.tsv`.
+#![tactic(auto)]
+
 mod columns;
 mod rows;
 
@@ -40,7 +42,7 @@ pub use rows::{
 
 // What a row states besides its tag: the lengths, the form, and the sets of bits; `must` is 1 where a start must bring
 // the object, else 0.
-#[derive(Drop)]
+#[derive(Clone, Copy)]
 pub struct RowAttributes {
     pub least: usize,
     pub greatest: usize,

@@ -1,4 +1,6 @@
 // DOLs: a list that names tags and lengths is measured, and filled from a store.
+#![tactic(auto)]
+
 ghost use Rattle.std.specs.Prelude.{◌≡◌, ◌+◌, ◌-◌, ◌≤◌, ◌<◌, length, take, drop, replicate};
 ghost use Rattle.dictionary.specs.Rows.{dictionary_rows};
 ghost use Rattle.dictionary.specs.Tables.{AreDictionaryTables};
@@ -10,7 +12,7 @@ use dictionary::{ROWS, RowFound};
 use tlv::TagFront;
 
 // An entry of a list: the tag, and how many bytes are requested of it.
-#[derive(Drop)]
+#[derive(Clone, Copy)]
 pub struct DolEntry {
     pub tag: u32,
     pub asked: u8,
@@ -195,7 +197,7 @@ fn place(v: &[u8], buffer: &mut [u8], at: usize)
     ensures { buffer.new ≡ buffer_with_bytes_at buffer.old at v.now }
 {
     let e = at + v.len();
-    bytes::copy(v, &mut buffer[at..e]);
+    basics::copy(v, &mut buffer[at..e]);
 }
 
 // Writes one byte n times from a place on.

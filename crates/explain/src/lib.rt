@@ -4,6 +4,8 @@
 //
 // `explain` takes a session by value, `explain_parts` its parts with the store shared. `explanation_word` is the number
 // of an explanation.
+#![tactic(auto)]
+
 ghost use Rattle.std.specs.Prelude.{◌≡◌, ◌<◌};
 ghost use Rattle.basics.specs.Choice.{every};
 ghost use Rattle.store.specs.Held.{has_object};
@@ -23,7 +25,7 @@ use session::CryptogramOutcome;
 use session_record::{AwaitedResponse, Ending, Outcome, Phase, RequestedCryptogram, Session};
 
 // The stage that decided a choice: denial, the type of a terminal that is online only, default, online.
-#[derive(Drop)]
+#[derive(Clone, Copy)]
 pub enum Stage {
     Denial,
     OnlineOnly,

@@ -2,6 +2,8 @@
 // stage, the bit and the holder are those of the GENERATE AC that was handed out, but where the last answer brought an
 // action code of the card. Also that the rank of a choice is that of the cryptogram that it requests. The statements
 // are in specs/Explained, the proofs in proofs/.
+#![tactic(auto)]
+
 ghost use Rattle.std.specs.Prelude.{◌≡◌, true, List};
 ghost use Rattle.session_record.specs.declared.Session.{Session};
 ghost use Rattle.session_record.specs.declared.Phase.{Phase};

@@ -2,6 +2,8 @@
 //
 // The bytes are read as the contents of a template are, at most 65,535 of them and templates at most four levels deep.
 // `find` reports the place; `find_word` reports it as one word, for a host in C.
+#![tactic(auto)]
+
 ghost use Rattle.std.specs.Prelude.{◌≡◌};
 ghost use Rattle.find.specs.Find.{found_if_tag_matches, first_found_unless_malformed, find_tag_within_levels, find_tag};
 ghost use Rattle.find.specs.InTree.{TagFoundMatchesTree, tree_of_card_bytes};

@@ -6,6 +6,8 @@
 //
 // Besides these `emv_explain` explains why, `emv_object` reads an object of the session back, `emv_find` finds one in
 // other bytes of the card, and `emv_wipe` forgets.
+#![tactic(auto)]
+
 ghost use Rattle.std.specs.Prelude.{◌≡◌};
 ghost use Rattle.layout.specs.Layout.{session_record_size, decoded_session, record_head_written_over_front_if_room};
 ghost use Rattle.layout.specs.Word.{result_word};
@@ -277,6 +279,6 @@ fn object_in(bytes: &[u8], tag: u32, value: &mut [u8]) -> u32
     if value.len() < v.len() {
         return NEEDED + size;
     }
-    bytes::copy(v, value);
+    basics::copy(v, value);
     size
 }

@@ -2,6 +2,8 @@
 // `emv_link_failed` and `emv_stop` since an accepted `emv_open`, read off their result words and command buffers
 // (specs/Claim). And: an opening in such a list is what `emv_open` promises, and each of the four calls on bytes that
 // hold a session is the session's own call. The proofs are in proofs/.
+#![tactic(auto)]
+
 ghost use Rattle.std.specs.Prelude.{◌≡◌, List, ℕ};
 ghost use Rattle.std.proofs.Math.Option.{some};
 ghost use Rattle.session_record.specs.declared.Session.{Session};

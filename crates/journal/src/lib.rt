@@ -3,6 +3,8 @@
 //
 // A journal is records of one byte of kind and a body whose size the kind fixes. At most one record is
 // held, so a journal of any size needs the room of one `JournalChecker`.
+#![tactic(auto)]
+
 pub mod writer;
 
 // The kinds of records.
@@ -63,7 +65,7 @@ pub enum JournalVerdict {
 
 // The session so far, and the reply's record that comes next, of size 0 where a call comes next; no longer conforming
 // once a record was a mismatch, with what was expected there.
-#[derive(Drop)]
+#[derive(Clone, Copy)]
 pub struct JournalCheckState {
     pub session: Session,
     pub due: [u8; COMMAND_RECORD],
@@ -418,7 +420,7 @@ fn command_due(session: Session, size: usize, buffer: [u8; MOST_COMMAND]) -> Jou
     due[0] = 5;
     due[1] = (size / 256 % 256) as u8;
     due[2] = (size % 256) as u8;
-    bytes::copy(&buffer, &mut due[3..]);
+    basics::copy(&buffer, &mut due[3..]);
     JournalCheckState {
         session,
         due,

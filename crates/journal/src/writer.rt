@@ -92,5 +92,5 @@ fn fill(kind: u8, bytes: &[u8], out: &mut [u8])
     out[0] = kind;
     out[1] = (n / 256 % 256) as u8;
     out[2] = (n % 256) as u8;
-    bytes::copy(bytes, &mut out[3..]);
+    basics::copy(bytes, &mut out[3..]);
 }

@@ -1,6 +1,8 @@
 // Laws that integrators lean on: filling joined lists, reading two records in either order, padding in two steps. Each
 // is a promise of `records_in_any_order`, over all lists, stores and lengths; the definitions are in specs/, the
 // proofs in proofs/.
+#![tactic(auto)]
+
 pub mod stricter;
 
 ghost use Rattle.std.specs.Prelude.{◌≡◌, true, List, ◌++◌, ℕ, ◌≤◌, length};

@@ -5,6 +5,8 @@
 // writes it at the front of the caller's bytes, `decode_record` takes it apart again: only bytes that some record is
 // encoded as are a record. Both borrow the store, which is the largest part; `decode_record_head` and
 // `write_record_head` read and write the head alone, for a caller that works on the store in its place.
+#![tactic(auto)]
+
 ghost use Rattle.std.specs.Prelude.{◌≡◌, ◌+◌, ◌*◌, ◌≤◌, ◌<◌, length, take, drop};
 ghost use Rattle.basics.specs.Number.{big_endian_number as number_of};
 ghost use Rattle.dictionary.specs.Rows.{store_size};
@@ -104,7 +106,7 @@ pub fn encode_record(phase: Phase, count: u8, store: &[u8; SIZE], bytes: &mut [u
         return false;
     }
     write_record_head(phase, count, bytes);
-    bytes::copy(&store[..], &mut bytes[HEAD..RECORD_SIZE]);
+    basics::copy(&store[..], &mut bytes[HEAD..RECORD_SIZE]);
     true
 }
 
@@ -116,7 +118,7 @@ pub fn write_record_head(phase: Phase, count: u8, bytes: &mut [u8])
         return;
     }
     let head = head_of(code_of(phase), count);
-    bytes::copy(&head, &mut bytes[0..HEAD]);
+    basics::copy(&head, &mut bytes[0..HEAD]);
 }
 
 // Takes apart the record at the front of the bytes: its store goes into the caller's.
@@ -129,7 +131,7 @@ pub fn decode_record(bytes: &[u8], store: &mut [u8; SIZE]) -> DecodedRecordHead
     let DecodedRecordHead::Record(_) = held else {
         return held;
     };
-    bytes::copy(&bytes[HEAD..RECORD_SIZE], store);
+    basics::copy(&bytes[HEAD..RECORD_SIZE], store);
     held
 }
 
@@ -299,7 +301,7 @@ fn limit_in(bytes: &[u8]) -> [u8; 8]
     ensures { result ≡ take 8 (drop 6 bytes.now) }
 {
     let mut limit = [0u8; 8];
-    bytes::copy(&bytes[LIMIT..HEAD], &mut limit);
+    basics::copy(&bytes[LIMIT..HEAD], &mut limit);
     limit
 }
 

@@ -2,6 +2,8 @@
 // (`can_take_digits`), and the digits put in (`put_digits`). A track comes in as plain bytes of any length and
 // contents, the bitmaps and values as numbers, which `bitmaps_of` and `digit_values_of` read from the bytes of the
 // data objects.
+#![tactic(auto)]
+
 ghost use Rattle.std.specs.Prelude.{◌≡◌, true, ◌∷◌, ◌+◌, ◌≤◌, ◌<◌, length, take, drop, set, get_or};
 ghost use Rattle.basics.specs.Number.{nibbles};
 ghost use Rattle.basics.specs.Choice.{every, ◌≤?◌};
@@ -12,7 +14,7 @@ ghost use Rattle.mag_stripe.specs.OtherDigits.{OtherDigitsKept, none_of_lowest_n
 
 // The card's bitmaps of track 2, PCVC3 (9F65) and PUNATC (9F66), and how many places of the second are the
 // counter's, NATC (9F67).
-#[derive(Drop)]
+#[derive(Clone, Copy)]
 pub struct Bitmaps {
     pub pcvc3: u16,
     pub punatc: u16,

@@ -3,6 +3,8 @@
 // `personalise` takes the list, the proposed entries of the AFL and the placements, and writes into two buffers of the
 // caller, or names what is refused and writes nothing. `emv_personalise` is the same for a host, with the answer as one
 // word. The tests are in `objects`, `entries` and `contents`, in the order of the refusals; `writing` writes.
+#![tactic(auto)]
+
 mod contents;
 mod entries;
 mod objects;
@@ -190,7 +192,7 @@ fn write_all(
     ensures located { afl.new ≡ afl_buffer_after (is_written result) entries.now afl.old }
 {
     let size = writing::put_records(objects, placements, count, records);
-    bytes::copy(entries, afl);
+    basics::copy(entries, afl);
     PersonaliseResult::Written(WrittenSizes {
         records: size,
         afl: entries.len(),

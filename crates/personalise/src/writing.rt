@@ -145,6 +145,6 @@ fn put_value(out: &mut [u8], at: usize, v: &[u8]) -> usize
     ensures { WritesBytesAt result out.new out.old at v.now }
 {
     let e = at + v.len();
-    bytes::copy(v, &mut out[at..e]);
+    basics::copy(v, &mut out[at..e]);
     e
 }

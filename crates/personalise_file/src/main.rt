@@ -6,6 +6,8 @@
 // Each appears once, in any order. The AFL and each record are shown on a line, or the refusal in words. What is
 // written or refused is the library `personalise`'s matter; `text` reads the lines. What is wrong with the file goes to
 // standard error. With --tell the exit status goes to descriptor 3: 0 written, 1 refused, 2 neither.
+#![tactic(auto)]
+
 mod arguments;
 mod shown;
 mod text;

@@ -2,6 +2,8 @@
 //
 // `tree` shows the objects of a card's answer, `bits` the bits of an object in words; `names` has the names of data
 // objects, and `table` finds words in a table.
+#![tactic(auto)]
+
 pub mod bits;
 mod names;
 mod table;

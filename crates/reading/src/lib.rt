@@ -7,6 +7,8 @@
 //
 // Here the walk calls itself on a template's contents. The module `flat` has the same open functions with the same
 // promises and a walk with no recursion; it shares all else. `read_both` runs both readers and says that they agree.
+#![tactic(auto)]
+
 pub mod flat;
 
 ghost use Rattle.std.specs.Prelude.{◌≡◌, true, not, ◌+◌, ◌-◌, ◌*◌, ◌/◌, ◌%◌, ◌≤◌, ◌<◌, eqb, length, get_or, set, take, drop};
@@ -65,13 +67,13 @@ const PLACE: u64 = 0x100;
 const ROW: u64 = 0x10000;
 
 // A record's file.
-#[derive(Drop)]
+#[derive(Clone, Copy)]
 pub struct Sfi {
     pub number: u8,
 }
 
 // The answer that is awaited.
-#[derive(Drop)]
+#[derive(Clone, Copy)]
 pub enum Awaited {
     Gpo,
     Record(Sfi),

@@ -6,6 +6,8 @@
 // The file is read in parts of 4,096 bytes. What a line means is the library `line`'s matter. What is wrong goes to
 // standard error. With --journal the session's journal goes to a file. With --tell the exit status goes to descriptor
 // 3: 0 where all was played, 2 where a journal could not be written, else 1.
+#![tactic(auto)]
+
 mod arguments;
 mod explained;
 mod recorded;

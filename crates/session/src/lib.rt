@@ -7,6 +7,8 @@
 //
 // `start_on_parts`, `answer_on_parts`, `link_failed_on_parts` and `stop_on_parts` are the same calls on a session's
 // parts with the store borrowed mutably or shared: a transition is returned, and the store is not copied.
+#![tactic(auto)]
+
 use afl::{AflCheck, RecordFound};
 use analysis::choice::Choice;
 use analysis::cvm::NOT_APPLICABLE;
@@ -651,7 +653,7 @@ fn track_after(bytes: &[u8], track: &mut [u8])
     ensures digits { track.new ≡ track_with_digits_if_possible (stored_track2 bytes.now) (stored_bitmaps bytes.now) (stored_digit_values bytes.now) }
     ensures sized { length track.new ≡ length track.old }
 {
-    bytes::copy(store::value(bytes, ROW_TRACK2_DATA), track);
+    basics::copy(store::value(bytes, ROW_TRACK2_DATA), track);
     let bitmaps = bitmaps_in(bytes);
     let values = values_in(bytes);
     mag_stripe::put_digits(track, bitmaps, values);

@@ -1,6 +1,8 @@
 // Demand 3: one claim over every list of calls. The statement is in specs/Claim, the proof in proofs/. And: every call
 // returns a record in its ranges where it was given one, so that the transaction limit stays correct; and the CVM that
 // each outcome reports.
+#![tactic(auto)]
+
 ghost use Rattle.std.specs.Prelude.{◌≡◌, true, List};
 ghost use Rattle.session_record.specs.declared.Session.{Session};
 ghost use Rattle.session_record.specs.declared.Phase.{Phase};

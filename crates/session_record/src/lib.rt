@@ -4,6 +4,8 @@
 // Inside a call the store is borrowed, and a transition stands for the reply without it. A record is built anew only by
 // `fresh_session`, `session_in_phase_with_count` and `reply_of`, and a transition only by `refuse_call`, `end_session`,
 // `fail_session` and `issue_command`: a new field is added there.
+#![tactic(auto)]
+
 ghost use Rattle.std.specs.Prelude.{◌≡◌, not, ◌≤◌, ◌<◌, eqb, length, get_or};
 ghost use Rattle.basics.specs.Choice.{both, either, every};
 ghost use Rattle.dictionary.specs.Rows.{dictionary_rows, row_count, store_size};
@@ -30,7 +32,7 @@ use dictionary::{
 use store::Store;
 
 // How a session ends.
-#[derive(Drop)]
+#[derive(Clone, Copy)]
 pub enum Outcome {
     Approved,
     OnlineRequest,
@@ -40,21 +42,21 @@ pub enum Outcome {
 }
 
 // An outcome with its reason, 0 where a decision was reached.
-#[derive(Drop)]
+#[derive(Clone, Copy)]
 pub struct Ending {
     pub outcome: Outcome,
     pub reason: u8,
 }
 
 // The record of the card that is awaited: its number in the AFL's order, from 1; and the session's transaction limit.
-#[derive(Drop)]
+#[derive(Clone, Copy)]
 pub struct AwaitedRecord {
     pub number: u8,
     pub limit: u64,
 }
 
 // The cryptogram that is awaited: what was requested, the CVM, and the transaction limit.
-#[derive(Drop)]
+#[derive(Clone, Copy)]
 pub struct RequestedCryptogram {
     pub choice: Choice,
     pub cvm: Cvm,
@@ -62,13 +64,13 @@ pub struct RequestedCryptogram {
 }
 
 // The checksum that is awaited (mag-stripe mode): the transaction limit.
-#[derive(Drop)]
+#[derive(Clone, Copy)]
 pub struct AwaitedChecksum {
     pub limit: u64,
 }
 
 // The response that a running session awaits: to GPO, to READ RECORD, to GENERATE AC or to COMPUTE CRYPTOGRAPHIC CHECKSUM.
-#[derive(Drop)]
+#[derive(Clone, Copy)]
 pub enum AwaitedResponse {
     Gpo,
     Record(AwaitedRecord),
@@ -77,14 +79,14 @@ pub enum AwaitedResponse {
 }
 
 // Fresh; running, and waiting for a response; or ended.
-#[derive(Drop)]
+#[derive(Clone, Copy)]
 pub enum Phase {
     Fresh,
     Waiting(AwaitedResponse),
     Ended(Ending),
 }
 
-#[derive(Drop)]
+#[derive(Clone, Copy)]
 pub struct Session {
     pub phase: Phase,
     pub count: u8,
@@ -92,33 +94,33 @@ pub struct Session {
 }
 
 // A command at the front of the caller's buffer.
-#[derive(Drop)]
+#[derive(Clone, Copy)]
 pub struct CommandLength {
     pub size: usize,
 }
 
 // A call that was not taken.
-#[derive(Drop)]
+#[derive(Clone, Copy)]
 pub struct Refusal {
     pub number: u8,
 }
 
 // What an outcome reports: the outcome with its reason, and the number of the CVM.
-#[derive(Drop)]
+#[derive(Clone, Copy)]
 pub struct OutcomeParameters {
     pub outcome: Outcome,
     pub reason: u8,
     pub cvm: u8,
 }
 
-#[derive(Drop)]
+#[derive(Clone, Copy)]
 pub enum CallResult {
     Command(CommandLength),
     Outcome(OutcomeParameters),
     Refused(Refusal),
 }
 
-#[derive(Drop)]
+#[derive(Clone, Copy)]
 pub struct Reply {
     pub session: Session,
     pub answer: CallResult,

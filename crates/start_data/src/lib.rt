@@ -3,6 +3,8 @@
 // `load` first finds whether the bytes are a run of whole primitive objects, then sets the objects one after the
 // other, then sees that all that a start must bring is present. The store is empty before the call, and a refusal
 // clears it again.
+#![tactic(auto)]
+
 ghost use Rattle.std.specs.Prelude.{◌≡◌, ◌<◌, length, replicate};
 ghost use Rattle.dictionary.specs.Rows.{dictionary_rows, row_count, store_size};
 ghost use Rattle.dictionary.specs.Tables.{AreDictionaryTables, packed_attributes_of_rows};

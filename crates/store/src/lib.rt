@@ -3,6 +3,8 @@
 // A place is one byte of length + 1, 0 where the object is absent, and then room for the value at its greatest length.
 // So absent, present and empty, and present with bytes are apart, the zero array is the empty store, and no object is
 // refused for lack of room. `offsets` has where each place is; `bin/dictionary` writes it from `dictionary.tsv`.
+#![tactic(auto)]
+
 mod offsets;
 
 ghost use Rattle.std.specs.Prelude.{◌≡◌, ◌+◌, ◌-◌, ◌≤◌, ◌<◌, min, length, replicate};
@@ -13,7 +15,7 @@ ghost use Rattle.store.specs.Inner.{row_offset_and_max_length, unpacked_row_offs
 use dictionary::SIZE;
 use offsets::place_at;
 
-#[derive(Drop)]
+#[derive(Clone, Copy)]
 pub struct Store {
     pub bytes: [u8; SIZE],
 }

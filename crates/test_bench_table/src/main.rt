@@ -1,4 +1,6 @@
 // Every row of the bench table, run through the calls, and the object count of further answers: a line for each.
+#![tactic(auto)]
+
 use reading::{Awaited, Sfi};
 use session_record::{Reply, Session};
 

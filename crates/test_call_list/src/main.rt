@@ -1,5 +1,7 @@
 // Lists of calls in bytes, played and shown: each reply's four bytes on a line, then what the run reports, the
 // session's count, and how many commands, outcomes and refusals the replies are.
+#![tactic(auto)]
+
 ghost use Rattle.std.specs.Prelude.{◌≤◌, length};
 
 use call_list::PlayResult;
@@ -186,8 +188,8 @@ fn put(calls: &mut [u8], at: usize, kind: u8, incoming: &[u8], capacity: usize) 
     }
     let from = at + 17;
     let end = from + n;
-    bytes::copy(&header(kind, n, capacity), &mut calls[at..from]);
-    bytes::copy(incoming, &mut calls[from..end]);
+    basics::copy(&header(kind, n, capacity), &mut calls[at..from]);
+    basics::copy(incoming, &mut calls[from..end]);
     end + capacity
 }
 

@@ -1,6 +1,8 @@
 // Every row of the dictionary, a line each: tag, least and greatest length, form, who may set the object (S a start,
 // C the card, K the session), the templates that may be directly around it, the answers that may bring it, and
 // whether a start must.
+#![tactic(auto)]
+
 ghost use Rattle.std.specs.Prelude.{◌<◌};
 
 use dictionary::{ROWS, RowAttributes};

@@ -2,6 +2,8 @@
 // that compare them with another implementation.
 //
 // It is in an archive of its own, which no host links.
+#![tactic(auto)]
+
 ghost use Rattle.std.specs.Prelude.{◌≡◌, ◌≤◌, ◌<◌, take};
 ghost use Rattle.journal.specs.Verdict.{journal_verdict_of, expected_reply_at_first_mismatch};
 ghost use Rattle.test_journal.specs.Word.{verdict_word, GivesBytesIfRoom};
@@ -54,7 +56,7 @@ fn put(s: &[u8], out: &mut [u8]) -> usize
     if out.len() < s.len() {
         return 0;
     }
-    bytes::copy(s, out)
+    basics::copy(s, out)
 }
 
 fn least(a: usize, b: usize) -> usize

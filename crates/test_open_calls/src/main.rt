@@ -2,6 +2,8 @@
 //
 // Each call is in a function that has no precondition and passes on its own arguments: a condition that some arguments
 // do not meet is refused here. `tests/called` names the functions that nothing calls.
+#![tactic(auto)]
+
 use analysis::choice::Choice;
 use call_list::PlayResult;
 use dictionary::SIZE;

@@ -1,5 +1,7 @@
 // Every word that `print` has for a number or a tag: each reason, refusal, outcome and CVM in a reply, and each row of
 // the dictionary as an object that is present and empty.
+#![tactic(auto)]
+
 use analysis::cvm::NOT_APPLICABLE;
 use dictionary::{ROWS, SIZE};
 use session_record::{CallResult, Outcome, OutcomeParameters, Refusal, Reply};

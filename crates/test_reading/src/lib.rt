@@ -3,6 +3,8 @@
 //
 // The sessions' calls do not hand out how many objects a reading counted, so these do. Each reader is in an
 // archive of its own, which no host links: so it is compiled as in the library that has it alone.
+#![tactic(auto)]
+
 ghost use Rattle.std.specs.Prelude.{◌≡◌, ◌+◌, ◌*◌, ◌%◌};
 ghost use Rattle.reading.specs.Answer.{verdict_number};
 ghost use Rattle.test_reading.specs.Read.{ReturnsTestReading, test_read, awaited_by_number_if_store_sized, awaited_by_number, reason_weight_in_word};

@@ -1,5 +1,7 @@
 // One reading of a card's answer over the caller's store by the reader without recursion, as `test_reading` has it
 // of the other.
+#![tactic(auto)]
+
 ghost use Rattle.test_reading.specs.Read.{ReturnsTestReading, test_read};
 
 use test_reading::AwaitedAnswer;

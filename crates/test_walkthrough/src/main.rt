@@ -1,4 +1,6 @@
 // A walk through every outcome: each reply of each session, a line each.
+#![tactic(auto)]
+
 use session_record::{CallResult, Phase, Reply};
 
 fn main() {

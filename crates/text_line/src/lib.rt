@@ -8,6 +8,8 @@
 // too. N is a decimal number, at most 4,096. A line with no word is blank.
 //
 // `uncommented`, `first_word`, `after_first_word` and `decode_hex` read the lines of files with other words.
+#![tactic(auto)]
+
 ghost use Rattle.std.specs.Prelude.{◌≡◌, ◌≤◌, length};
 ghost use Rattle.text_line.specs.Text.{is_character_of_kind, longest_prefix, after_longest_prefix, uncommented as uncommentedOf};
 ghost use Rattle.text_line.specs.Text.{first_word, behind_first_word};
@@ -78,7 +80,7 @@ enum LineWord {
 }
 
 // Kinds of characters.
-#[derive(Drop)]
+#[derive(Clone, Copy)]
 enum CharacterKind {
     Blank,
     NotBlank,

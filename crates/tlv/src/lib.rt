@@ -3,6 +3,8 @@
 // `tag_at` reads a tag alone, as a DOL needs it; `object_header` reads a whole object's header; `next` is what is next
 // within a template's contents, and `next_behind_padding` the same. `primitive_at_front` and `is_primitive_list` are
 // for bytes that hold primitive objects alone. The tree of an encoding, its count and its laws are in specs/.
+#![tactic(auto)]
+
 ghost use Rattle.std.specs.Prelude.{◌≡◌, ◌+◌, ◌≤◌, ◌<◌, length, take, drop};
 ghost use Rattle.basics.specs.Number.{big_endian_number};
 ghost use Rattle.tlv.specs.Tag.{tag_size, tag_at, tag_first_byte, is_template, is_private};

@@ -1,6 +1,8 @@
 // Worked examples of the rules of a session, as one statement: for each pair of reasons and each pair of refusals that
 // can meet in one call an input that has both, and an input for each rule that no other promise distinguishes from a
 // wrong one. A rule that is changed in definition and source alike is refused here.
+#![tactic(auto)]
+
 ghost use Rattle.worked_examples.specs.Gpo.{GpoExamples};
 ghost use Rattle.worked_examples.specs.Records.{RecordExamples, MagStripeExamples};
 ghost use Rattle.worked_examples.specs.Cryptogram.{CryptogramExamples};
