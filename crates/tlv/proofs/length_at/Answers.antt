@@ -10,19 +10,8 @@ use Rattle.basics.specs.Choice.{if}
 use Rattle.basics.proofs.widen.Reads as widen
 use Rattle.tlv.specs.Length.{length_at}
 use Rattle.tlv.proofs.Laws.{from_long, length_by}
-use Rattle.tlv.proofs.length_at.Statement.{statement}
-use Rattle.tlv.proofs.length_at.Tie as tie
 use Rattle.tlv.proofs.length_at.Reads as reads
-use Rattle.tlv.proofs.length_at.Lts as lts
-
-returns : tie.Need-returns
-unfolding if
-returns c = let s = c.before.before.args.s.now in simp (length_by s, lt-ltb (length s) 1 (omega arith))
-
-returns-2 : tie.Need-returns-2
-unfolding if
-returns-2 c = let s = c.before.before.before.before.before.args.s.now in
-    simp (length_by s, le-ltb (length s) 1 (omega arith), lt-ltb (get_or s 0 0) 0x80 (omega arith), c.widen.ensures.0)
+use Rattle.tlv.proofs.length_at.Goals as goal
 
 long : (c : lts.Else2 (widen.Asked, widen.Learnt) reads.Pre reads.Post)
     → length_at c.before.before.before.before.args.s.now
@@ -31,25 +20,38 @@ unfolding if
 long c = let s = c.before.before.before.before.args.s.now in length_by s ∙ simp
     (le-ltb (length s) 1 (omega arith), le-ltb (get_or s 0 0) 0x80 (omega arith))
 
-returns-3 : tie.Need-returns-3
+pub returns-then-s-lt1 : goal.returns-then-s-lt1
 unfolding if
-returns-3 c = let s = c.before.before.before.before.before.before.args.s.now in
+returns-then-s-lt1 c = let s = c.args.s.now in simp (length_by s, lt-ltb (length s) 1 (omega arith))
+
+
+pub returns-then-b-lt128 : goal.returns-then-b-lt128
+unfolding if
+returns-then-b-lt128 c = let s = c.args.s.now in
+    simp (length_by s, le-ltb (length s) 1 (omega arith), lt-ltb (get_or s 0 0) 0x80 (omega arith), c.widen.ensures.0)
+
+
+pub returns-then-s-lt2 : goal.returns-then-s-lt2
+unfolding if
+returns-then-s-lt2 c = let s = c.args.s.now in
     simp (long c.before.before, eq-eqb (get_or s 0 0) 0x81 (omega arith), lt-ltb (length s) 2 (omega arith))
 
-returns-4 : tie.Need-returns-4
+
+pub returns-then-b : goal.returns-then-b
 unfolding if
-returns-4 c = let s = c.before.before.before.before.before.before.before.before.args.s.now in
+returns-then-b c = let s = c.args.s.now in
     simp (
       long c.before.before.before.before,
       eq-eqb (get_or s 0 0) 0x81 (omega arith),
       le-ltb (length s) 2
           (omega arith),
-      c.widen2.ensures.0,
+      c.widen-then-b.ensures.0,
     )
 
-returns-5 : tie.Need-returns-5
+
+pub returns-then-s-lt3 : goal.returns-then-s-lt3
 unfolding if
-returns-5 c = let s = c.before.before.before.before.before.before.before.args.s.now in
+returns-then-s-lt3 c = let s = c.args.s.now in
     simp (
       long c.before.before.before,
       ne_eqb (get_or s 0 0) 0x81 (omega arith),
@@ -58,42 +60,23 @@ returns-5 c = let s = c.before.before.before.before.before.before.before.args.s.
       lt-ltb (length s) 3 (omega arith),
     )
 
-returns-6 : tie.Need-returns-6
+
+pub returns-then-b-2 : goal.returns-then-b-2
 unfolding if
-returns-6 c = let s =
-    c.before.before.before.before.before.before.before.before.before.before.before.args.s.now in
+returns-then-b-2 c = let s =
+    c.args.s.now in
     simp (
       long c.before.before.before.before.before.before.before,
       ne_eqb (get_or s 0 0) 0x81 (omega arith),
       eq-eqb (get_or s 0 0) 0x82 (omega arith),
       le-ltb (length s) 3 (omega arith),
-      c.before.before.widen3.ensures.0,
-      c.widen4.ensures.0,
+      c.widen-then-b-2.ensures.0,
+      c.widen-then-b-2-2.ensures.0,
     )
 
-returns-7 : tie.Need-returns-7
+
+pub returns : goal.returns
 unfolding if
-returns-7 c = let s = c.before.before.before.before.before.before.args.s.now in
+returns c = let s = c.args.s.now in
     simp (long c.before.before, ne_eqb (get_or s 0 0) 0x81 (omega arith), ne_eqb (get_or s 0 0) 0x82 (omega arith))
 
-pub length-at-spec : {M : Type 1} → statement M
-length-at-spec =
-    tie.close
-    (tie.spec
-    returns
-    (λ c. search rules)
-    (λ c κs. search rules)
-    returns-2
-    returns-3
-    (λ c. search rules)
-    (λ c κs. search rules)
-    returns-4
-    returns-5
-    (λ c. search rules)
-    (λ c κs. search rules)
-    (λ c. search rules)
-    (λ c. search rules)
-    (λ c κs. search rules)
-    (λ c. search rules)
-    returns-6
-    returns-7)

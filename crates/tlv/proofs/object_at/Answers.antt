@@ -9,18 +9,9 @@ use Rattle.tlv.specs.declared.ObjectFront.TheVariants.{Object}
 use Rattle.tlv.specs.Object.{header_of}
 use Rattle.tlv.specs.Tree.{next_in_template_of_front, next_in_template_shifted}
 use Rattle.tlv.proofs.Laws.{header_fits, tail-is}
-use Rattle.tlv.proofs.object_at.Statement.{statement}
-use Rattle.tlv.proofs.object_at.Tie as tie
 use Rattle.tlv.proofs.object_at.Reads as reads
-use Rattle.tlv.proofs.object_at.Lts as lts
 use Rattle.tlv.proofs.object_header.Reads as head-reads
-
-returns : tie.Need-returns
-returns c =
-    let a = c.before.before.before.before.before.args in
-    sym (ap (λ x. next_in_template_shifted a.at (next_in_template_of_front x))
-    (ap header_of (sym (tail-is a.s.now a.at)) ∙ sym c.before.before.object-header.ensures ∙
-    c.enum_told.given.1))
+use Rattle.tlv.proofs.object_at.Goals as goal
 
 -- where an object is present
 abbrev At-object : Type 0
@@ -34,28 +25,24 @@ head_at c =
     ap header_of (sym (tail-is a.s.now a.at)) ∙ sym c.before.before.before.before.object-header.ensures ∙
     c.before.before.front.given.1
 
-add_start : tie.Need-overflow-add-start
-add_start c =
+pub returns-in_default : goal.returns-in_default
+returns-in_default c =
+    let a = c.args in
+    sym (ap (λ x. next_in_template_shifted a.at (next_in_template_of_front x))
+    (ap header_of (sym (tail-is a.s.now a.at)) ∙ sym c.object_header-front.ensures ∙
+    c.enum_told-1.given.1))
+
+
+pub overflow_add-start : goal.overflow_add-start
+overflow_add-start c =
     let f = header_fits _ _ (head_at c) in
     let g = simp length-drop at f.inside in
     omega arith
 
-returns-2 : tie.Need-returns-2
-returns-2 c =
+
+pub returns : goal.returns
+returns c =
     sym
-    (ap (λ x. next_in_template_shifted c.before.before.before.before.before.before.before.args.at
+    (ap (λ x. next_in_template_shifted c.args.at
     (next_in_template_of_front x)) (head_at c))
 
-pub object-at-spec : {M : Type 1} → statement M
-object-at-spec =
-    tie.close
-    (tie.spec
-    (λ c. search rules)
-    (λ c. search rules)
-    (λ c. search rules)
-    (λ c κs. search rules)
-    (λ c. search rules)
-    (λ c. search rules)
-    returns
-    add_start
-    returns-2)
