@@ -1,0 +1,61 @@
+-- `reading::open` meets its contract: each way out has its law in proofs/Stages.
+-- Assumes nothing.
+use borrow.Author.Rules.{rules}
+use mathlib.Core.Path.{sym, ◌∙◌}
+use native.Mathlib.Omega.{arith}
+use lib.ListN.{length-take}
+use Rattle.reading.proofs.Stages.{begin_size, outer_fits, object_places, decided_opened, broken_opened}
+use Rattle.reading.proofs.Stages.{template_opened, primitive_opened}
+use Rattle.reading.proofs.open.Goals as goal
+
+)
+
+pub slice_bounds-outer_of-end : goal.slice_bounds-outer_of-end
+slice_bounds-outer_of-end c =
+    let l = begin_size _ _ _ (sym c.begin-beginning.ensures
+    ∙ c.in-Body.is) in
+    simp length-take (omega arith)
+
+
+pub list_parts-requires : goal.list_parts-requires
+list_parts-requires c =
+    let q = sym c.begin-beginning.ensures
+    ∙ c.in-Body.is in
+    let f = outer_fits _ c.outer_of-outer.ensures c.in-Primitive.is in
+    let o = object_places _ _ _ q _ f.0 in
+    (c.requires, o.0, o.1.1)
+
+
+pub returns-in-Decided : goal.returns-in-Decided
+returns-in-Decided c = let r = ((
+  decided_opened _ _ _ (sym c.begin-beginning.ensures
+      ∙ c.in-Decided.is) _ c.decided.ensures,
+  c.requires,) in record { opens = r.0; room = r.1 }
+
+pub returns-in-Broken : goal.returns-in-Broken
+returns-in-Broken c = let r = (let q = sym c.begin-beginning.ensures
+    ∙ c.in-Body.is in (
+      broken_opened _ _ _ q c.outer_of-outer.ensures c.in-Broken.is _
+          c.decided-in-Broken.ensures,
+      c.requires,
+    )) in record { opens = r.0; room = r.1 }
+
+pub returns-in-Template : goal.returns-in-Template
+returns-in-Template c = let r = (let q = sym c.begin-beginning.ensures
+    ∙ c.in-Body.is in (
+      template_opened _ _ _ q c.outer_of-outer.ensures _ c.in-Template.is
+          (λ i. omega (
+            arith,
+            c.shared_slice_known-1.given i,
+          )),
+      c.requires,
+    )) in record { opens = r.0; room = r.1 }
+
+pub returns-in-Primitive : goal.returns-in-Primitive
+returns-in-Primitive c = let r = (let q = sym c.begin-beginning.ensures
+    ∙ c.in-Body.is in
+    let g = c.list_parts.ensures in (
+      primitive_opened _ _ _ q c.outer_of-outer.ensures _
+          c.in-Primitive.is _ g.0,
+      g.1,
+    )) in record { opens = r.0; room = r.1 }
