@@ -5,8 +5,6 @@ use borrow.Author.Rules.{rules}
 use Rattle.call_list.proofs.Number.{four_from}
 use Rattle.call_list.proofs.four.Goals as goal
 
-)
-
 pub returns : goal.returns
 returns c = (
   omega (
@@ -15,3 +13,5 @@ returns c = (
         c.requires,
   ),
   omega arith,
+)
+

@@ -7,10 +7,6 @@ use Rattle.basics.specs.Choice.{both, either}
 use Rattle.call_list.specs.Encoding.{is_call_kind_with_allowed_length}
 use Rattle.call_list.proofs.is_kind.Goals as goal
 
-)
-
-)
-
 pub returns-then-kind-eq1 : goal.returns-then-kind-eq1
 unfolding is_call_kind_with_allowed_length either both
 returns-then-kind-eq1 c = simp (eq-eqb _ _ c.if-kind-eq1.true)
@@ -28,6 +24,8 @@ returns-then-incoming-ne0 c = simp (
   ne_eqb _ _ c.if-kind-eq2.false,
   ne_eqb _ _
       c.if-incoming-ne0.true,
+)
+
 
 pub returns-then-kind-eq3 : goal.returns-then-kind-eq3
 unfolding is_call_kind_with_allowed_length either both
@@ -37,6 +35,8 @@ returns-then-kind-eq3 c = simp (
   eq-eqb
       _ _ c.if-incoming-ne0.false,
   eq-eqb _ _ c.if-kind-eq3.true,
+)
+
 
 pub returns : goal.returns
 unfolding is_call_kind_with_allowed_length

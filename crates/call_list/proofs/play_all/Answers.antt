@@ -16,8 +16,6 @@ use Rattle.call_list.proofs.Whole.{ready_read}
 use Rattle.call_list.proofs.Loop.{Going, going_start, going_whole, going_room, going_transition, going_end}
 use Rattle.call_list.proofs.play_all.Goals as goal
 
-)
-
 pub loop-at-init : goal.loop-at-init
 loop-at-init c = let k = ready_read _ _ c.requires in
     (going_start _ _ _ _ c.fresh_session-session.ensures k.0 k.1, refl, refl)
@@ -56,6 +54,7 @@ one_call-transition-requires c =
         lp.replies,
     room_at,
   ),
+)
 
 pub overflow_add-at : goal.overflow_add-at
 overflow_add-at c =

@@ -11,13 +11,12 @@ use Rattle.call_list.proofs.Back.{read_back}
 use Rattle.call_list.proofs.Whole.{counted_none, counted_some, ready, runs_none, runs_short, runs_played}
 use Rattle.call_list.proofs.play_list.Goals as goal
 
-)
-
 pub returns-in_default : goal.returns-in_default
 returns-in_default c = let r = (let a = c.args in (
   runs_none a.calls.now a.replies.now c.unplayed.result c.unplayed.ensures
       (counted_none _ (sym c.count_calls.ensures ∙ c.in_default.is)),
-  read_back,) in record { plays_list_in_bytes = r.0; every_list = r.1 }
+  read_back,
+)) in record { plays_list_in_bytes = r.0; every_list = r.1 }
 
 pub returns-then-replies-n : goal.returns-then-replies-n
 returns-then-replies-n c = let r = (let counted : let x = parsed_calls c.args.calls.now in (x ≡ some (calls_or_empty x)) × (length (calls_or_empty x) ≡ c.in-Calls.n) =

@@ -7,8 +7,6 @@ use borrow.Author.Rules.{rules}
 use Rattle.command.proofs.Parts.{closed}
 use Rattle.command.proofs.close.Goals as goal
 
-)
-
 pub bounds-buffer-1 : goal.bounds-buffer-1
 bounds-buffer-1 c = simp length-set (omega arith)
 
@@ -28,4 +26,5 @@ pub returns : goal.returns
 returns c = let r = (let a = c.args in (
   refl,
   closed a.ins a.p1 a.p2 a.buffer.now a.end c.requires.0
-      (omega arith),) in record { said = r.0; kept = r.1 }
+      (omega arith),
+)) in record { said = r.0; kept = r.1 }

@@ -5,16 +5,6 @@ use Rattle.basics.specs.Choice.{if}
 use Rattle.journal.specs.Record.{journal_record_size}
 use Rattle.journal.proofs.journal_record_size.Goals as goal
 
-)
-
-)
-
-)
-
-)
-
-)
-
 pub returns-then-kind-eq-KIND_START : goal.returns-then-kind-eq-KIND_START
 unfolding journal_record_size if
 returns-then-kind-eq-KIND_START c = simp (eq-eqb _ _ c.if-kind-eq-KIND_START.true)
@@ -32,6 +22,8 @@ returns-then-kind-eq-KIND_LINK_FAILED c = simp (
   ne_eqb _ _ c.if-kind-eq-KIND_ANSWER.false,
   eq-eqb _ _
       c.if-kind-eq-KIND_LINK_FAILED.true,
+)
+
 
 pub returns-then-kind-eq-KIND_STOP : goal.returns-then-kind-eq-KIND_STOP
 unfolding journal_record_size if
@@ -41,6 +33,8 @@ returns-then-kind-eq-KIND_STOP c = simp (
   ne_eqb
       _ _ c.if-kind-eq-KIND_LINK_FAILED.false,
   eq-eqb _ _ c.if-kind-eq-KIND_STOP.true,
+)
+
 
 pub returns-then-kind-eq-KIND_COMMAND : goal.returns-then-kind-eq-KIND_COMMAND
 unfolding journal_record_size if
@@ -52,6 +46,8 @@ returns-then-kind-eq-KIND_COMMAND c = simp (
   ne_eqb _ _
       c.if-kind-eq-KIND_STOP.false,
   eq-eqb _ _ c.if-kind-eq-KIND_COMMAND.true,
+)
+
 
 pub returns-then-kind-eq-KIND_OUTCOME : goal.returns-then-kind-eq-KIND_OUTCOME
 unfolding journal_record_size if
@@ -64,6 +60,8 @@ returns-then-kind-eq-KIND_OUTCOME c = simp (
       c.if-kind-eq-KIND_STOP.false,
   ne_eqb _ _ c.if-kind-eq-KIND_COMMAND.false,
   eq-eqb _ _ c.if-kind-eq-KIND_OUTCOME.true,
+)
+
 
 pub returns : goal.returns
 unfolding journal_record_size if
@@ -76,3 +74,5 @@ returns c = simp (
       c.if-kind-eq-KIND_STOP.false,
   ne_eqb _ _ c.if-kind-eq-KIND_COMMAND.false,
   ne_eqb _ _ c.if-kind-eq-KIND_OUTCOME.false,
+)
+

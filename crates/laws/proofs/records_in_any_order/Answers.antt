@@ -16,9 +16,5 @@ use Rattle.laws.proofs.records_in_any_order.Goals as goal
 padded-once : (form m n : ℕ) (v : List ℕ) → length v ≤ m → m ≤ n → FittingTwiceIsFittingOnce form m n v
 padded-once form m n v h k = record { padding = padded_twice form m n v h k; fitting = fitted_twice form m n v h k }
 
-)
-
 pub returns : goal.returns
-returns c = let r = ((
-  refl,
-  (filled_join, (contents_agree, (answers_agree, (padded-once, (whole, (accepted_whole, (room, most_held))))))),) in record { most = r.0; filling = r.1.0; records = r.1.1.0; answers = r.1.1.1.0; padding = r.1.1.1.1.0; whole = r.1.1.1.1.1.0; accepted = r.1.1.1.1.1.1.0; room = r.1.1.1.1.1.1.1.0; longest = r.1.1.1.1.1.1.1.1 }
+returns c = record { most = refl; filling = filled_join; records = contents_agree; answers = answers_agree; padding = padded-once; whole = whole; accepted = accepted_whole; room = room; longest = most_held }

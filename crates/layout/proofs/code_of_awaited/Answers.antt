@@ -3,8 +3,6 @@
 use borrow.Author.Rules.{rules}
 use Rattle.layout.proofs.code_of_awaited.Goals as goal
 
-)
-
 pub returns-in-Gpo : goal.returns-in-Gpo
 returns-in-Gpo c = rw c.in-Gpo.is
 
@@ -18,6 +16,8 @@ returns-in-Cryptogram c = rw (
   c.in-Cryptogram.is,
   c.generate_ac_p1.ensures,
   c.cvm_number.ensures,
+)
+
 
 pub returns-in-Checksum : goal.returns-in-Checksum
 returns-in-Checksum c = rw c.in-Checksum.is

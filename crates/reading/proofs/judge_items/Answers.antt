@@ -10,10 +10,6 @@ use Rattle.reading.proofs.Pending.{pending_room}
 use Rattle.reading.proofs.Pending.{judged_skipped, judged_barred, row_is, judged_again, judged_put}
 use Rattle.reading.proofs.judge_items.Goals as goal
 
-}
-
-)
-
 pub loop-i-init : goal.loop-i-init
 loop-i-init c = let p = c.requires.0 in judging_none _ _ _ _ _ p.0 p.1.room
 
@@ -45,7 +41,8 @@ loop-i-smaller-in-Skipped c =
       record {
   list = c.requires.0.1;
   more = c.loop-i-test.true;
-  says = c.judge_item-verdict.ensures; in
+  says = c.judge_item-verdict.ensures;
+} in
     omega (arith, (item-at).more)
 
 pub loop-i-preserved-in-Skipped : goal.loop-i-preserved-in-Skipped
@@ -54,7 +51,8 @@ loop-i-preserved-in-Skipped c =
       record {
   list = c.requires.0.1;
   more = c.loop-i-test.true;
-  says = c.judge_item-verdict.ensures; in
+  says = c.judge_item-verdict.ensures;
+} in
     judged_skipped (item-at) c.in-Skipped.is
 
 pub returns-in-NotAllowed : goal.returns-in-NotAllowed
@@ -62,7 +60,8 @@ returns-in-NotAllowed c = let r = (let item-at : NextItem _ _ _ _ _ _ _ _ _ c.lo
       record {
   list = c.requires.0.1;
   more = c.loop-i-test.true;
-  says = c.judge_item-verdict.ensures; in
+  says = c.judge_item-verdict.ensures;
+} in
     let x = item-at in (judged_barred x c.in-NotAllowed.is, list_length x)) in record { judges = r.0; room = r.1 }
 
 pub is_free-requires : goal.is_free-requires
@@ -71,18 +70,21 @@ is_free-requires c =
       record {
   list = c.requires.0.1;
   more = c.loop-i-test.true;
-  says = c.judge_item-verdict.ensures; in
+  says = c.judge_item-verdict.ensures;
+} in
     (
   (row_is (item-at) c.in-ForRow.is).0,
   c.requires.0.0,
   c.loop-i.invariant.values.marks,
+)
 
 pub returns-then-not-is_free : goal.returns-then-not-is_free
 returns-then-not-is_free c = let r = (let item-at : NextItem _ _ _ _ _ _ _ _ _ c.loop-i.invariant c.judge_item-verdict.result =
       record {
   list = c.requires.0.1;
   more = c.loop-i-test.true;
-  says = c.judge_item-verdict.ensures; in
+  says = c.judge_item-verdict.ensures;
+} in
     let x = item-at in (
       judged_again x c.in-ForRow.is c.is_free.ensures
           c.if-not-is_free.true,
@@ -94,7 +96,8 @@ add_pending-requires c = let r = (let item-at : NextItem _ _ _ _ _ _ _ _ _ c.loo
       record {
   list = c.requires.0.1;
   more = c.loop-i-test.true;
-  says = c.judge_item-verdict.ensures; in
+  says = c.judge_item-verdict.ensures;
+} in
     let x = item-at in (
       ((row_is x c.in-ForRow.is).0, pending_room x),
       (list_length x, c.loop-i.invariant.values.marks),
@@ -106,7 +109,8 @@ overflow_add-pending c =
       record {
   list = c.requires.0.1;
   more = c.loop-i-test.true;
-  says = c.judge_item-verdict.ensures; in
+  says = c.judge_item-verdict.ensures;
+} in
     omega ( arith, pending_room (item-at), )
 
 pub loop-i-smaller : goal.loop-i-smaller
@@ -115,7 +119,8 @@ loop-i-smaller c =
       record {
   list = c.requires.0.1;
   more = c.loop-i-test.true;
-  says = c.judge_item-verdict.ensures; in
+  says = c.judge_item-verdict.ensures;
+} in
     omega (arith, (item-at).more)
 
 pub loop-i-preserved : goal.loop-i-preserved
@@ -124,7 +129,8 @@ loop-i-preserved c =
       record {
   list = c.requires.0.1;
   more = c.loop-i-test.true;
-  says = c.judge_item-verdict.ensures; in
+  says = c.judge_item-verdict.ensures;
+} in
     let a = c.add_pending.ensures in
     rw (a.0, a.1) (judged_put (item-at)
     c.in-ForRow.is

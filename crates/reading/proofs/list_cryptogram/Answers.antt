@@ -73,23 +73,15 @@ module _ (l : List ℕ) (start n : ℕ) (e : length l ≡ most_listed_items) (a 
     set_room (set (set (set l 0 x) 1 y) 2 z) 3 w (three-room l x y z e),
   )
 
-)
-
-)
-
 pub returns-then-n-lt-LEAST_AC_BODY : goal.returns-then-n-lt-LEAST_AC_BODY
-returns-then-n-lt-LEAST_AC_BODY c = let r = ((
-  parts_none Cryptogram cryptogram_items_under80 _ _ _
+returns-then-n-lt-LEAST_AC_BODY c = record { lists = parts_none Cryptogram cryptogram_items_under80 _ _ _
       (λ v e. cryptogram_short v (omega (arith, c.if-n-lt-LEAST_AC_BODY.true)))
-      c.decided.ensures,
-  c.requires.0,) in record { lists = r.0; room = r.1 }
+      c.decided.ensures; room = c.requires.0 }
 
 pub returns-then-n-gt-MOST_AC_BODY : goal.returns-then-n-gt-MOST_AC_BODY
-returns-then-n-gt-MOST_AC_BODY c = let r = ((
-  parts_none Cryptogram cryptogram_items_under80 _ _ _
+returns-then-n-gt-MOST_AC_BODY c = record { lists = parts_none Cryptogram cryptogram_items_under80 _ _ _
       (λ v e. cryptogram_long v (omega (arith, c.if-n-gt-MOST_AC_BODY.true)))
-      c.decided-then-n-gt-MOST_AC_BODY.ensures,
-  c.requires.0,) in record { lists = r.0; room = r.1 }
+      c.decided-then-n-gt-MOST_AC_BODY.ensures; room = c.requires.0 }
 
 pub returns-then-n-eq-LEAST_AC_BODY : goal.returns-then-n-eq-LEAST_AC_BODY
 returns-then-n-eq-LEAST_AC_BODY c = let r = (let a = c.args in

@@ -31,33 +31,20 @@ listed l start n e a b {x} {y} p q m k u = (
       (λ s i. last_part s start n a b i (front_part s start n a b i l e 0x82 2 (omega arith)) 0x94 2 (omega arith)
       (omega arith))),
   set_room (set l 0 x) 1 y (set_room l 0 x e),
-
-)
-
-)
-
-)
-
 )
 
 pub returns-then-n-lt-LEAST_GPO_BODY : goal.returns-then-n-lt-LEAST_GPO_BODY
-returns-then-n-lt-LEAST_GPO_BODY c = let r = ((
-  parts_none Gpo gpo_items_under80 _ _ _ (λ v e. gpo_short v (omega (arith, c.if-n-lt-LEAST_GPO_BODY.true)))
-      c.decided.ensures,
-  c.requires.0,) in record { lists = r.0; room = r.1 }
+returns-then-n-lt-LEAST_GPO_BODY c = record { lists = parts_none Gpo gpo_items_under80 _ _ _ (λ v e. gpo_short v (omega (arith, c.if-n-lt-LEAST_GPO_BODY.true)))
+      c.decided.ensures; room = c.requires.0 }
 
 pub returns-then-n-gt-MOST_GPO_BODY : goal.returns-then-n-gt-MOST_GPO_BODY
-returns-then-n-gt-MOST_GPO_BODY c = let r = ((
-  parts_none Gpo gpo_items_under80 _ _ _ (λ v e. gpo_long v (omega (arith, c.if-n-gt-MOST_GPO_BODY.true)))
-      c.decided-then-n-gt-MOST_GPO_BODY.ensures,
-  c.requires.0,) in record { lists = r.0; room = r.1 }
+returns-then-n-gt-MOST_GPO_BODY c = record { lists = parts_none Gpo gpo_items_under80 _ _ _ (λ v e. gpo_long v (omega (arith, c.if-n-gt-MOST_GPO_BODY.true)))
+      c.decided-then-n-gt-MOST_GPO_BODY.ensures; room = c.requires.0 }
 
 pub returns-then-n-ne0 : goal.returns-then-n-ne0
-returns-then-n-ne0 c = let r = ((
-  parts_none Gpo gpo_items_under80 _ _ _
+returns-then-n-ne0 c = record { lists = parts_none Gpo gpo_items_under80 _ _ _
       (λ v e. gpo_uneven v (λ z. c.if-n-ne0.true (ap (λ (k : ℕ). (k - 2) % 4) (sym e) ∙ z)))
-      c.decided-then-n-ne0.ensures,
-  c.requires.0,) in record { lists = r.0; room = r.1 }
+      c.decided-then-n-ne0.ensures; room = c.requires.0 }
 
 pub returns : goal.returns
 returns c = let r = (let a = c.args in

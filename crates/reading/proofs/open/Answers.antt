@@ -8,8 +8,6 @@ use Rattle.reading.proofs.Stages.{begin_size, outer_fits, object_places, decided
 use Rattle.reading.proofs.Stages.{template_opened, primitive_opened}
 use Rattle.reading.proofs.open.Goals as goal
 
-)
-
 pub slice_bounds-outer_of-end : goal.slice_bounds-outer_of-end
 slice_bounds-outer_of-end c =
     let l = begin_size _ _ _ (sym c.begin-beginning.ensures
@@ -27,10 +25,8 @@ list_parts-requires c =
 
 
 pub returns-in-Decided : goal.returns-in-Decided
-returns-in-Decided c = let r = ((
-  decided_opened _ _ _ (sym c.begin-beginning.ensures
-      ∙ c.in-Decided.is) _ c.decided.ensures,
-  c.requires,) in record { opens = r.0; room = r.1 }
+returns-in-Decided c = record { opens = decided_opened _ _ _ (sym c.begin-beginning.ensures
+      ∙ c.in-Decided.is) _ c.decided.ensures; room = c.requires }
 
 pub returns-in-Broken : goal.returns-in-Broken
 returns-in-Broken c = let r = (let q = sym c.begin-beginning.ensures

@@ -21,8 +21,6 @@ use Rattle.session.proofs.Laws.{reply_as, did_next, did_end, is_passed, is_faile
 use Rattle.session.proofs.Laws.{gpo_missing, gpo_mode, gpo_afl, gpo_ask}
 use Rattle.session.proofs.after_gpo.Goals as goal
 
-)
-
 pub returns-in_default : goal.returns-in_default
 returns-in_default c = did_end _ _ _ c.fail_session.ensures
     (gpo_missing _ (is_failed _ (omega arith) c.gpo_data_present.ensures
@@ -62,10 +60,8 @@ returns-in_default-kth_record_of_accepted_afl c =
     c.in_default-kth_record_of_accepted_afl.is)
 
 pub ask_record-requires : goal.ask_record-requires
-ask_record-requires c = let r = ((
-  search rules,
-  (found_there _ _ c.kth_record_of_accepted_afl.ensures
-      c.in-At.is).0,) in record { least_buffer_in_bounds = r.0; sfi_bound = r.1 }
+ask_record-requires c = record { least_buffer_in_bounds = search rules; sfi_bound = (found_there _ _ c.kth_record_of_accepted_afl.ensures
+      c.in-At.is).0 }
 
 pub returns : goal.returns
 returns c =

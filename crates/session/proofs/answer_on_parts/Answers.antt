@@ -17,8 +17,6 @@ use Rattle.session.specs.Answer.{next_on_response, answer_step}
 use Rattle.session.proofs.Laws.{did_as, did_without_command, admitted_short, admitted_ranges, admitted_in}
 use Rattle.session.proofs.answer_on_parts.Goals as goal
 
-)
-
 pub returns-then-command-lt-LEAST_BUFFER : goal.returns-then-command-lt-LEAST_BUFFER
 returns-then-command-lt-LEAST_BUFFER c = did_without_command _ c.refuse_call.ensures (admitted_short _ _ _ c.if-command-lt-LEAST_BUFFER.true)
 
@@ -36,7 +34,8 @@ take_response-requires c = let r = (let ranged : let a = c.args in session_recor
     (
   (search rules, omega (arith, count_most _ (ranged))),
   store_size_lem _
-      (ranged),) in record { least_buffer_in_bounds = r.0; store_len = r.1 }
+      (ranged),
+)) in record { least_buffer_in_bounds = r.0; store_len = r.1 }
 
 pub returns-in-Fresh : goal.returns-in-Fresh
 returns-in-Fresh c =

@@ -10,10 +10,6 @@ use Rattle.session.specs.Answer.{request_kth_record_if_found, next_after_last_re
 use Rattle.session.proofs.Laws.{did_next, reply_as, found_as, found_there}
 use Rattle.session.proofs.ask_next_record.Goals as goal
 
-)
-
-)
-
 pub returns-in_default : goal.returns-in_default
 unfolding next_after_record_read
 returns-in_default c =
@@ -33,12 +29,12 @@ overflow_add-number c = omega (
   (found_there _ _ c.kth_record_of_accepted_afl-found.ensures
       c.in-At.is).1,
   c.widen-k.ensures.0,
+)
+
 
 pub ask_record-requires : goal.ask_record-requires
-ask_record-requires c = let r = ((
-  search rules,
-  (found_there _ _ c.kth_record_of_accepted_afl-found.ensures
-      c.in-At.is).0,) in record { least_buffer_in_bounds = r.0; sfi_bound = r.1 }
+ask_record-requires c = record { least_buffer_in_bounds = search rules; sfi_bound = (found_there _ _ c.kth_record_of_accepted_afl-found.ensures
+      c.in-At.is).0 }
 
 pub returns : goal.returns
 unfolding next_after_record_read

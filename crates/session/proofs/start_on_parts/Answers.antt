@@ -17,8 +17,6 @@ use Rattle.session.proofs.Laws.{did_as, did_without_command, admitted_short, adm
 use Rattle.session.proofs.Laws.{not_fresh}
 use Rattle.session.proofs.start_on_parts.Goals as goal
 
-)
-
 pub returns-then-command-lt-LEAST_BUFFER : goal.returns-then-command-lt-LEAST_BUFFER
 returns-then-command-lt-LEAST_BUFFER c = did_without_command _ c.refuse_call.ensures (admitted_short _ _ _ c.if-command-lt-LEAST_BUFFER.true)
 
@@ -49,7 +47,8 @@ load_objects-requires c = let r = (let ranged : let a = c.args in session_record
       sym c.session_parts_in_ranges.ensures ∙ c.if-not-session_parts_in_ranges.false in
     (
   (search rules, omega (arith, count_most _ (ranged))),
-  (on_fresh_lem _ (ranged) c.in-Fresh.is).store,) in record { least_buffer_in_bounds = r.0; store_value = r.1 }
+  (on_fresh_lem _ (ranged) c.in-Fresh.is).store,
+)) in record { least_buffer_in_bounds = r.0; store_value = r.1 }
 
 pub returns : goal.returns
 returns c =

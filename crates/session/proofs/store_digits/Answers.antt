@@ -13,10 +13,6 @@ use Rattle.session_record.proofs.Tags.{bytes_are}
 use Rattle.session.proofs.Laws.{value_short, track_fits, digits_stored}
 use Rattle.session.proofs.store_digits.Goals as goal
 
-)
-
-)
-
 pub slice_bounds-track-end : goal.slice_bounds-track-end
 slice_bounds-track-end c =
     let short : length c.value-n.result.now ≤ 19 =
@@ -25,7 +21,8 @@ slice_bounds-track-end c =
   ap length c.value-n.ensures,
   value_short c.args.store.now
       row_track2_data,
-  track_fits, in
+  track_fits,
+) in
     short
 
 pub slice_bounds-track_after-end : goal.slice_bounds-track_after-end
@@ -36,7 +33,8 @@ slice_bounds-track_after-end c =
   ap length c.value-n.ensures,
   value_short c.args.store.now
       row_track2_data,
-  track_fits, in
+  track_fits,
+) in
     sym (length-take-le _ _ (short))
 
 pub track_after-requires : goal.track_after-requires
@@ -47,7 +45,8 @@ track_after-requires c =
   ap length c.value-n.ensures,
   value_short c.args.store.now
       row_track2_data,
-  track_fits, in
+  track_fits,
+) in
     length-take-le _ _ (short) ∙ ap length
     (c.value-n.ensures ∙ bytes_are _ _ _ at_9f6b)
 
@@ -59,7 +58,8 @@ slice_bounds-track-end-2 c =
   ap length c.value-n.ensures,
   value_short c.args.store.now
       row_track2_data,
-  track_fits, in
+  track_fits,
+) in
     let sized : length c.track_after.new.track ≡ length c.value-n.result.now =
       c.track_after.ensures.sized ∙ length-take-le _ _ (short) in
     simp length-append (omega (arith, sized))
@@ -72,7 +72,8 @@ slice_bounds-put-end c =
   ap length c.value-n.ensures,
   value_short c.args.store.now
       row_track2_data,
-  track_fits, in
+  track_fits,
+) in
     let sized : length c.track_after.new.track ≡ length c.value-n.result.now =
       c.track_after.ensures.sized ∙ length-take-le _ _ (short) in
     sym (ap length (take_at c.track_after.new.track _ _ (sized)) ∙ sized)
@@ -84,14 +85,16 @@ put-requires c = let r = (let short : length c.value-n.result.now ≤ 19 =
   ap length c.value-n.ensures,
   value_short c.args.store.now
       row_track2_data,
-  track_fits, in
+  track_fits,
+) in
     (
   search rules,
   (
     omega arith,
     simp length-take
         (omega (arith, short, track_fits)),
-  ),) in record { bytes_len = r.0; row_lt_row_count = r.1 }
+  ),
+)) in record { bytes_len = r.0; row_lt_row_count = r.1 }
 
 pub returns : goal.returns
 returns c =
@@ -101,7 +104,8 @@ returns c =
   ap length c.value-n.ensures,
   value_short c.args.store.now
       row_track2_data,
-  track_fits, in
+  track_fits,
+) in
     let sized : length c.track_after.new.track ≡ length c.value-n.result.now =
       c.track_after.ensures.sized ∙ length-take-le _ _ (short) in
     digits_stored _ _ (take_at c.track_after.new.track _ _ (sized) ∙ c.track_after.ensures.digits)

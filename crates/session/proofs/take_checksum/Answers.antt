@@ -12,13 +12,9 @@ use Rattle.session.specs.MagStripe.{stored_track_can_take_digits, next_if_track_
 use Rattle.session.proofs.Laws.{did_next, did_end, read_goes, read_ends, is_passed, is_failed, taken_sound}
 use Rattle.session.proofs.take_checksum.Goals as goal
 
-)
-
 pub refuse_track-requires : goal.refuse_track-requires
-refuse_track-requires c = let r = ((
-  search rules,
-  is_failed _ (omega arith) c.track_in.ensures
-      c.in_default.is,) in record { bytes_len = r.0; bytes_value = r.1 }
+refuse_track-requires c = record { bytes_len = search rules; bytes_value = is_failed _ (omega arith) c.track_in.ensures
+      c.in_default.is }
 
 pub returns-in_default : goal.returns-in_default
 returns-in_default c = c.refuse_track.ensures buf

@@ -12,13 +12,13 @@ use Rattle.session_record.proofs.Tags.{bytes_are}
 use Rattle.mag_stripe.specs.Digits.{track_with_digits_if_possible}
 use Rattle.session.proofs.track_after.Goals as goal
 
-)
-
 pub copy-requires : goal.copy-requires
 copy-requires c = omega (
   arith,
   ap length (c.value.ensures ∙ bytes_are _ _ _ at_9f6b),
   c.requires,
+)
+
 
 pub returns : goal.returns
 returns c = let r = (let st = c.before.before.before.before.before.before.before.before.before.before.before.before.before

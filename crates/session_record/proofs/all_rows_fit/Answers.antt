@@ -22,8 +22,6 @@ use Rattle.session_record.proofs.next_held.Reads as next-held
 use Rattle.session_record.proofs.row_fits.Reads as place-keeps
 use Rattle.session_record.proofs.all_rows_fit.Goals as goal
 
-)
-
 pub packed_row_attributes-codes-requires : goal.packed_row_attributes-codes-requires
 packed_row_attributes-codes-requires c = tt
 

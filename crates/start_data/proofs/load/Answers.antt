@@ -20,8 +20,6 @@ empty l e = e ∙ ap (λ (m : ℕ). replicate m 0) l
 sized : (b : List ℕ) → b ≡ replicate store_size 0 → length b ≡ store_size
 sized b e = ap length e ∙ length-replicate {A = ℕ} store_size 0
 
-)
-
 pub returns-then-terminal-gt-MOST : goal.returns-then-terminal-gt-MOST
 returns-then-terminal-gt-MOST c = let r = (let a = c.args in (
       refuses a.store.now c.refused.ensures
@@ -38,13 +36,11 @@ returns-then-not-is_primitive_list c = let r = (let a = c.args in (
     )) in record { given = r.0; sized = r.1 }
 
 pub set_objects-requires : goal.set_objects-requires
-set_objects-requires c = let r = ((
-  sized _ c.requires,
-  record {
+set_objects-requires c = record { store_len = sized _ c.requires; are_dictionary_tables = record {
     tags = c.dictionary_tags-tags.ensures;
     codes =
         c.packed_row_attributes-codes.ensures;
-  },) in record { store_len = r.0; are_dictionary_tables = r.1 }
+  } }
 
 pub shape_of-store-then-not-set_objects : goal.shape_of-store-then-not-set_objects
 shape_of-store-then-not-set_objects c = ap length (empty c.set_objects.ensures.sized c.cleared.ensures.empty ∙ sym c.requires)

@@ -15,8 +15,6 @@ ends : (t : Bool) (low c high : ℕ) → t ≡ between low c high → t ≡ true
 ends t low c high e y =
     (leb-true low c (both_left _ _ (sym e ∙ y)), leb-true c high (both_right _ _ (sym e ∙ y)))
 
-)
-
 pub overflow_sub-result : goal.overflow_sub-result
 overflow_sub-result c = let k = ends _ 48 c.args.c 57 c.is_between.ensures c.if-is_between.true in omega arith
 
@@ -67,3 +65,5 @@ returns c = (
       ∙ if_no _ _ (sym c.is_between-2.ensures ∙ c.if-is_between-2.false)
       ∙ if_no _ _ (sym c.is_between-3.ensures ∙ c.if-is_between-3.false)),
   omega arith,
+)
+

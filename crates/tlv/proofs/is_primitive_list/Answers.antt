@@ -14,17 +14,6 @@ use Rattle.tlv.proofs.is_primitive_list.Reads as reads
 use Rattle.tlv.proofs.primitive_at_front.Reads as primitive
 use Rattle.tlv.proofs.is_primitive_list.Goals as goal
 
--- where an object is next
-abbrev At-object : Type 0
-At-object = lts.After-front (primitive.Asked, primitive.Learnt) reads.Pre reads.Post invariant-loop decreases-loop
-
-next-at : (c : At-object) → primitive_at_front c.before.before.before.before.loop.s.now
-    ≡ front.Object c.front.given.0.0
-next-at c = sym c.before.before.primitive-at-front.ensures ∙ c.front.given.1
-
-fits-at : (c : At-object) → HeaderFits c.before.before.before.before.loop.s.now c.front.given.0.0
-fits-at c = primitive_fits _ _ (next-at c)
-
 pub loop-s-init : goal.loop-s-init
 loop-s-init c = (refl, omega arith)
 
@@ -32,30 +21,52 @@ pub returns-in_default : goal.returns-in_default
 returns-in_default c =
     let lp = c.loop-s in
     sym (lp.invariant.0 ∙ is_run_broken _ c.loop-s-test.true
-    (sym c.primitive_at_front-front.ensures ∙ c.enum_told-1.given.1))
+    (sym c.primitive_at_front-front.ensures ∙ c.in_default.is))
 
 
 pub overflow_add-e : goal.overflow_add-e
-overflow_add-e c = let h = fits-at c.before.before in omega arith
+overflow_add-e c =
+    let next-at : primitive_at_front c.loop-s.s.now ≡ front.Object c.in-Object.h =
+      sym c.primitive_at_front-front.ensures ∙ c.in-Object.is in
+    let fits-at : HeaderFits c.loop-s.s.now c.in-Object.h =
+      primitive_fits _ _ (next-at) in
+    let h = fits-at in omega arith
 
 pub slice_bounds-s-count : goal.slice_bounds-s-count
-slice_bounds-s-count c = let h = fits-at c.before.before in omega arith
+slice_bounds-s-count c =
+    let next-at : primitive_at_front c.loop-s.s.now ≡ front.Object c.in-Object.h =
+      sym c.primitive_at_front-front.ensures ∙ c.in-Object.is in
+    let fits-at : HeaderFits c.loop-s.s.now c.in-Object.h =
+      primitive_fits _ _ (next-at) in
+    let h = fits-at in omega arith
 
 pub slice_bounds-s-start : goal.slice_bounds-s-start
-slice_bounds-s-start c = let h = fits-at c.before.before in omega arith
+slice_bounds-s-start c =
+    let next-at : primitive_at_front c.loop-s.s.now ≡ front.Object c.in-Object.h =
+      sym c.primitive_at_front-front.ensures ∙ c.in-Object.is in
+    let fits-at : HeaderFits c.loop-s.s.now c.in-Object.h =
+      primitive_fits _ _ (next-at) in
+    let h = fits-at in omega arith
 
 pub loop-s-smaller : goal.loop-s-smaller
-loop-s-smaller c = let h = fits-at c.before.before.before in simp (length-take, length-drop) (omega arith)
+loop-s-smaller c =
+    let next-at : primitive_at_front c.loop-s.s.now ≡ front.Object c.in-Object.h =
+      sym c.primitive_at_front-front.ensures ∙ c.in-Object.is in
+    let fits-at : HeaderFits c.loop-s.s.now c.in-Object.h =
+      primitive_fits _ _ (next-at) in
+    let h = fits-at in simp (length-take, length-drop) (omega arith)
 
 pub loop-s-preserved : goal.loop-s-preserved
 loop-s-preserved c =
-    
-    let h = fits-at c in (
+    let next-at : primitive_at_front c.loop-s.s.now ≡ front.Object c.in-Object.h =
+      sym c.primitive_at_front-front.ensures ∙ c.in-Object.is in
+    let fits-at : HeaderFits c.loop-s.s.now c.in-Object.h =
+      primitive_fits _ _ (next-at) in
+    let h = fits-at in (
       c.loop-s.invariant.0 ∙ is_run_on _ c.loop-s-test.true _
-          (next-at c),
+          (next-at),
       simp (length-take, length-drop) (omega arith),
     )
-
 
 pub returns : goal.returns
 returns c = sym (c.loop-s.invariant.0 ∙ is_run_end _ c.loop-s-test.false)

@@ -13,13 +13,6 @@ use Rattle.tlv.proofs.Laws.{from_long, length_by}
 use Rattle.tlv.proofs.length_at.Reads as reads
 use Rattle.tlv.proofs.length_at.Goals as goal
 
-long : (c : lts.Else2 (widen.Asked, widen.Learnt) reads.Pre reads.Post)
-    → length_at c.before.before.before.before.args.s.now
-    ≡ from_long c.before.before.before.before.args.s.now
-unfolding if
-long c = let s = c.before.before.before.before.args.s.now in length_by s ∙ simp
-    (le-ltb (length s) 1 (omega arith), le-ltb (get_or s 0 0) 0x80 (omega arith))
-
 pub returns-then-s-lt1 : goal.returns-then-s-lt1
 unfolding if
 returns-then-s-lt1 c = let s = c.args.s.now in simp (length_by s, lt-ltb (length s) 1 (omega arith))
@@ -33,40 +26,53 @@ returns-then-b-lt128 c = let s = c.args.s.now in
 
 pub returns-then-s-lt2 : goal.returns-then-s-lt2
 unfolding if
-returns-then-s-lt2 c = let s = c.args.s.now in
-    simp (long c.before.before, eq-eqb (get_or s 0 0) 0x81 (omega arith), lt-ltb (length s) 2 (omega arith))
-
+returns-then-s-lt2 c =
+    let long : length_at c.args.s.now ≡ from_long c.args.s.now =
+      let s = c.args.s.now in length_by s ∙ simp
+    (le-ltb (length s) 1 (omega arith), le-ltb (get_or s 0 0) 0x80 (omega arith)) in
+    let s = c.args.s.now in
+    simp (long, eq-eqb (get_or s 0 0) 0x81 (omega arith), lt-ltb (length s) 2 (omega arith))
 
 pub returns-then-b : goal.returns-then-b
 unfolding if
-returns-then-b c = let s = c.args.s.now in
+returns-then-b c =
+    let long : length_at c.args.s.now ≡ from_long c.args.s.now =
+      let s = c.args.s.now in length_by s ∙ simp
+    (le-ltb (length s) 1 (omega arith), le-ltb (get_or s 0 0) 0x80 (omega arith)) in
+    let s = c.args.s.now in
     simp (
-      long c.before.before.before.before,
+      long,
       eq-eqb (get_or s 0 0) 0x81 (omega arith),
       le-ltb (length s) 2
           (omega arith),
       c.widen-then-b.ensures.0,
     )
 
-
 pub returns-then-s-lt3 : goal.returns-then-s-lt3
 unfolding if
-returns-then-s-lt3 c = let s = c.args.s.now in
+returns-then-s-lt3 c =
+    let long : length_at c.args.s.now ≡ from_long c.args.s.now =
+      let s = c.args.s.now in length_by s ∙ simp
+    (le-ltb (length s) 1 (omega arith), le-ltb (get_or s 0 0) 0x80 (omega arith)) in
+    let s = c.args.s.now in
     simp (
-      long c.before.before.before,
+      long,
       ne_eqb (get_or s 0 0) 0x81 (omega arith),
       eq-eqb (get_or s 0 0) 0x82
           (omega arith),
       lt-ltb (length s) 3 (omega arith),
     )
 
-
 pub returns-then-b-2 : goal.returns-then-b-2
 unfolding if
-returns-then-b-2 c = let s =
+returns-then-b-2 c =
+    let long : length_at c.args.s.now ≡ from_long c.args.s.now =
+      let s = c.args.s.now in length_by s ∙ simp
+    (le-ltb (length s) 1 (omega arith), le-ltb (get_or s 0 0) 0x80 (omega arith)) in
+    let s =
     c.args.s.now in
     simp (
-      long c.before.before.before.before.before.before.before,
+      long,
       ne_eqb (get_or s 0 0) 0x81 (omega arith),
       eq-eqb (get_or s 0 0) 0x82 (omega arith),
       le-ltb (length s) 3 (omega arith),
@@ -74,9 +80,11 @@ returns-then-b-2 c = let s =
       c.widen-then-b-2-2.ensures.0,
     )
 
-
 pub returns : goal.returns
 unfolding if
-returns c = let s = c.args.s.now in
-    simp (long c.before.before, ne_eqb (get_or s 0 0) 0x81 (omega arith), ne_eqb (get_or s 0 0) 0x82 (omega arith))
-
+returns c =
+    let long : length_at c.args.s.now ≡ from_long c.args.s.now =
+      let s = c.args.s.now in length_by s ∙ simp
+    (le-ltb (length s) 1 (omega arith), le-ltb (get_or s 0 0) 0x80 (omega arith)) in
+    let s = c.args.s.now in
+    simp (long, ne_eqb (get_or s 0 0) 0x81 (omega arith), ne_eqb (get_or s 0 0) 0x82 (omega arith))

@@ -13,36 +13,30 @@ use Rattle.tlv.proofs.object_at.Reads as reads
 use Rattle.tlv.proofs.object_header.Reads as head-reads
 use Rattle.tlv.proofs.object_at.Goals as goal
 
--- where an object is present
-abbrev At-object : Type 0
-At-object = lts.After-struct-known (head-reads.Asked, head-reads.Learnt) reads.Pre reads.Post
-
-head_at : (c : At-object) →
-    let a = c.before.before.before.before.before.before.before.args in
-    header_of (drop a.at a.s.now) ≡ Object c.before.before.front.given.0.0
-head_at c =
-    let a = c.before.before.before.before.before.before.before.args in
-    ap header_of (sym (tail-is a.s.now a.at)) ∙ sym c.before.before.before.before.object-header.ensures ∙
-    c.before.before.front.given.1
-
 pub returns-in_default : goal.returns-in_default
 returns-in_default c =
     let a = c.args in
     sym (ap (λ x. next_in_template_shifted a.at (next_in_template_of_front x))
     (ap header_of (sym (tail-is a.s.now a.at)) ∙ sym c.object_header-front.ensures ∙
-    c.enum_told-1.given.1))
+    c.in_default.is))
 
 
 pub overflow_add-start : goal.overflow_add-start
 overflow_add-start c =
-    let f = header_fits _ _ (head_at c) in
+    let head_at : let a = c.args in header_of (drop a.at a.s.now) ≡ Object c.in-Object.h =
+      let a = c.args in
+    ap header_of (sym (tail-is a.s.now a.at)) ∙ sym c.object_header-front.ensures ∙
+    c.in-Object.is in
+    let f = header_fits _ _ (head_at) in
     let g = simp length-drop at f.inside in
     omega arith
 
-
 pub returns : goal.returns
 returns c =
+    let head_at : let a = c.args in header_of (drop a.at a.s.now) ≡ Object c.in-Object.h =
+      let a = c.args in
+    ap header_of (sym (tail-is a.s.now a.at)) ∙ sym c.object_header-front.ensures ∙
+    c.in-Object.is in
     sym
     (ap (λ x. next_in_template_shifted c.args.at
-    (next_in_template_of_front x)) (head_at c))
-
+    (next_in_template_of_front x)) (head_at))

@@ -12,28 +12,8 @@ use Rattle.tlv.proofs.tag_at.Reads as tag_at
 use Rattle.tlv.proofs.length_at.Reads as length_at
 use Rattle.tlv.proofs.object_header.Goals as goal
 
--- where both are known
-abbrev Known : Type 0
-Known = lts.After-struct-known (tag_at.Asked, tag_at.Learnt, length_at.Asked, length_at.Learnt) reads.Pre reads.Post
-
-read_at : (c : Known) →
-    let b = c.before.before.before.before.before.before.before in
-    HeaderRead b.before.before.before.before.args.s.now b.front.given.0.0
-    c.before.before.sized.given.0.0
-read_at c =
-    let g = c.before.before.before.before.before.before.before.front.given in
-    let z = c.before.before.sized.given in
-    header_read _ _ g.0.0
-    c.before.before.before.before.before.before.before.before.before.tag_at.ensures g.1 _
-    c.before.before.before.before.length_at.ensures
-    (λ i. omega (
-      arith,
-      c.before.before.before.before.before.before.before.before.before.before.shared-slice-known.given
-          i,
-    )) z.0.0 z.1
-
 pub returns-in_default : goal.returns-in_default
-returns-in_default c = sym (header_untagged _ _ c.tag_at-front.ensures c.enum_told-1.given.1)
+returns-in_default c = sym (header_untagged _ _ c.tag_at-front.ensures c.in_default.is)
 
 
 pub slice_bounds-length_at-count : goal.slice_bounds-length_at-count
@@ -51,25 +31,80 @@ pub returns-in_default-sized : goal.returns-in_default-sized
 returns-in_default-sized c =
     let g = c.front-1.given in
     sym (header_with _ _ g.0.0 c.tag_at-front.ensures g.1 _
-    c.length_at-sized.ensures Unsized c.enum_told-in_default-sized-1.given.1)
+    c.length_at-sized.ensures Unsized c.in_default-sized.is)
 
 
 pub overflow_add-start : goal.overflow_add-start
-overflow_add-start c = let r = read_at c in omega arith
-
+overflow_add-start c =
+    let read_at : HeaderRead c.args.s.now c.in-Tagged.t c.in-Sized.e =
+      let g = c.front-1.given in
+    let z = c.sized-1.given in
+    header_read _ _ g.0.0
+    c.tag_at-front.ensures g.1 _
+    c.length_at-sized.ensures
+    (λ i. omega (
+      arith,
+      c.shared_slice_known-1.given
+          i,
+    )) z.0.0 z.1 in
+    let r = read_at in omega arith
 
 pub overflow_add-start-2 : goal.overflow_add-start-2
-overflow_add-start-2 c = let r = read_at c in omega arith
-
+overflow_add-start-2 c =
+    let read_at : HeaderRead c.args.s.now c.in-Tagged.t c.in-Sized.e =
+      let g = c.front-1.given in
+    let z = c.sized-1.given in
+    header_read _ _ g.0.0
+    c.tag_at-front.ensures g.1 _
+    c.length_at-sized.ensures
+    (λ i. omega (
+      arith,
+      c.shared_slice_known-1.given
+          i,
+    )) z.0.0 z.1 in
+    let r = read_at in omega arith
 
 pub bounds-s-0 : goal.bounds-s-0
-bounds-s-0 c = let r = read_at c.before.before in omega arith
-
+bounds-s-0 c =
+    let read_at : HeaderRead c.args.s.now c.in-Tagged.t c.in-Sized.e =
+      let g = c.front-1.given in
+    let z = c.sized-1.given in
+    header_read _ _ g.0.0
+    c.tag_at-front.ensures g.1 _
+    c.length_at-sized.ensures
+    (λ i. omega (
+      arith,
+      c.shared_slice_known-1.given
+          i,
+    )) z.0.0 z.1 in
+    let r = read_at in omega arith
 
 pub returns-then-start-len : goal.returns-then-start-len
-returns-then-start-len c = sym (header_whole (read_at c.before.before) c.if-start-len.true)
-
+returns-then-start-len c =
+    let read_at : HeaderRead c.args.s.now c.in-Tagged.t c.in-Sized.e =
+      let g = c.front-1.given in
+    let z = c.sized-1.given in
+    header_read _ _ g.0.0
+    c.tag_at-front.ensures g.1 _
+    c.length_at-sized.ensures
+    (λ i. omega (
+      arith,
+      c.shared_slice_known-1.given
+          i,
+    )) z.0.0 z.1 in
+    sym (header_whole (read_at) c.if-start-len.true)
 
 pub returns : goal.returns
-returns c = sym (header_short (read_at c.before) c.if-start-len.false)
-
+returns c =
+    let read_at : HeaderRead c.args.s.now c.in-Tagged.t c.in-Sized.e =
+      let g = c.front-1.given in
+    let z = c.sized-1.given in
+    header_read _ _ g.0.0
+    c.tag_at-front.ensures g.1 _
+    c.length_at-sized.ensures
+    (λ i. omega (
+      arith,
+      c.shared_slice_known-1.given
+          i,
+    )) z.0.0 z.1 in
+    sym (header_short (read_at) c.if-start-len.false)

@@ -10,8 +10,6 @@ use Rattle.tlv.specs.Tree.{next_in_template_shifted, next_in_template}
 use Rattle.tlv.proofs.NextObject.{moved_zero, pass_zero}
 use Rattle.tlv.proofs.padding.Goals as goal
 
-}
-
 pub loop-at-init : goal.loop-at-init
 loop-at-init c = (omega arith, sym (moved_zero _))
 
@@ -21,6 +19,8 @@ returns-then-s-at-ne0 c = let lp = c.loop-at in record {
   next = lp.invariant.1;
   stops =
       λ h. c.if-s-at-ne0.true;
+}
+
 
 pub loop-at-preserved : goal.loop-at-preserved
 loop-at-preserved c =

@@ -6,7 +6,7 @@ use Rattle.tlv.proofs.Primitives.{primitive_broken, primitive_template, primitiv
 use Rattle.tlv.proofs.primitive_at_front.Goals as goal
 
 pub returns-in_default : goal.returns-in_default
-returns-in_default c = sym (primitive_broken _ _ c.object_header-front.ensures c.enum_told-1.given.1)
+returns-in_default c = sym (primitive_broken _ _ c.object_header-front.ensures c.in_default.is)
 
 
 pub returns-then-h : goal.returns-then-h

@@ -13,43 +13,19 @@ use Rattle.tlv.proofs.Laws.{from_second, from_third, tag_size_by}
 use Rattle.tlv.proofs.tag_size.Reads as reads
 use Rattle.tlv.proofs.tag_size.Goals as goal
 
-)
-
-second : (c : lts.Else3 reads.Pre reads.Post) → tag_size c.before.before.before.before.before.args.s.now
-    ≡ from_second c.before.before.before.before.before.args.s.now
-unfolding if
-second c = let s = c.before.before.before.before.before.args.s.now in tag_size_by s ∙ simp
-    (le-ltb (length s) 1 (omega arith), ne_eqb (get_or s 0 0) 0 (omega arith), eq-eqb (get_or s 0 0 % 32) 31 (omega arith))
-
-)
-
-third : (c : lts.Else6 reads.Pre reads.Post)
-    → tag_size c.before.before.before.before.before.before.before.before.before.before.args.s.now
-    ≡ from_third c.before.before.before.before.before.before.before.before.before.before.args.s.now
-unfolding if
-third c = let s = c.before.before.before.before.before.before.before.before.before.before.args.s.now in
-    second c.before.before.before.before.before ∙ simp (
-      le-ltb (length s) 2 (omega arith),
-      ne_eqb (get_or s 1 0)
-          0x80 (omega arith),
-      le-leb 0x80 (get_or s 1 0) (omega arith),
-    )
-
 pub returns-then-s-lt1 : goal.returns-then-s-lt1
 unfolding if
-returns-then-s-lt1 c = let s = c.args.s.now in
-    (sym (tag_size_by s ∙ simp (lt-ltb (length s) 1 (omega arith))), omega arith)
-
+returns-then-s-lt1 c = let r = (let s = c.args.s.now in
+    (sym (tag_size_by s ∙ simp (lt-ltb (length s) 1 (omega arith))), omega arith)) in record { size = r.0; inside = r.1 }
 
 pub returns-then-s-eq0 : goal.returns-then-s-eq0
 unfolding if
-returns-then-s-eq0 c = let s = c.args.s.now in
-    (sym (tag_size_by s ∙ simp (le-ltb (length s) 1 (omega arith), eq-eqb (get_or s 0 0) 0 (omega arith))), omega arith)
-
+returns-then-s-eq0 c = let r = (let s = c.args.s.now in
+    (sym (tag_size_by s ∙ simp (le-ltb (length s) 1 (omega arith), eq-eqb (get_or s 0 0) 0 (omega arith))), omega arith)) in record { size = r.0; inside = r.1 }
 
 pub returns-then-s-ne31 : goal.returns-then-s-ne31
 unfolding if
-returns-then-s-ne31 c = let s = c.args.s.now in (
+returns-then-s-ne31 c = let r = (let s = c.args.s.now in (
   sym
       (tag_size_by s ∙ simp (
         le-ltb (length s) 1 (omega arith),
@@ -58,69 +34,108 @@ returns-then-s-ne31 c = let s = c.args.s.now in (
             (get_or s 0 0 % 32) 31 (omega arith),
       )),
   omega arith,
+)) in record { size = r.0; inside = r.1 }
 
 pub returns-then-s-lt2 : goal.returns-then-s-lt2
 unfolding if
-returns-then-s-lt2 c = let s = c.args.s.now in
-    (sym (second c.before ∙ simp (lt-ltb (length s) 2 (omega arith))), omega arith)
-
+returns-then-s-lt2 c = let r = (let second : tag_size c.args.s.now ≡ from_second c.args.s.now =
+      let s = c.args.s.now in tag_size_by s ∙ simp
+    (le-ltb (length s) 1 (omega arith), ne_eqb (get_or s 0 0) 0 (omega arith), eq-eqb (get_or s 0 0 % 32) 31 (omega arith)) in
+    let s = c.args.s.now in
+    (sym (second ∙ simp (lt-ltb (length s) 2 (omega arith))), omega arith)) in record { size = r.0; inside = r.1 }
 
 pub returns-then-s : goal.returns-then-s
 unfolding if
-returns-then-s c = let s = c.args.s.now in (
+returns-then-s c = let r = (let second : tag_size c.args.s.now ≡ from_second c.args.s.now =
+      let s = c.args.s.now in tag_size_by s ∙ simp
+    (le-ltb (length s) 1 (omega arith), ne_eqb (get_or s 0 0) 0 (omega arith), eq-eqb (get_or s 0 0 % 32) 31 (omega arith)) in
+    let s = c.args.s.now in (
   sym
-      (second c.before.before.before ∙ simp (
+      (second ∙ simp (
         le-ltb (length s) 2 (omega arith),
         eq-eqb (get_or s 1 0) 0x80
             (omega arith),
       )),
   omega arith,
+)) in record { size = r.0; inside = r.1 }
 
 pub returns-then-s-lt128 : goal.returns-then-s-lt128
 unfolding if
-returns-then-s-lt128 c = let s =
+returns-then-s-lt128 c = let r = (let second : tag_size c.args.s.now ≡ from_second c.args.s.now =
+      let s = c.args.s.now in tag_size_by s ∙ simp
+    (le-ltb (length s) 1 (omega arith), ne_eqb (get_or s 0 0) 0 (omega arith), eq-eqb (get_or s 0 0 % 32) 31 (omega arith)) in
+    let s =
     c.args.s.now in (
-      sym (second c.before.before.before.before.before ∙ simp (
+      sym (second ∙ simp (
         le-ltb (length s) 2 (omega arith),
         ne_eqb (get_or s 1 0) 0x80 (omega arith),
         lt-leb 0x80 (get_or s 1 0)
             (omega arith),
       )),
       omega arith,
-    )
-
+    )) in record { size = r.0; inside = r.1 }
 
 pub returns-then-s-lt3 : goal.returns-then-s-lt3
 unfolding if
-returns-then-s-lt3 c = let s =
+returns-then-s-lt3 c = let r = (let second : tag_size c.args.s.now ≡ from_second c.args.s.now =
+      let s = c.args.s.now in tag_size_by s ∙ simp
+    (le-ltb (length s) 1 (omega arith), ne_eqb (get_or s 0 0) 0 (omega arith), eq-eqb (get_or s 0 0 % 32) 31 (omega arith)) in
+    let third : tag_size c.args.s.now ≡ from_third c.args.s.now =
+      let s = c.args.s.now in
+    second ∙ simp (
+      le-ltb (length s) 2 (omega arith),
+      ne_eqb (get_or s 1 0)
+          0x80 (omega arith),
+      le-leb 0x80 (get_or s 1 0) (omega arith),
+    ) in
+    let s =
     c.args.s.now in
-    (sym (third c.before ∙ simp (lt-ltb (length s) 3 (omega arith))), omega arith)
-
+    (sym (third ∙ simp (lt-ltb (length s) 3 (omega arith))), omega arith)) in record { size = r.0; inside = r.1 }
 
 pub returns-then-s-lt128-2 : goal.returns-then-s-lt128-2
 unfolding if
-returns-then-s-lt128-2 c = let s =
+returns-then-s-lt128-2 c = let r = (let second : tag_size c.args.s.now ≡ from_second c.args.s.now =
+      let s = c.args.s.now in tag_size_by s ∙ simp
+    (le-ltb (length s) 1 (omega arith), ne_eqb (get_or s 0 0) 0 (omega arith), eq-eqb (get_or s 0 0 % 32) 31 (omega arith)) in
+    let third : tag_size c.args.s.now ≡ from_third c.args.s.now =
+      let s = c.args.s.now in
+    second ∙ simp (
+      le-ltb (length s) 2 (omega arith),
+      ne_eqb (get_or s 1 0)
+          0x80 (omega arith),
+      le-leb 0x80 (get_or s 1 0) (omega arith),
+    ) in
+    let s =
     c.args.s.now in (
       sym
-          (third c.before.before.before ∙ simp (
+          (third ∙ simp (
             le-ltb (length s) 3 (omega arith),
             lt-leb 0x80 (get_or s 2 0)
                 (omega arith),
           )),
       omega arith,
-    )
-
+    )) in record { size = r.0; inside = r.1 }
 
 pub returns : goal.returns
 unfolding if
-returns c = let s =
+returns c = let r = (let second : tag_size c.args.s.now ≡ from_second c.args.s.now =
+      let s = c.args.s.now in tag_size_by s ∙ simp
+    (le-ltb (length s) 1 (omega arith), ne_eqb (get_or s 0 0) 0 (omega arith), eq-eqb (get_or s 0 0 % 32) 31 (omega arith)) in
+    let third : tag_size c.args.s.now ≡ from_third c.args.s.now =
+      let s = c.args.s.now in
+    second ∙ simp (
+      le-ltb (length s) 2 (omega arith),
+      ne_eqb (get_or s 1 0)
+          0x80 (omega arith),
+      le-leb 0x80 (get_or s 1 0) (omega arith),
+    ) in
+    let s =
     c.args.s.now in (
       sym
-          (third c.before.before.before ∙ simp (
+          (third ∙ simp (
             le-ltb (length s) 3 (omega arith),
             le-leb 0x80 (get_or s 2 0)
                 (omega arith),
           )),
       omega arith,
-    )
-
+    )) in record { size = r.0; inside = r.1 }

@@ -10,12 +10,5 @@ use Rattle.worked_examples.proofs.Journal.{journal}
 use Rattle.worked_examples.proofs.CallLists.{lists_of_calls}
 use Rattle.worked_examples.proofs.examples_hold.Goals as goal
 
-)
-
 pub returns : goal.returns
-returns c = let r = ((
-  on_gpo_lem,
-  (
-    on_last_record,
-    (on_last_mag_stripe, (on_cryptogram_lem, (on_checksum_lem, (encodings, (lists, (refusals, (journal, lists_of_calls))))))),
-  ),) in record { gpo = r.0; records = r.1.0; mag_stripe = r.1.1.0; cryptogram = r.1.1.1.0; checksum = r.1.1.1.1.0; encodings = r.1.1.1.1.1.0; lists = r.1.1.1.1.1.1.0; refusals = r.1.1.1.1.1.1.1.0; journal = r.1.1.1.1.1.1.1.1.0; call_lists = r.1.1.1.1.1.1.1.1.1 }
+returns c = record { gpo = on_gpo_lem; records = on_last_record; mag_stripe = on_last_mag_stripe; cryptogram = on_cryptogram_lem; checksum = on_checksum_lem; encodings = encodings; lists = lists; refusals = refusals; journal = journal; call_lists = lists_of_calls }

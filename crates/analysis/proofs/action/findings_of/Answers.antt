@@ -8,13 +8,13 @@ use Rattle.analysis.proofs.CvmStore.{on_device_rules}
 use borrow.Author.Rules.{rules}
 use Rattle.analysis.proofs.action.findings_of.Goals as goal
 
-)
-
 pub tvr_with_cvm-bits-requires : goal.tvr_with_cvm-bits-requires
 tvr_with_cvm-bits-requires c = (
   ap (λ (v : CvmResult). v.tvr1) c.cvm_result_in-verified.ensures,
   ap (λ (v : CvmResult). v.tvr3)
       c.cvm_result_in-verified.ensures,
+)
+
 
 pub returns : goal.returns
 unfolding findings_of

@@ -12,8 +12,6 @@ use Rattle.analysis.proofs.Lowest.{lowest_is, lowest_none}
 use Rattle.analysis.proofs.Stages.{zero_byte}
 use Rattle.analysis.proofs.choice.byte_bit.Goals as goal
 
-)
-
 pub returns-then-res-eq0 : goal.returns-then-res-eq0
 returns-then-res-eq0 c =
     sym (ap (λ (x : ℕ). lowest_bit_from_start_within_count (tvr_byte_bit_in_codes x c.args.card c.args.terminal) 0 8)
@@ -42,6 +40,8 @@ loop-k-preserved c = (
   omega arith,
   below_more _ _ c.loop-k.invariant.1
       (sym c.holds_bit.ensures ∙ c.if-holds_bit.false),
+)
+
 
 pub returns : goal.returns
 returns c =

@@ -10,18 +10,14 @@ use Rattle.analysis.specs.Choice.{online_capability_by_digit}
 use Rattle.analysis.proofs.Listed.{is_none}
 use Rattle.analysis.proofs.choice.online_capability_of_type.Goals as goal
 
-]
-
-]
-
-]
-
 pub returns-in-1 : goal.returns-in-1
 unfolding online_capability_by_digit if either
 returns-in-1 c = elim c.in-1.is [
   | inl e ↦ sym (ap online_capability_by_digit e)
   | inr e ↦
       sym (ap online_capability_by_digit e)
+]
+
 
 pub returns-in-2 : goal.returns-in-2
 unfolding online_capability_by_digit if either
@@ -29,6 +25,8 @@ returns-in-2 c = elim c.in-2.is [
   | inl e ↦ sym (ap online_capability_by_digit e)
   | inr e ↦
       sym (ap online_capability_by_digit e)
+]
+
 
 pub returns-in-3 : goal.returns-in-3
 unfolding online_capability_by_digit if either
@@ -36,6 +34,8 @@ returns-in-3 c = elim c.in-3.is [
   | inl e ↦ sym (ap online_capability_by_digit e)
   | inr e ↦
       sym (ap online_capability_by_digit e)
+]
+
 
 pub returns-in_default : goal.returns-in_default
 unfolding online_capability_by_digit

@@ -4,8 +4,6 @@ use borrow.Author.Tests.{ne_eqb}
 use Rattle.basics.specs.Choice.{if}
 use Rattle.analysis.proofs.cvm.cvm_amount_met.Goals as goal
 
-)
-
 pub returns-in-6 : goal.returns-in-6
 unfolding if
 returns-in-6 c = simp c.in-6.is
@@ -33,3 +31,5 @@ returns-in_default c = let r = c.in_default.rest in simp (
   ne_eqb _ _ r.0.0.1,
   ne_eqb _ _ r.0.1,
   ne_eqb _ _ r.1,
+)
+

@@ -7,8 +7,6 @@ use Rattle.basics.specs.Choice.{if}
 use Rattle.analysis.specs.Cvm.{cvm_result_of_supported}
 use Rattle.analysis.proofs.cvm.cvm_successful.Goals as goal
 
-)
-
 pub returns-in-2 : goal.returns-in-2
 unfolding cvm_result_of_supported if
 returns-in-2 c = simp (c.in-2.is, c.weight_if_set-bits.ensures.0, zero-add)
@@ -33,3 +31,5 @@ returns-in_default c = let r = c.in_default.rest in simp (
   c.weight_if_set-bits.ensures.0,
   zero-add,
   add-zero,
+)
+

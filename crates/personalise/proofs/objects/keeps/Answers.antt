@@ -21,8 +21,6 @@ use Rattle.personalise.proofs.objects.lacks_tag.Reads as lacks-tag
 use Rattle.personalise.proofs.placements.count_named.Reads as count-named
 use Rattle.personalise.proofs.objects.keeps.Goals as goal
 
-) reads.Pre reads.Post invariant-loop decreases-loop
-
 pub loop-s-init : goal.loop-s-init
 loop-s-init c = (refl, omega arith)
 

@@ -14,8 +14,6 @@ use Rattle.reading.proofs.Runs.{Next, stops, padding, failed, bounds, list_lengt
 use Rattle.reading.proofs.Frames.{Reached, ahead, begin, inside, run, step, more, done, close, too_deep, push}
 use Rattle.reading.proofs.flat.walk.Goals as goal
 
-}
-
 pub loop-at-init : goal.loop-at-init
 loop-at-init c = let p = c.requires in begin _ _ _ _ _ p.0 p.1
 
@@ -89,7 +87,8 @@ overflow_add-from c =
       record {
   bytes = λ i. omega (arith, c.shared_slice_known-else-at-end-1.given i);
   more = more-at;
-  is = sym c.object_header-front.ensures ∙ c.in-Object.is; in
+  is = sym c.object_header-front.ensures ∙ c.in-Object.is;
+} in
     omega ( arith, bounds (next-at), c.loop-at.invariant.fits.short, )
 
 pub overflow_add-e : goal.overflow_add-e
@@ -100,7 +99,8 @@ overflow_add-e c =
       record {
   bytes = λ i. omega (arith, c.shared_slice_known-else-at-end-1.given i);
   more = more-at;
-  is = sym c.object_header-front.ensures ∙ c.in-Object.is; in
+  is = sym c.object_header-front.ensures ∙ c.in-Object.is;
+} in
     omega ( arith, bounds (next-at), c.loop-at.invariant.fits.short, )
 
 pub overflow_add-n : goal.overflow_add-n
@@ -119,7 +119,8 @@ returns-then-depth-eq-LEVELS c = let r = (let more-at : c.loop-at.at < get_or c.
       record {
   bytes = λ i. omega (arith, c.shared_slice_known-else-at-end-1.given i);
   more = more-at;
-  is = sym c.object_header-front.ensures ∙ c.in-Object.is; in
+  is = sym c.object_header-front.ensures ∙ c.in-Object.is;
+} in
     let w = c.loop-at.invariant in
     (too_deep w (next-at) c.if-h.true c.if-depth-eq-LEVELS.true _, w.fits.room)) in record { walks = r.0; room = r.1 }
 
@@ -161,7 +162,8 @@ loop-at-smaller-then-h c =
       record {
   bytes = λ i. omega (arith, c.shared_slice_known-else-at-end-1.given i);
   more = more-at;
-  is = sym c.object_header-front.ensures ∙ c.in-Object.is; in
+  is = sym c.object_header-front.ensures ∙ c.in-Object.is;
+} in
     omega (arith, bounds (next-at))
 
 pub loop-at-preserved-then-h : goal.loop-at-preserved-then-h
@@ -172,7 +174,8 @@ loop-at-preserved-then-h c =
       record {
   bytes = λ i. omega (arith, c.shared_slice_known-else-at-end-1.given i);
   more = more-at;
-  is = sym c.object_header-front.ensures ∙ c.in-Object.is; in
+  is = sym c.object_header-front.ensures ∙ c.in-Object.is;
+} in
     push c.loop-at.invariant (next-at)
     c.if-depth-eq-LEVELS.false c.if-h.true
 
@@ -196,7 +199,8 @@ packed_item-requires c =
       record {
   bytes = λ i. omega (arith, c.shared_slice_known-else-at-end-1.given i);
   more = more-at;
-  is = sym c.object_header-front.ensures ∙ c.in-Object.is; in
+  is = sym c.object_header-front.ensures ∙ c.in-Object.is;
+} in
     number_fits (next-at)
 
 pub offset_bounds-items-k : goal.offset_bounds-items-k
@@ -207,7 +211,8 @@ offset_bounds-items-k c =
       record {
   bytes = λ i. omega (arith, c.shared_slice_known-else-at-end-1.given i);
   more = more-at;
-  is = sym c.object_header-front.ensures ∙ c.in-Object.is; in
+  is = sym c.object_header-front.ensures ∙ c.in-Object.is;
+} in
     omega (arith, room (next-at))
 
 pub bounds-items-k : goal.bounds-items-k
@@ -218,7 +223,8 @@ bounds-items-k c =
       record {
   bytes = λ i. omega (arith, c.shared_slice_known-else-at-end-1.given i);
   more = more-at;
-  is = sym c.object_header-front.ensures ∙ c.in-Object.is; in
+  is = sym c.object_header-front.ensures ∙ c.in-Object.is;
+} in
     omega (arith, room (next-at), list_length (next-at))
 
 pub overflow_add-k : goal.overflow_add-k
@@ -229,7 +235,8 @@ overflow_add-k c =
       record {
   bytes = λ i. omega (arith, c.shared_slice_known-else-at-end-1.given i);
   more = more-at;
-  is = sym c.object_header-front.ensures ∙ c.in-Object.is; in
+  is = sym c.object_header-front.ensures ∙ c.in-Object.is;
+} in
     omega (arith, room (next-at))
 
 pub loop-at-smaller : goal.loop-at-smaller
@@ -240,7 +247,8 @@ loop-at-smaller c =
       record {
   bytes = λ i. omega (arith, c.shared_slice_known-else-at-end-1.given i);
   more = more-at;
-  is = sym c.object_header-front.ensures ∙ c.in-Object.is; in
+  is = sym c.object_header-front.ensures ∙ c.in-Object.is;
+} in
     omega (arith, bounds (next-at))
 
 pub loop-at-preserved : goal.loop-at-preserved
@@ -251,7 +259,8 @@ loop-at-preserved c =
       record {
   bytes = λ i. omega (arith, c.shared_slice_known-else-at-end-1.given i);
   more = more-at;
-  is = sym c.object_header-front.ensures ∙ c.in-Object.is; in
+  is = sym c.object_header-front.ensures ∙ c.in-Object.is;
+} in
     rw c.packed_item.ensures
     (step c.loop-at.invariant
     (listed (next-at) c.if-h.false))
