@@ -22,21 +22,18 @@ slice_bounds-answer_on_parts-end c =
     let k = taken in omega (arith, k.told.enough)
 
 pub finish-requires : goal.finish-requires
-finish-requires c = let r = (let taken : let a = c.args in Taken a.state.now a.command.now c.in-Admitted.holding =
+finish-requires c = let taken : let a = c.args in Taken a.state.now a.command.now c.in-Admitted.holding =
       let a = c.args in
     over_taken a.state.now a.command.now _ c.admit-admission.ensures
     c.in-Admitted.is in
-    let k = taken in (
-      omega (
+    let k = taken in record { cabinet_state_size_in_bounds = omega (
         arith,
         k.told.enough,
         same_len_mid record_head_size store_size
             c.args.state.now
             c.answer_on_parts-transition.new.store
             c.state-1.given.0,
-      ),
-      k.told.fits,
-    )) in record { cabinet_state_size_in_bounds = r.0; reserved_bound = r.1 }
+      ); reserved_bound = k.told.fits }
 
 pub returns-in-Refused : goal.returns-in-Refused
 returns-in-Refused c =

@@ -8,10 +8,9 @@ use Rattle.cabinet.proofs.Laws.{over_refused, over_taken, over_ranged}
 use Rattle.cabinet.proofs.cabinet_start.Goals as goal
 
 pub start_held-requires : goal.start_held-requires
-start_held-requires c = let r = (let a = c.args in
+start_held-requires c = let a = c.args in
     let k = over_taken a.state.now a.command.now _ c.admit-admission.ensures
-    c.in-Admitted.is in
-    (k.told.enough, (k.room, omega (arith, k.told.fits)))) in record { cabinet_state_size_in_bounds = r.0; least_buffer_in_bounds = r.1.0; remaining_le_greatest_twelve_digit_amount = r.1.1 }
+    c.in-Admitted.is in record { cabinet_state_size_in_bounds = k.told.enough; least_buffer_in_bounds = k.room; remaining_le_greatest_twelve_digit_amount = omega (arith, k.told.fits) }
 
 pub returns-in-Refused : goal.returns-in-Refused
 returns-in-Refused c =

@@ -19,12 +19,11 @@ slice_bounds-stop_on_parts-end c =
     let k = taken in omega (arith, k.told.enough)
 
 pub finish-requires : goal.finish-requires
-finish-requires c = let r = (let taken : let a = c.args in Taken a.state.now a.command.now c.in-Admitted.holding =
+finish-requires c = let taken : let a = c.args in Taken a.state.now a.command.now c.in-Admitted.holding =
       let a = c.args in
     over_taken a.state.now a.command.now _ c.admit-admission.ensures
     c.in-Admitted.is in
-    let k = taken in
-    (k.told.enough, k.told.fits)) in record { cabinet_state_size_in_bounds = r.0; reserved_bound = r.1 }
+    let k = taken in record { cabinet_state_size_in_bounds = k.told.enough; reserved_bound = k.told.fits }
 
 pub returns-in-Refused : goal.returns-in-Refused
 returns-in-Refused c =

@@ -18,32 +18,32 @@ returns-in_default c = let a = c.args in handed_nothing a.answer a.first.now a.c
 
 pub slice_bounds-copy-end : goal.slice_bounds-copy-end
 slice_bounds-copy-end c =
-    let sized : let a = c.args in let n = c.in-Command.issued.size in (n ≤ length a.first.now) × (n ≤ length a.command.now) =
-      let e = c.in-Command.is in (
-      subst (λ (x : CallResult). command_size_or_zero x ≤ length c.args.first.now) e c.requires.0,
+    let sized : let a = c.args in (c.in-Command.issued.size ≤ length a.first.now) × (c.in-Command.issued.size ≤ length a.command.now) =
+      (
+      subst (λ (x : CallResult). command_size_or_zero x ≤ length c.args.first.now) c.in-Command.is c.requires.0,
       subst
-          (λ (x : CallResult). command_size_or_zero x ≤ length c.args.command.now) e c.requires.1,
+          (λ (x : CallResult). command_size_or_zero x ≤ length c.args.command.now) c.in-Command.is c.requires.1,
     ) in
     sym (length-take-le _ _ (sized).0)
 
 pub copy-requires : goal.copy-requires
 copy-requires c =
-    let sized : let a = c.args in let n = c.in-Command.issued.size in (n ≤ length a.first.now) × (n ≤ length a.command.now) =
-      let e = c.in-Command.is in (
-      subst (λ (x : CallResult). command_size_or_zero x ≤ length c.args.first.now) e c.requires.0,
+    let sized : let a = c.args in (c.in-Command.issued.size ≤ length a.first.now) × (c.in-Command.issued.size ≤ length a.command.now) =
+      (
+      subst (λ (x : CallResult). command_size_or_zero x ≤ length c.args.first.now) c.in-Command.is c.requires.0,
       subst
-          (λ (x : CallResult). command_size_or_zero x ≤ length c.args.command.now) e c.requires.1,
+          (λ (x : CallResult). command_size_or_zero x ≤ length c.args.command.now) c.in-Command.is c.requires.1,
     ) in
     let a = c.args in
     omega (arith, length-take-le c.in-Command.issued.size a.first.now (sized).0, (sized).1)
 
 pub returns : goal.returns
 returns c =
-    let sized : let a = c.args in let n = c.in-Command.issued.size in (n ≤ length a.first.now) × (n ≤ length a.command.now) =
-      let e = c.in-Command.is in (
-      subst (λ (x : CallResult). command_size_or_zero x ≤ length c.args.first.now) e c.requires.0,
+    let sized : let a = c.args in (c.in-Command.issued.size ≤ length a.first.now) × (c.in-Command.issued.size ≤ length a.command.now) =
+      (
+      subst (λ (x : CallResult). command_size_or_zero x ≤ length c.args.first.now) c.in-Command.is c.requires.0,
       subst
-          (λ (x : CallResult). command_size_or_zero x ≤ length c.args.command.now) e c.requires.1,
+          (λ (x : CallResult). command_size_or_zero x ≤ length c.args.command.now) c.in-Command.is c.requires.1,
     ) in
     let a = c.args in
     handed_command c.in-Command.issued a.first.now a.command.now _ (sized).0

@@ -31,7 +31,7 @@ returns-in_default c =
 
 pub returns-then-reserved-due : goal.returns-then-reserved-due
 returns-then-reserved-due c =
-    let session : let l = c.args.state.now in let h = c.in-Record.head in decoded_session l ≡ some (session_of h.phase h.count (store_in l)) =
+    let session : let l = c.args.state.now in decoded_session l ≡ some (session_of c.in-Record.head.phase c.in-Record.head.count (store_in l)) =
       head_session _ _ (sym c.decode_record_head-held.ensures ∙ c.in-Record.is) in
     let l = c.args.state.now in
     ap (λ (w : ℕ). CabinetAdmission.Refused w) c.refusal_word.ensures
@@ -40,7 +40,7 @@ returns-then-reserved-due c =
 
 pub returns-then-not-is_within : goal.returns-then-not-is_within
 returns-then-not-is_within c =
-    let session : let l = c.args.state.now in let h = c.in-Record.head in decoded_session l ≡ some (session_of h.phase h.count (store_in l)) =
+    let session : let l = c.args.state.now in decoded_session l ≡ some (session_of c.in-Record.head.phase c.in-Record.head.count (store_in l)) =
       head_session _ _ (sym c.decode_record_head-held.ensures ∙ c.in-Record.is) in
     let summed : let l = c.args.state.now in leb (remaining_in_cabinet_state l + reserved_in_cabinet_state l) greatest_twelve_digit_amount ≡ c.is_within.result =
       sym (c.is_within.ensures ∙ ap₂ (λ (n a : ℕ). leb (n + a) greatest_twelve_digit_amount)
@@ -53,19 +53,19 @@ returns-then-not-is_within c =
 
 pub returns : goal.returns
 returns c =
-    let session : let l = c.args.state.now in let h = c.in-Record.head in decoded_session l ≡ some (session_of h.phase h.count (store_in l)) =
+    let session : let l = c.args.state.now in decoded_session l ≡ some (session_of c.in-Record.head.phase c.in-Record.head.count (store_in l)) =
       head_session _ _ (sym c.decode_record_head-held.ensures ∙ c.in-Record.is) in
     let summed : let l = c.args.state.now in leb (remaining_in_cabinet_state l + reserved_in_cabinet_state l) greatest_twelve_digit_amount ≡ c.is_within.result =
       sym (c.is_within.ensures ∙ ap₂ (λ (n a : ℕ). leb (n + a) greatest_twelve_digit_amount)
     c.eight-remaining.ensures
     c.eight-reserved.ensures) in
     let l = c.args.state.now in
-    let h = c.in-Record.head in
+    
     
     let reserved = c.eight-reserved.ensures in
     ap₂
     (λ (n a : ℕ). CabinetAdmission.Admitted
-    (record { phase = h.phase; count = h.count; amounts = record { remaining = n; reserved = a } }))
+    (record { phase = c.in-Record.head.phase; count = c.in-Record.head.count; amounts = record { remaining = n; reserved = a } }))
     c.eight-remaining.ensures reserved
     ∙ sym (holding_fits l c.if-state-lt-STATE_SIZE.false _ _ (session)
     (sym reserved ∙ c.if-reserved-due.false ∙ c.due.ensures) (summed ∙ c.if-not-is_within.false))

@@ -29,7 +29,7 @@ slice_bounds-result-end c =
 
 pub returns-in-At : goal.returns-in-At
 returns-in-At c = let r = (let bytes-at : let a = c.args in Bytes a.site.now × Bytes a.defaults.now =
-      (λ i. omega (arith, c.shared_slice_known-1.given i), λ i. omega (arith, c.shared_slice_known-2-1.given i)) in
+      (λ i. omega (arith, c.type_inv.site i), λ i. omega (arith, c.type_inv.defaults i)) in
     let own_at : let a = c.args in lookup_first a.tag a.site.now ≡ At c.in-At.p =
       sym c.first-own.ensures ∙ c.in-At.is in
     let b = bytes-at in
@@ -53,7 +53,7 @@ returns-in-At-default c = let r = (let default-at : let a = c.args in lookup_fir
     let absent-at : let a = c.args in lookup_first a.tag a.site.now ≡ Absent =
       sym c.first-own.ensures ∙ c.in_default.is in
     let bytes-at : let a = c.args in Bytes a.site.now × Bytes a.defaults.now =
-      (λ i. omega (arith, c.shared_slice_known-1.given i), λ i. omega (arith, c.shared_slice_known-2-1.given i)) in
+      (λ i. omega (arith, c.type_inv.site i), λ i. omega (arith, c.type_inv.defaults i)) in
     let n = absent-at in
     let b = bytes-at in
     returned _ _ _ _ b.0 b.1 (default_part _ _ _ n _ (default-at)) (default_address _ _ _ _ n _ (default-at))) in record { value = r.0; place = r.1.0; in_place = r.1.1.0; named = r.1.1.1 }
@@ -62,7 +62,7 @@ pub returns : goal.returns
 returns c = let r = (let absent-at : let a = c.args in lookup_first a.tag a.site.now ≡ Absent =
       sym c.first-own.ensures ∙ c.in_default.is in
     let bytes-at : let a = c.args in Bytes a.site.now × Bytes a.defaults.now =
-      (λ i. omega (arith, c.shared_slice_known-1.given i), λ i. omega (arith, c.shared_slice_known-2-1.given i)) in
+      (λ i. omega (arith, c.type_inv.site i), λ i. omega (arith, c.type_inv.defaults i)) in
     let n = absent-at in
     let e = sym c.first-default.ensures ∙ c.in_default-default.is in
     let b = bytes-at in

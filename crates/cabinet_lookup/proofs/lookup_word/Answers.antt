@@ -67,9 +67,9 @@ overflow_add-result-in-At-default-2 c =
     let default-at : let a = c.args in lookup_first a.tag a.defaults.now ≡ At c.in-At-default.p =
       sym c.first-default.ensures ∙ c.in-At-default.is in
     let a = c.args in
-    let p = c.in-At-default.p in
-    let i = found_inside a.tag a.defaults.now p (default-at) in
-    let f = word_fits (length a.site.now + p.start) source_defaults p.len (omega arith) (omega arith) in
+    
+    let i = found_inside a.tag a.defaults.now c.in-At-default.p (default-at) in
+    let f = word_fits (length a.site.now + c.in-At-default.p.start) source_defaults c.in-At-default.p.len (omega arith) (omega arith) in
     record { fits = omega arith }
 
 pub returns-in-At-default : goal.returns-in-At-default

@@ -91,12 +91,12 @@ loop-rest-preserved c =
       front-end _ _ (at_call) in
     let lp = c.loop-rest in
     let i = inside in
-    let h = c.in-Call.header in (
-      lp.invariant.0 ∙ counted_call lp.n lp.rest.now h
+    (
+      lp.invariant.0 ∙ counted_call lp.n lp.rest.now c.in-Call.header
           c.loop-rest-test.true
           (at_call)
           ∙ ap (λ (s : List ℕ). more (lp.n + 1) (calls_counted_in (parsed_calls s)))
-          (sym (tail-is lp.rest.now (call_end_offset h))),
+          (sym (tail-is lp.rest.now (call_end_offset c.in-Call.header))),
       simp (length-take, length-drop) (omega arith),
     )
 

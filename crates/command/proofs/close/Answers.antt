@@ -23,8 +23,5 @@ pub bounds-buffer-end : goal.bounds-buffer-end
 bounds-buffer-end c = simp length-set (omega arith)
 
 pub returns : goal.returns
-returns c = let r = (let a = c.args in (
-  refl,
-  closed a.ins a.p1 a.p2 a.buffer.now a.end c.requires.0
-      (omega arith),
-)) in record { said = r.0; kept = r.1 }
+returns c = let a = c.args in record { said = refl; kept = closed a.ins a.p1 a.p2 a.buffer.now a.end c.requires.0
+      (omega arith) }

@@ -10,14 +10,8 @@ use Rattle.command.proofs.Parts.{cryptogram_of}
 use Rattle.command.proofs.generate_ac.Goals as goal
 
 pub returns : goal.returns
-returns c = let r = (let w = c.with_dol.ensures in
+returns c = let w = c.with_dol.ensures in
     
     let a = c.args in
-    let e = sym (cryptogram_of a.p1 a.store.now _ c.value-list.ensures) in (
-      w.0 ∙ ap dol_command_of e,
-      (
-        w.1.0 ∙ ap (λ (x : Option (List ℕ)). buffer_with_command x a.buffer.now) e,
-        w.1.1
-            ∙ ap reason_dol_if_no_command e,
-      ),
-    )) in record { said = r.0; kept = r.1.0; reason = r.1.1 }
+    let e = sym (cryptogram_of a.p1 a.store.now _ c.value-list.ensures) in record { said = w.0 ∙ ap dol_command_of e; kept = w.1.0 ∙ ap (λ (x : Option (List ℕ)). buffer_with_command x a.buffer.now) e; reason = w.1.1
+            ∙ ap reason_dol_if_no_command e }

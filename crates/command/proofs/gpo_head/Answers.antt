@@ -15,12 +15,9 @@ pub bounds-buffer-6 : goal.bounds-buffer-6
 bounds-buffer-6 c = simp length-set (omega arith)
 
 pub returns-then-n-lt128 : goal.returns-then-n-lt128
-returns-then-n-lt128 c = let r = (let a = c.args in
-    let e = head_short a.n c.if-n-lt128.true in (
-      ap (λ (l : List ℕ). 5 + length l) (sym e),
-      over_sets a.buffer.now 5 (0x83 ∷ a.n ∷ []) (omega arith) ∙ ap
-          (buffer_with_bytes_at a.buffer.now 5) (sym e),
-    )) in record { next = r.0; kept = r.1 }
+returns-then-n-lt128 c = let a = c.args in
+    let e = head_short a.n c.if-n-lt128.true in record { next = ap (λ (l : List ℕ). 5 + length l) (sym e); kept = over_sets a.buffer.now 5 (0x83 ∷ a.n ∷ []) (omega arith) ∙ ap
+          (buffer_with_bytes_at a.buffer.now 5) (sym e) }
 
 pub bounds-buffer-6-2 : goal.bounds-buffer-6-2
 bounds-buffer-6-2 c = simp length-set (omega arith)
@@ -29,9 +26,6 @@ pub bounds-buffer-7 : goal.bounds-buffer-7
 bounds-buffer-7 c = simp length-set (omega arith)
 
 pub returns : goal.returns
-returns c = let r = (let a = c.args in
-    let e = head_long a.n c.if-n-lt128.false c.requires.0 in (
-      ap (λ (l : List ℕ). 5 + length l) (sym e),
-      over_sets a.buffer.now 5 (0x83 ∷ 0x81 ∷ a.n ∷ []) (omega arith) ∙
-          ap (buffer_with_bytes_at a.buffer.now 5) (sym e),
-    )) in record { next = r.0; kept = r.1 }
+returns c = let a = c.args in
+    let e = head_long a.n c.if-n-lt128.false c.requires.0 in record { next = ap (λ (l : List ℕ). 5 + length l) (sym e); kept = over_sets a.buffer.now 5 (0x83 ∷ 0x81 ∷ a.n ∷ []) (omega arith) ∙
+          ap (buffer_with_bytes_at a.buffer.now 5) (sym e) }

@@ -14,9 +14,8 @@ pub loop-i-init : goal.loop-i-init
 loop-i-init c = (omega arith, omega arith)
 
 pub returns-then-not-is_digits : goal.returns-then-not-is_digits
-returns-then-not-is_digits c = let r = (let lp = c.loop-i in
-    let d = c.is_digits in
-    (sym (lp.invariant.1 ∙ stop_here _ lp.i (omega arith) (sym d.ensures ∙ c.if-not-is_digits.true)), omega arith)) in record { value = r.0; upper_bound = r.1 }
+returns-then-not-is_digits c = let lp = c.loop-i in
+    let d = c.is_digits in record { value = sym (lp.invariant.1 ∙ stop_here _ lp.i (omega arith) (sym d.ensures ∙ c.if-not-is_digits.true)); upper_bound = omega arith }
 
 pub loop-i-preserved : goal.loop-i-preserved
 loop-i-preserved c =
@@ -26,5 +25,4 @@ loop-i-preserved c =
 
 
 pub returns : goal.returns
-returns c = let r = (let lp = c.loop-i in
-    (sym (lp.invariant.1 ∙ all_passed _ lp.i (omega arith)), omega arith)) in record { value = r.0; upper_bound = r.1 }
+returns c = let lp = c.loop-i in record { value = sym (lp.invariant.1 ∙ all_passed _ lp.i (omega arith)); upper_bound = omega arith }

@@ -9,5 +9,4 @@ use Rattle.dictionary.proofs.lookup_row.Goals as goal
 
 pub returns : goal.returns
 unfolding dictionary_rows
-returns c = let r = (let s = c.search_tags.ensures in
-    (s.1.0 dictionary_rows refl (proper_rising dictionary_rows rows_proper), (s.0, (s.1.1.0, rows_proper)))) in record { found = r.0; halving = r.1.0; few = r.1.1.0; table = r.1.1.1 }
+returns c = let s = c.search_tags.ensures in record { found = s.1.0 dictionary_rows refl (proper_rising dictionary_rows rows_proper); halving = s.0; few = s.1.1.0; table = rows_proper }

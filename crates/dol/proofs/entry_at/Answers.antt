@@ -11,13 +11,13 @@ returns-in_default c = sym (entry_untagged _ _ c.tag_at-front.ensures c.in_defau
 
 pub returns-then-size-list : goal.returns-then-size-list
 returns-then-size-list c =
-    let g = c.front-1.given in
-    sym (entry_asked _ _ c.tag_at-front.ensures g.0.0 g.1
+    
+    sym (entry_asked _ _ c.tag_at-front.ensures c.in-Tagged.t c.in-Tagged.is
     c.if-size-list.true)
 
 
 pub returns : goal.returns
 returns c =
-    let g = c.front-1.given in
-    sym (entry_short _ _ c.tag_at-front.ensures g.0.0 g.1 c.if-size-list.false)
+    
+    sym (entry_short _ _ c.tag_at-front.ensures c.in-Tagged.t c.in-Tagged.is c.if-size-list.false)
 

@@ -28,16 +28,16 @@ returns-in_default c =
 
 
 pub write_entry-requires : goal.write_entry-requires
-write_entry-requires c = let r = (let fits : let lp = c.loop-rest in let g = c.front-1.given.0 in (2 ≤ g.1.0) × (g.1.0 ≤ length lp.rest.now) × (lp.to + g.0.asked ≤ length lp.buffer) =
+write_entry-requires c = let fits : let lp = c.loop-rest in (2 ≤ c.in-Asked.size) × (c.in-Asked.size ≤ length lp.rest.now) × (lp.to + c.in-Asked.entry.asked ≤ length lp.buffer) =
       let lp = c.loop-rest in
     let e = sym c.entry_at-front.ensures ∙ c.in-Asked.is in
     let i = entry_inside _ _ _ e in
     (i.0, i.1, (entry_room _ _ _ lp.to (length lp.buffer) e lp.invariant.2).0) in
-    let f = fits in (omega arith, c.requires.1)) in record { asked_in_bounds = r.0; are_dictionary_tables = r.1 }
+    let f = fits in record { asked_in_bounds = omega arith; are_dictionary_tables = c.requires.1 }
 
 pub overflow_add-to : goal.overflow_add-to
 overflow_add-to c =
-    let fits : let lp = c.loop-rest in let g = c.front-1.given.0 in (2 ≤ g.1.0) × (g.1.0 ≤ length lp.rest.now) × (lp.to + g.0.asked ≤ length lp.buffer) =
+    let fits : let lp = c.loop-rest in (2 ≤ c.in-Asked.size) × (c.in-Asked.size ≤ length lp.rest.now) × (lp.to + c.in-Asked.entry.asked ≤ length lp.buffer) =
       let lp = c.loop-rest in
     let e = sym c.entry_at-front.ensures ∙ c.in-Asked.is in
     let i = entry_inside _ _ _ e in
@@ -46,7 +46,7 @@ overflow_add-to c =
 
 pub slice_bounds-rest-count : goal.slice_bounds-rest-count
 slice_bounds-rest-count c =
-    let fits : let lp = c.loop-rest in let g = c.front-1.given.0 in (2 ≤ g.1.0) × (g.1.0 ≤ length lp.rest.now) × (lp.to + g.0.asked ≤ length lp.buffer) =
+    let fits : let lp = c.loop-rest in (2 ≤ c.in-Asked.size) × (c.in-Asked.size ≤ length lp.rest.now) × (lp.to + c.in-Asked.entry.asked ≤ length lp.buffer) =
       let lp = c.loop-rest in
     let e = sym c.entry_at-front.ensures ∙ c.in-Asked.is in
     let i = entry_inside _ _ _ e in
@@ -55,7 +55,7 @@ slice_bounds-rest-count c =
 
 pub slice_bounds-rest-start : goal.slice_bounds-rest-start
 slice_bounds-rest-start c =
-    let fits : let lp = c.loop-rest in let g = c.front-1.given.0 in (2 ≤ g.1.0) × (g.1.0 ≤ length lp.rest.now) × (lp.to + g.0.asked ≤ length lp.buffer) =
+    let fits : let lp = c.loop-rest in (2 ≤ c.in-Asked.size) × (c.in-Asked.size ≤ length lp.rest.now) × (lp.to + c.in-Asked.entry.asked ≤ length lp.buffer) =
       let lp = c.loop-rest in
     let e = sym c.entry_at-front.ensures ∙ c.in-Asked.is in
     let i = entry_inside _ _ _ e in
@@ -64,7 +64,7 @@ slice_bounds-rest-start c =
 
 pub slice_bounds-rest-end : goal.slice_bounds-rest-end
 slice_bounds-rest-end c =
-    let fits : let lp = c.loop-rest in let g = c.front-1.given.0 in (2 ≤ g.1.0) × (g.1.0 ≤ length lp.rest.now) × (lp.to + g.0.asked ≤ length lp.buffer) =
+    let fits : let lp = c.loop-rest in (2 ≤ c.in-Asked.size) × (c.in-Asked.size ≤ length lp.rest.now) × (lp.to + c.in-Asked.entry.asked ≤ length lp.buffer) =
       let lp = c.loop-rest in
     let e = sym c.entry_at-front.ensures ∙ c.in-Asked.is in
     let i = entry_inside _ _ _ e in
@@ -73,7 +73,7 @@ slice_bounds-rest-end c =
 
 pub loop-rest-smaller : goal.loop-rest-smaller
 loop-rest-smaller c =
-    let fits : let lp = c.loop-rest in let g = c.front-1.given.0 in (2 ≤ g.1.0) × (g.1.0 ≤ length lp.rest.now) × (lp.to + g.0.asked ≤ length lp.buffer) =
+    let fits : let lp = c.loop-rest in (2 ≤ c.in-Asked.size) × (c.in-Asked.size ≤ length lp.rest.now) × (lp.to + c.in-Asked.entry.asked ≤ length lp.buffer) =
       let lp = c.loop-rest in
     let e = sym c.entry_at-front.ensures ∙ c.in-Asked.is in
     let i = entry_inside _ _ _ e in
@@ -86,9 +86,9 @@ loop-rest-preserved c =
     let a =
     c.args in
     let lp = c.loop-rest in
-    let g = c.front-1.given in
-    let s = fill_step dictionary_rows a.store.now _ lp.buffer _ lp.rest.now lp.to _ g.0.0 _
-    (sym c.entry_at-front.ensures ∙ g.1)
+    
+    let s = fill_step dictionary_rows a.store.now _ lp.buffer _ lp.rest.now lp.to _ c.in-Asked.entry _
+    (sym c.entry_at-front.ensures ∙ c.in-Asked.is)
     lp.invariant.0 lp.invariant.2 c.write_entry.ensures c.widen-to.ensures.0
     in
     (s.0, s.1 ∙ lp.invariant.1, s.2)

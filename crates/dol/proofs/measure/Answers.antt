@@ -27,10 +27,10 @@ pub returns-then-total-gt255 : goal.returns-then-total-gt255
 returns-then-total-gt255 c =
     let on : let lp = c.loop-rest in dol_total_if_at_most255 (dol_entries c.args.list.now) ≡ measured_from (lp.total + c.widen-total.result) (dol_entries (drop c.in-Asked.size lp.rest.now)) =
       let lp = c.loop-rest in
-    let g = c.front-1.given in
+    
     lp.invariant.0 ∙ measured_more lp.total lp.rest.now _ _
-    (sym c.entry_at-front.ensures ∙ g.1)
-    ∙ ap (λ (n : ℕ). measured_from (lp.total + n) (dol_entries (drop g.0.1.0 lp.rest.now)))
+    (sym c.entry_at-front.ensures ∙ c.in-Asked.is)
+    ∙ ap (λ (n : ℕ). measured_from (lp.total + n) (dol_entries (drop c.in-Asked.size lp.rest.now)))
     (sym c.widen-total.ensures.0) in
     sym (on ∙ measured_long _ _ c.if-total-gt255.true)
 
@@ -62,10 +62,10 @@ pub loop-rest-preserved : goal.loop-rest-preserved
 loop-rest-preserved c =
     let on : let lp = c.loop-rest in dol_total_if_at_most255 (dol_entries c.args.list.now) ≡ measured_from (lp.total + c.widen-total.result) (dol_entries (drop c.in-Asked.size lp.rest.now)) =
       let lp = c.loop-rest in
-    let g = c.front-1.given in
+    
     lp.invariant.0 ∙ measured_more lp.total lp.rest.now _ _
-    (sym c.entry_at-front.ensures ∙ g.1)
-    ∙ ap (λ (n : ℕ). measured_from (lp.total + n) (dol_entries (drop g.0.1.0 lp.rest.now)))
+    (sym c.entry_at-front.ensures ∙ c.in-Asked.is)
+    ∙ ap (λ (n : ℕ). measured_from (lp.total + n) (dol_entries (drop c.in-Asked.size lp.rest.now)))
     (sym c.widen-total.ensures.0) in
     let lp = c.loop-rest in
     let n = lp.total + c.widen-total.result in (

@@ -30,8 +30,8 @@ returns-in-3 c = sym (ap cvm_of_number c.in-3.is)
 pub returns-in_default : goal.returns-in_default
 unfolding element_with_number
 returns-in_default c =
-    let r = c.in_default.rest in
+    
     sym
-    (if_no _ _ (ne_eqb _ _ r.0.0.0.1) ∙
-    (if_no _ _ (ne_eqb _ _ r.0.0.1) ∙ (if_no _ _ (ne_eqb _ _ r.0.1) ∙ if_no _ _ (ne_eqb _ _ r.1))))
+    (if_no _ _ (ne_eqb _ _ c.in_default.rest.0.0.0.1) ∙
+    (if_no _ _ (ne_eqb _ _ c.in_default.rest.0.0.1) ∙ (if_no _ _ (ne_eqb _ _ c.in_default.rest.0.1) ∙ if_no _ _ (ne_eqb _ _ c.in_default.rest.1))))
 

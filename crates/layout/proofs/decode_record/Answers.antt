@@ -27,13 +27,10 @@ slice_bounds-copy-end c =
 
 
 pub returns : goal.returns
-returns c = let r = (let l = c.args.bytes.now in
+returns c = let l = c.args.bytes.now in
     let k = held_some l _ (sym c.decode_record_head-held.ensures ∙ c.in-Record.is) in
-    let s = take_store l c.args.store.now c.copy.new.dst k.0 c.requires c.copy.ensures.1 in (
-      record {
+    let s = take_store l c.args.store.now c.copy.new.dst k.0 c.requires c.copy.ensures.1 in record { read = record {
         held = c.decode_record_head-held.ensures;
         store =
             s ∙ sym (ap (λ (x : Option Session). decoded_store_or_unchanged x c.args.store.now) k.1);
-      },
-      ap length s ∙ simp (length-take, length-drop) (omega (arith, k.0)),
-    )) in record { read = r.0; sized = r.1 }
+      }; sized = ap length s ∙ simp (length-take, length-drop) (omega (arith, k.0)) }

@@ -18,7 +18,7 @@ returns-then-bytes-lt-RECORD_SIZE c = let a = c.args in sym (headed_no a.bytes.n
 pub shape_of-bytes : goal.shape_of-bytes
 shape_of-bytes c =
     let a = c.args in
-    ap length (written c) ∙ headed_length a.bytes.now a.phase a.count
+    ap length (returns c) ∙ headed_length a.bytes.now a.phase a.count
 
 
 -- the whole head, and what lies after it

@@ -11,18 +11,11 @@ write_digits-requires c = sym c.can_take_digits.ensures ∙ c.if-can_take_digits
 
 
 pub returns-then-can_take_digits : goal.returns-then-can_take_digits
-returns-then-can_take_digits c = let r = (let a = c.args in
+returns-then-can_take_digits c = let a = c.args in
     let s = sym c.can_take_digits.ensures ∙
     c.if-can_take_digits.true in
-    let e = c.write_digits.ensures in (
-      filled_sound _ _ _ _ s e,
-      (
-        kept_sound a.track.now _ _ _ s c.write_digits.auto.0 e,
-        twice_sound a.track.now _ _ _ s e,
-      ),
-    )) in record { digits = r.0; kept = r.1.0; twice = r.1.1 }
+    let e = c.write_digits.ensures in record { digits = filled_sound _ _ _ _ s e; kept = kept_sound a.track.now _ _ _ s c.write_digits.auto.0 e; twice = twice_sound a.track.now _ _ _ s e }
 
 pub returns-else-can_take_digits : goal.returns-else-can_take_digits
-returns-else-can_take_digits c = let r = (let a = c.args in
-    let s = sym c.can_take_digits.ensures ∙ c.if-can_take_digits.false in
-    (filled_unsound _ _ _ s, (kept_unsound _ _, λ h. sym (filled_unsound a.track.now _ _ s)))) in record { digits = r.0; kept = r.1.0; twice = r.1.1 }
+returns-else-can_take_digits c = let a = c.args in
+    let s = sym c.can_take_digits.ensures ∙ c.if-can_take_digits.false in record { digits = filled_unsound _ _ _ s; kept = kept_unsound _ _; twice = λ h. sym (filled_unsound a.track.now _ _ s) }

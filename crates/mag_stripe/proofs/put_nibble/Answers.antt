@@ -23,11 +23,11 @@ bounds-track-at-then-i-eq0 c = omega (arith, length_nibbles c.args.track.now)
 
 
 pub overflow_mul-track-else-i-eq0 : goal.overflow_mul-track-else-i-eq0
-overflow_mul-track-else-i-eq0 c = omega (arith, c.slice_known-1.given (c.args.i / 2))
+overflow_mul-track-else-i-eq0 c = omega (arith, c.type_inv.track (c.args.i / 2))
 
 
 pub overflow_add-track-else-i-eq0 : goal.overflow_add-track-else-i-eq0
-overflow_add-track-else-i-eq0 c = omega (arith, c.slice_known-1.given (c.args.i / 2))
+overflow_add-track-else-i-eq0 c = omega (arith, c.type_inv.track (c.args.i / 2))
 
 
 pub bounds-track-at-else-i-eq0 : goal.bounds-track-at-else-i-eq0

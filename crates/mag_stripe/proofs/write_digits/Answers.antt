@@ -50,35 +50,23 @@ overflow_sub-n c = omega (arith, (is-sound c).counter, c.bit_count.ensures, c.wi
 
 
 pub copy-requires : goal.copy-requires
-copy-requires c = let r = (let r = has_room c.before.before in (
-      omega (arith, c.bit_count-bits.ensures),
-      ((r.inside, r.code), (omega arith, omega arith)),
-    )) in record { count_bound = r.0; end_in_bounds = r.1.0; le_base = r.1.1 }
+copy-requires c = let r = has_room c.before.before in record { count_bound = omega (arith, c.bit_count-bits.ensures); end_in_bounds = (r.inside, r.code); le_base = (omega arith, omega arith) }
 
 pub copy-rest-requires : goal.copy-rest-requires
-copy-rest-requires c = let r = (let r = has_room c in (
-      omega (arith, c.bit_count.ensures, c.widen-counted.ensures),
-      ((longer _ _ _ c.copy.auto.0 r.inside, r.number), (omega arith, omega arith)),
-    )) in record { count_bound = r.0; end_in_bounds = r.1.0; le_base = r.1.1 }
+copy-rest-requires c = let r = has_room c in record { count_bound = omega (arith, c.bit_count.ensures, c.widen-counted.ensures); end_in_bounds = (longer _ _ _ c.copy.auto.0 r.inside, r.number); le_base = (omega arith, omega arith) }
 
 pub copy-requires-2 : goal.copy-requires-2
-copy-requires-2 c = let r = (let r = has_room c in
+copy-requires-2 c = let r = has_room c in
     let n = c.bit_count.result - c.widen-counted.result in
     let ps = bitmap_places_from_one (at-start c).args.bitmaps.punatc in
-    let rest = c.copy-rest.ensures.result_value in (
-      omega (
+    let rest = c.copy-rest.ensures.result_value in record { count_bound = omega (
         arith,
         ap length rest ∙ length-drop n ps,
         c.bit_count.ensures,
         c.widen-counted.ensures,
         (is-sound
             c).counter,
-      ),
-      (
-        (longer _ _ _ (c.copy-rest.auto.0 ∙ c.copy.auto.0) r.inside, rw rest (up_to_drop _ n ps r.number)),
-        (omega arith, omega arith),
-      ),
-    )) in record { count_bound = r.0; end_in_bounds = r.1.0; le_base = r.1.1 }
+      ); end_in_bounds = (longer _ _ _ (c.copy-rest.auto.0 ∙ c.copy.auto.0) r.inside, rw rest (up_to_drop _ n ps r.number)); le_base = (omega arith, omega arith) }
 
 pub overflow_sub-end : goal.overflow_sub-end
 overflow_sub-end c = (has_room (counted c)).some

@@ -12,15 +12,9 @@ pub word-requires : goal.word-requires
 word-requires c = c.personalise-answer.ensures.small
 
 pub returns : goal.returns
-returns c = let r = (let a = c.args in
+returns c = let a = c.args in
     let q = c.personalise-answer.ensures in
     let w = sym (ap is_personalise_word_of_written c.word.ensures ∙ says_written c.personalise-answer.result
-    q.1.1.1.0) in (
-      c.word.ensures ∙ ap personalise_word q.0,
-      (
-        q.1.0 ∙ ap
+    q.1.1.1.0) in record { said = c.word.ensures ∙ ap personalise_word q.0; wrote = q.1.0 ∙ ap
             (λ (b : Bool). records_buffer_after b (card_plan a.objects.now a.entries.now a.placements.now)
-            a.records.now) w,
-        q.1.1.0 ∙ ap (λ (b : Bool). afl_buffer_after b a.entries.now a.afl.now) w,
-      ),
-    )) in record { said = r.0; wrote = r.1.0; located = r.1.1 }
+            a.records.now) w; located = q.1.1.0 ∙ ap (λ (b : Bool). afl_buffer_after b a.entries.now a.afl.now) w }

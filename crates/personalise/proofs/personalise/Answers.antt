@@ -34,7 +34,7 @@ promise p r l b a x y e f g =
 pub returns-then-records-lt-RECORDS_ROOM : goal.returns-then-records-lt-RECORDS_ROOM
 returns-then-records-lt-RECORDS_ROOM c = let r = (let a = c.args in
     promise (card_plan a.objects.now a.entries.now a.placements.now) a.records.now a.afl.now
-    (λ i. omega (arith, c.shared_slice_known-3-1.given i)) ShortRecords _ _
+    (λ i. omega (arith, c.type_inv.placements i)) ShortRecords _ _
     (sym (short_records (card_plan a.objects.now a.entries.now a.placements.now) a.records.now
     a.afl.now c.if-records-lt-RECORDS_ROOM.true))
     (records_stay (card_plan a.objects.now a.entries.now a.placements.now) a.records.now)
@@ -43,7 +43,7 @@ returns-then-records-lt-RECORDS_ROOM c = let r = (let a = c.args in
 pub returns-then-afl-lt-AFL_ROOM : goal.returns-then-afl-lt-AFL_ROOM
 returns-then-afl-lt-AFL_ROOM c = let r = (let a = c.args in
     promise (card_plan a.objects.now a.entries.now a.placements.now) a.records.now a.afl.now
-    (λ i. omega (arith, c.shared_slice_known-3-1.given i)) ShortAfl _ _
+    (λ i. omega (arith, c.type_inv.placements i)) ShortAfl _ _
     (sym (short_afl (card_plan a.objects.now a.entries.now a.placements.now) a.records.now a.afl.now
     c.if-records-lt-RECORDS_ROOM.false c.if-afl-lt-AFL_ROOM.true))
     (records_stay (card_plan a.objects.now a.entries.now a.placements.now) a.records.now)
@@ -52,24 +52,21 @@ returns-then-afl-lt-AFL_ROOM c = let r = (let a = c.args in
 pub returns-then-not-keeps : goal.returns-then-not-keeps
 returns-then-not-keeps c = let r = (let a = c.args in
     promise (card_plan a.objects.now a.entries.now a.placements.now) a.records.now a.afl.now
-    (λ i. omega (arith, c.shared_slice_known-3-1.given i)) BadList _ _
+    (λ i. omega (arith, c.type_inv.placements i)) BadList _ _
     (sym (bad_list (card_plan a.objects.now a.entries.now a.placements.now) a.records.now a.afl.now
     c.if-records-lt-RECORDS_ROOM.false c.if-afl-lt-AFL_ROOM.false (sym c.keeps.ensures ∙ c.if-not-keeps.true)))
     (records_stay (card_plan a.objects.now a.entries.now a.placements.now) a.records.now)
     (afl_stays a.entries.now a.afl.now)) in record { said = r.0; wrote = r.1.0; located = r.1.1.0; small = r.1.1.1.0; reads = r.1.1.1.1 }
 
 pub with_list-requires : goal.with_list-requires
-with_list-requires c = let r = (let a = c.args in (
-      usable a.objects.now (placements_in a.placements.now)
-          (sym c.keeps.ensures ∙ c.if-not-keeps.false),
-      (c.if-records-lt-RECORDS_ROOM.false, c.if-afl-lt-AFL_ROOM.false),
-    )) in record { are_objects_allowed_in_record = r.0; records_and_afl_buffers_large_enough = r.1 }
+with_list-requires c = let a = c.args in record { are_objects_allowed_in_record = usable a.objects.now (placements_in a.placements.now)
+          (sym c.keeps.ensures ∙ c.if-not-keeps.false); records_and_afl_buffers_large_enough = (c.if-records-lt-RECORDS_ROOM.false, c.if-afl-lt-AFL_ROOM.false) }
 
 pub returns : goal.returns
 returns c = let r = (let a = c.args in
     let q = c.with_list.ensures in
     promise (card_plan a.objects.now a.entries.now a.placements.now) a.records.now a.afl.now
-    (λ i. omega (arith, c.shared_slice_known-3-1.given i)) c.with_list.result _ _
+    (λ i. omega (arith, c.type_inv.placements i)) c.with_list.result _ _
     (q.0 ∙ sym (good_list (card_plan a.objects.now a.entries.now a.placements.now) a.records.now
     a.afl.now c.if-records-lt-RECORDS_ROOM.false c.if-afl-lt-AFL_ROOM.false (sym c.keeps.ensures ∙ c.if-not-keeps.false)))
     q.1.0 q.1.1) in record { said = r.0; wrote = r.1.0; located = r.1.1.0; small = r.1.1.1.0; reads = r.1.1.1.1 }

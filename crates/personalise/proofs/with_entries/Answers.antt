@@ -19,31 +19,16 @@ pub bad_record-fault-requires : goal.bad_record-fault-requires
 bad_record-fault-requires c = c.requires.0.0
 
 pub write_all-requires : goal.write_all-requires
-write_all-requires c = let r = (let a = c.args in
+write_all-requires c = let a = c.args in
     let m = total_most a.entries.now c.requires.1.1 in
-    let e = c.count_records-count.ensures.0 in (
-      c.requires.0,
-      (
-        c.requires.1.0,
-        (
-          (e, omega (arith, m, e), omega (arith, afl_most a.entries.now c.requires.1.1)),
-          fitting_of (parsed_objects_or_empty a.objects.now) (placements_in a.placements.now)
+    let e = c.count_records-count.ensures.0 in record { are_objects_allowed_in_record = c.requires.0; records_and_afl_buffers_large_enough = c.requires.1.0; count_value = (e, omega (arith, m, e), omega (arith, afl_most a.entries.now c.requires.1.1)); record_contents_within253bytes = fitting_of (parsed_objects_or_empty a.objects.now) (placements_in a.placements.now)
               c.count_records-count.result
-              (sym c.bad_record-fault.ensures ∙ c.in-Nothing.is) (omega (arith, m, e)),
-        ),
-      ),
-    )) in record { are_objects_allowed_in_record = r.0; records_and_afl_buffers_large_enough = r.1.0; count_value = r.1.1.0; record_contents_within253bytes = r.1.1.1 }
+              (sym c.bad_record-fault.ensures ∙ c.in-Nothing.is) (omega (arith, m, e)) }
 
 pub returns-in-At : goal.returns-in-At
-returns-in-At c = let r = (let a = c.args in (
-      sym (record_stage (card_plan a.objects.now a.entries.now a.placements.now) c.count_records-count.result
-          c.count_records-count.ensures.0 c.bad_record-fault.ensures c.in-At.is),
-      (
-        records_stay (card_plan a.objects.now a.entries.now a.placements.now) a.records.now,
-        afl_stays
-            a.entries.now a.afl.now,
-      ),
-    )) in record { said = r.0; wrote = r.1.0; located = r.1.1 }
+returns-in-At c = let a = c.args in record { said = sym (record_stage (card_plan a.objects.now a.entries.now a.placements.now) c.count_records-count.result
+          c.count_records-count.ensures.0 c.bad_record-fault.ensures c.in-At.is); wrote = records_stay (card_plan a.objects.now a.entries.now a.placements.now) a.records.now; located = afl_stays
+            a.entries.now a.afl.now }
 
 pub returns-in-Nothing : goal.returns-in-Nothing
 returns-in-Nothing c = let r = (let a = c.args in

@@ -23,17 +23,11 @@ pub overflow_add-i : goal.overflow_add-i
 overflow_add-i c = omega ( arith, c.loop-i-test.true, c.requires.0.1.few, )
 
 pub judge_item-verdict-requires : goal.judge_item-verdict-requires
-judge_item-verdict-requires c = let r = (let p = c.requires in (
-      next_inside p.0.1 c.loop-i.invariant
-          c.loop-i-test.true,
-      (
-        p.1,
-        record {
+judge_item-verdict-requires c = let p = c.requires in record { item_value_inside = next_inside p.0.1 c.loop-i.invariant
+          c.loop-i-test.true; answer_nonzero = p.1; are_dictionary_tables = record {
           tags = c.dictionary_tags-tags.ensures;
           codes = c.packed_row_attributes-codes.ensures;
-        },
-      ),
-    )) in record { item_value_inside = r.0; answer_nonzero = r.1.0; are_dictionary_tables = r.1.1 }
+        } }
 
 pub loop-i-smaller-in-Skipped : goal.loop-i-smaller-in-Skipped
 loop-i-smaller-in-Skipped c =
@@ -56,13 +50,13 @@ loop-i-preserved-in-Skipped c =
     judged_skipped (item-at) c.in-Skipped.is
 
 pub returns-in-NotAllowed : goal.returns-in-NotAllowed
-returns-in-NotAllowed c = let r = (let item-at : NextItem _ _ _ _ _ _ _ _ _ c.loop-i.invariant c.judge_item-verdict.result =
+returns-in-NotAllowed c = let item-at : NextItem _ _ _ _ _ _ _ _ _ c.loop-i.invariant c.judge_item-verdict.result =
       record {
   list = c.requires.0.1;
   more = c.loop-i-test.true;
   says = c.judge_item-verdict.ensures;
 } in
-    let x = item-at in (judged_barred x c.in-NotAllowed.is, list_length x)) in record { judges = r.0; room = r.1 }
+    let x = item-at in record { judges = judged_barred x c.in-NotAllowed.is; room = list_length x }
 
 pub is_free-requires : goal.is_free-requires
 is_free-requires c =
@@ -79,29 +73,23 @@ is_free-requires c =
 )
 
 pub returns-then-not-is_free : goal.returns-then-not-is_free
-returns-then-not-is_free c = let r = (let item-at : NextItem _ _ _ _ _ _ _ _ _ c.loop-i.invariant c.judge_item-verdict.result =
+returns-then-not-is_free c = let item-at : NextItem _ _ _ _ _ _ _ _ _ c.loop-i.invariant c.judge_item-verdict.result =
       record {
   list = c.requires.0.1;
   more = c.loop-i-test.true;
   says = c.judge_item-verdict.ensures;
 } in
-    let x = item-at in (
-      judged_again x c.in-ForRow.is c.is_free.ensures
-          c.if-not-is_free.true,
-      list_length x,
-    )) in record { judges = r.0; room = r.1 }
+    let x = item-at in record { judges = judged_again x c.in-ForRow.is c.is_free.ensures
+          c.if-not-is_free.true; room = list_length x }
 
 pub add_pending-requires : goal.add_pending-requires
-add_pending-requires c = let r = (let item-at : NextItem _ _ _ _ _ _ _ _ _ c.loop-i.invariant c.judge_item-verdict.result =
+add_pending-requires c = let item-at : NextItem _ _ _ _ _ _ _ _ _ c.loop-i.invariant c.judge_item-verdict.result =
       record {
   list = c.requires.0.1;
   more = c.loop-i-test.true;
   says = c.judge_item-verdict.ensures;
 } in
-    let x = item-at in (
-      ((row_is x c.in-ForRow.is).0, pending_room x),
-      (list_length x, c.loop-i.invariant.values.marks),
-    )) in record { row_lt_row_count = r.0; len = r.1 }
+    let x = item-at in record { row_lt_row_count = ((row_is x c.in-ForRow.is).0, pending_room x); len = (list_length x, c.loop-i.invariant.values.marks) }
 
 pub overflow_add-pending : goal.overflow_add-pending
 overflow_add-pending c =
@@ -131,10 +119,9 @@ loop-i-preserved c =
   more = c.loop-i-test.true;
   says = c.judge_item-verdict.ensures;
 } in
-    let a = c.add_pending.ensures in
-    rw (a.0, a.1) (judged_put (item-at)
+    rw (c.add_pending.ensures.put, c.add_pending.ensures.marked) (judged_put (item-at)
     c.in-ForRow.is
     c.is_free.ensures c.if-not-is_free.false)
 
 pub returns : goal.returns
-returns c = let r = (let w = c.loop-i.invariant in ( judged_all c.requires.0.1 w c.loop-i-test.false, w.room, )) in record { judges = r.0; room = r.1 }
+returns c = let w = c.loop-i.invariant in record { judges = judged_all c.requires.0.1 w c.loop-i-test.false; room = w.room }

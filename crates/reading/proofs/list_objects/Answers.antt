@@ -11,9 +11,8 @@ pub overflow_add-end : goal.overflow_add-end
 overflow_add-end c = let i = rw c.in-Template.is at c.open-opened.ensures.opens in omega (arith, i.short)
 
 pub walk-walked-requires : goal.walk-walked-requires
-walk-walked-requires c = let r = (let o = c.open-opened.ensures in
-    let i = rw c.in-Template.is at o.0 in (
-      record {
+walk-walked-requires c = let o = c.open-opened.ensures in
+    let i = rw c.in-Template.is at o.0 in record { template_walk_has_room = record {
         begins = omega arith;
         ends = i.ends;
         short = i.short;
@@ -21,16 +20,13 @@ walk-walked-requires c = let r = (let o = c.open-opened.ensures in
         half = omega (arith, i.two, i.short);
         room = o.1;
         inside = tt;
-      },
-      i.tag,
-    )) in record { template_walk_has_room = r.0; around_bound = r.1 }
+      }; around_bound = i.tag }
 
 pub returns-in-Listed : goal.returns-in-Listed
-returns-in-Listed c = let r = (let o = c.open-opened.ensures in (rw c.in-Listed.is at o.0, o.1)) in record { lists = r.0; room = r.1 }
+returns-in-Listed c = let o = c.open-opened.ensures in record { lists = rw c.in-Listed.is at o.0; room = o.1 }
 
 pub returns-in-Template : goal.returns-in-Template
 unfolding unpacked_items
-returns-in-Template c = let r = (let i = rw c.in-Template.is at
+returns-in-Template c = let i = rw c.in-Template.is at
     c.open-opened.ensures.opens in
-    let w = c.walk-walked.ensures in
-    (template_listed _ _ _ _ i _ w.0 c.close.ensures, w.1)) in record { lists = r.0; room = r.1 }
+    let w = c.walk-walked.ensures in record { lists = template_listed _ _ _ _ i _ w.0 c.close.ensures; room = w.1 }

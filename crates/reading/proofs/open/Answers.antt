@@ -29,29 +29,20 @@ returns-in-Decided c = record { opens = decided_opened _ _ _ (sym c.begin-beginn
       ∙ c.in-Decided.is) _ c.decided.ensures; room = c.requires }
 
 pub returns-in-Broken : goal.returns-in-Broken
-returns-in-Broken c = let r = (let q = sym c.begin-beginning.ensures
-    ∙ c.in-Body.is in (
-      broken_opened _ _ _ q c.outer_of-outer.ensures c.in-Broken.is _
-          c.decided-in-Broken.ensures,
-      c.requires,
-    )) in record { opens = r.0; room = r.1 }
+returns-in-Broken c = let q = sym c.begin-beginning.ensures
+    ∙ c.in-Body.is in record { opens = broken_opened _ _ _ q c.outer_of-outer.ensures c.in-Broken.is _
+          c.decided-in-Broken.ensures; room = c.requires }
 
 pub returns-in-Template : goal.returns-in-Template
-returns-in-Template c = let r = (let q = sym c.begin-beginning.ensures
-    ∙ c.in-Body.is in (
-      template_opened _ _ _ q c.outer_of-outer.ensures _ c.in-Template.is
+returns-in-Template c = let q = sym c.begin-beginning.ensures
+    ∙ c.in-Body.is in record { opens = template_opened _ _ _ q c.outer_of-outer.ensures _ c.in-Template.is
           (λ i. omega (
             arith,
-            c.shared_slice_known-1.given i,
-          )),
-      c.requires,
-    )) in record { opens = r.0; room = r.1 }
+            c.type_inv.answer i,
+          )); room = c.requires }
 
 pub returns-in-Primitive : goal.returns-in-Primitive
-returns-in-Primitive c = let r = (let q = sym c.begin-beginning.ensures
+returns-in-Primitive c = let q = sym c.begin-beginning.ensures
     ∙ c.in-Body.is in
-    let g = c.list_parts.ensures in (
-      primitive_opened _ _ _ q c.outer_of-outer.ensures _
-          c.in-Primitive.is _ g.0,
-      g.1,
-    )) in record { opens = r.0; room = r.1 }
+    let g = c.list_parts.ensures in record { opens = primitive_opened _ _ _ q c.outer_of-outer.ensures _
+          c.in-Primitive.is _ g.0; room = g.1 }

@@ -6,6 +6,5 @@ use Rattle.reading.proofs.Both.{answered, agree}
 use Rattle.reading.proofs.read_both.Goals as goal
 
 pub returns : goal.returns
-returns c = let r = (let r = c.read_answer-first.ensures in
-    let f = c.read_answer-second.ensures in
-    (answered _ _ _ _ _ r, (answered _ _ _ _ _ f, agree _ _ _ _ _ r _ _ _ f))) in record { recursive = r.0; flat = r.1.0; same = r.1.1 }
+returns c = let r = c.read_answer-first.ensures in
+    let f = c.read_answer-second.ensures in record { recursive = answered _ _ _ _ _ r; flat = answered _ _ _ _ _ f; same = agree _ _ _ _ _ r _ _ _ f }

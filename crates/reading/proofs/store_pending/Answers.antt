@@ -46,17 +46,14 @@ slice_bounds-put-end c =
     omega (arith, ends_at)
 
 pub put-requires : goal.put-requires
-put-requires c = let r = (let value_at : let a = c.start_in-start.result in take (a + c.len_in.result - a) (drop a c.args.bytes.now) ≡ packed_item_value_in c.args.bytes.now (get_or c.args.pending.now c.loop-i.i 0) =
+put-requires c = let value_at : let a = c.start_in-start.result in take (a + c.len_in.result - a) (drop a c.args.bytes.now) ≡ packed_item_value_in c.args.bytes.now (get_or c.args.pending.now c.loop-i.i 0) =
       code_value _ _ _ _ c.start_in-start.ensures.0
     c.len_in.ensures.0 in
     let fits-at : PendingEntryFitsRowAndBytes c.args.bytes.now (get_or c.args.pending.now c.loop-i.i 0) =
       value_fits _ _ _ c.requires.1
     c.loop-i.i
     c.loop-i-test.true in
-    let f = fits-at in (
-      c.loop-i.invariant.1.0,
-      (rw c.row_in.ensures f.row, rw (c.row_in.ensures, value_at) (value_most _ _ f)),
-    )) in record { bytes_len = r.0; row_lt_row_count = r.1 }
+    let f = fits-at in record { bytes_len = c.loop-i.invariant.1.0; row_lt_row_count = (rw c.row_in.ensures f.row, rw (c.row_in.ensures, value_at) (value_most _ _ f)) }
 
 pub overflow_add-i : goal.overflow_add-i
 overflow_add-i c = omega ( arith, c.loop-i-test.true, c.requires.1.few, )
@@ -89,9 +86,6 @@ pub shape_of-store : goal.shape_of-store
 shape_of-store c = c.loop-i.invariant.1.0 ∙ sym c.requires.0
 
 pub returns : goal.returns
-returns c = let r = (let a = c.args in
+returns c = let a = c.args in
     let lp = c.loop-i in
-    let e : lp.i ≡ a.n = omega (arith, c.loop-i-test.false) in (
-      lp.invariant.1.1 ∙ ap (λ (i : ℕ). store_with_pending a.bytes.now a.store.now (take i a.pending.now)) e,
-      lp.invariant.1.0,
-    )) in record { put = r.0; sized = r.1 }
+    let e : lp.i ≡ a.n = omega (arith, c.loop-i-test.false) in record { put = lp.invariant.1.1 ∙ ap (λ (i : ℕ). store_with_pending a.bytes.now a.store.now (take i a.pending.now)) e; sized = lp.invariant.1.0 }

@@ -74,14 +74,13 @@ returns c =
     (located_yes _ c.value-entries.ensures (sym c.check_afl.ensures.said ∙
     c.in-Accepted.is)).0
     (found_as c.kth_record_of_accepted_afl.ensures e _ 1 c.value-entries.ensures refl) in
-    let r = c.in-At.wanted in
     let a =
     c.args in
-    did_next _ _ (asked (RecordFound.At r) c.in-At.is)
+    did_next _ _ (asked (RecordFound.At c.in-At.wanted) c.in-At.is)
     (record {
       reply =
           reply_as _
           (c.ask_record.ensures.transition ∙ ap (λ (l : ℕ). command_transition (awaited_record_with_limit l 1) (a.count + 1)
-          (length (read_record_command r))) c.transaction_limit-limit.ensures);
+          (length (read_record_command c.in-At.wanted))) c.transaction_limit-limit.ensures);
       buffer = c.ask_record.ensures.buffer;
     })

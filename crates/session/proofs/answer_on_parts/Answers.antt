@@ -29,13 +29,9 @@ returns-then-not-session_parts_in_ranges c =
 
 
 pub take_response-requires : goal.take_response-requires
-take_response-requires c = let r = (let ranged : let a = c.args in session_record_in_ranges (session_of a.phase a.count a.store.now) ≡ true =
-      sym c.session_parts_in_ranges.ensures ∙ c.if-not-session_parts_in_ranges.false in
-    (
-  (search rules, omega (arith, count_most _ (ranged))),
-  store_size_lem _
-      (ranged),
-)) in record { least_buffer_in_bounds = r.0; store_len = r.1 }
+take_response-requires c = let ranged : let a = c.args in session_record_in_ranges (session_of a.phase a.count a.store.now) ≡ true =
+      sym c.session_parts_in_ranges.ensures ∙ c.if-not-session_parts_in_ranges.false in record { least_buffer_in_bounds = (search rules, omega (arith, count_most _ (ranged))); store_len = store_size_lem _
+      (ranged) }
 
 pub returns-in-Fresh : goal.returns-in-Fresh
 returns-in-Fresh c =
@@ -46,12 +42,11 @@ returns-in-Fresh c =
     admitted_in _ _ _ c.if-command-lt-LEAST_BUFFER.false (ranged)
     ∙ ap (λ (q : Phase). step_of_effect (session_of q a.count a.store.now) a.command.now
     (effect_if_running q (next_on_response a.store.now a.card.now))) e in
-    let e = c.in-Fresh.is in
     did_without_command _
     (c.refuse_call-in-Fresh.ensures ∙ ap
     (λ (q : Phase). refused_transition q
     c.args.count refusal_wrong_phase)
-    e) (by_phase _ e)
+    c.in-Fresh.is) (by_phase _ c.in-Fresh.is)
 
 pub returns-in-Waiting : goal.returns-in-Waiting
 returns-in-Waiting c =
@@ -75,9 +70,8 @@ returns-in-Ended c =
     admitted_in _ _ _ c.if-command-lt-LEAST_BUFFER.false (ranged)
     ∙ ap (λ (q : Phase). step_of_effect (session_of q a.count a.store.now) a.command.now
     (effect_if_running q (next_on_response a.store.now a.card.now))) e in
-    let e = c.in-Ended.is in
     did_without_command _
     (c.refuse_call-in-Ended.ensures ∙ ap
     (λ (q : Phase). refused_transition q
     c.args.count refusal_wrong_phase)
-    e) (by_phase _ e)
+    c.in-Ended.is) (by_phase _ c.in-Ended.is)

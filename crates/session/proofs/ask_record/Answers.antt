@@ -11,7 +11,6 @@ use Rattle.session_record.specs.Session.{command_transition}
 use Rattle.session.proofs.ask_record.Goals as goal
 
 pub returns : goal.returns
-returns c = let r = (let a = c.args in
+returns c = let a = c.args in
     let w = wrote_yes _ _ a.wanted a.command.now c.read_record-size.ensures (omega arith)
-    c.requires.1 in
-    (c.issue_command.ensures ∙ ap (command_transition (AwaitedResponse.Record a.place) (a.count + 1)) w.0, w.1)) in record { transition = r.0; buffer = r.1 }
+    c.requires.1 in record { transition = c.issue_command.ensures ∙ ap (command_transition (AwaitedResponse.Record a.place) (a.count + 1)) w.0; buffer = w.1 }

@@ -43,12 +43,8 @@ returns-in_default c =
     a.command.now) (not_fresh a.phase _ _ c.in_default.keys2))
 
 pub load_objects-requires : goal.load_objects-requires
-load_objects-requires c = let r = (let ranged : let a = c.args in session_record_in_ranges (session_of a.phase a.count a.store.now) ≡ true =
-      sym c.session_parts_in_ranges.ensures ∙ c.if-not-session_parts_in_ranges.false in
-    (
-  (search rules, omega (arith, count_most _ (ranged))),
-  (on_fresh_lem _ (ranged) c.in-Fresh.is).store,
-)) in record { least_buffer_in_bounds = r.0; store_value = r.1 }
+load_objects-requires c = let ranged : let a = c.args in session_record_in_ranges (session_of a.phase a.count a.store.now) ≡ true =
+      sym c.session_parts_in_ranges.ensures ∙ c.if-not-session_parts_in_ranges.false in record { least_buffer_in_bounds = (search rules, omega (arith, count_most _ (ranged))); store_value = (on_fresh_lem _ (ranged) c.in-Fresh.is).store }
 
 pub returns : goal.returns
 returns c =

@@ -79,22 +79,18 @@ slice_bounds-put-end c =
     sym (ap length (take_at c.track_after.new.track _ _ (sized)) ∙ sized)
 
 pub put-requires : goal.put-requires
-put-requires c = let r = (let short : length c.value-n.result.now ≤ 19 =
+put-requires c = let short : length c.value-n.result.now ≤ 19 =
       omega (
   arith,
   ap length c.value-n.ensures,
   value_short c.args.store.now
       row_track2_data,
   track_fits,
-) in
-    (
-  search rules,
-  (
+) in record { bytes_len = search rules; row_lt_row_count = (
     omega arith,
     simp length-take
         (omega (arith, short, track_fits)),
-  ),
-)) in record { bytes_len = r.0; row_lt_row_count = r.1 }
+  ) }
 
 pub returns : goal.returns
 returns c =

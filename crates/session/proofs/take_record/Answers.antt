@@ -29,14 +29,13 @@ returns-in_default-verdict c =
     ap (next_on_response_for_record_found a.place a.store.now a.card.now)
     (found_as c.kth_record_of_accepted_afl-found.ensures e _ _ c.value.ensures
     c.widen-k.ensures.0) in
-    let w = c.in-At.asked in
     let a =
     c.args in
     did_end _ _ _ (c.fail_session-in_default-verdict.ensures ∙ ap (failing_transition cvm_number_not_applicable a.count)
     c.verdict_number.ensures)
-    (asked (RecordFound.At w)
+    (asked (RecordFound.At c.in-At.asked)
     c.in-At.is
-    ∙ read_ends (Awaited.Record (record { number = w.sfi })) cvm_number_not_applicable a.store.now a.card.now
+    ∙ read_ends (Awaited.Record (record { number = c.in-At.asked.sfi })) cvm_number_not_applicable a.store.now a.card.now
     (next_after_record_read a.place) c.read_answer-read.ensures.given
     c.in_default-verdict.keys2)
 

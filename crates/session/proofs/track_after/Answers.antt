@@ -21,14 +21,11 @@ copy-requires c = omega (
 
 
 pub returns : goal.returns
-returns c = let r = (let st = c.before.before.before.before.before.before.before.before.before.before.before.before.before
+returns c = let st = c.before.before.before.before.before.before.before.before.before.before.before.before.before
     in
     let v = c.value.ensures ∙
     bytes_are _ _ _ at_9f6b in
     let e = copied _ st.args.track.now _ (ap length v ∙ sym st.pre)
     c.copy.ensures.1 ∙ v in
-    let p = c.put_digits.ensures in (
-      p.0 ∙ (λ i. track_with_digits_if_possible (e i) (c.bitmaps_in-bitmaps.ensures i)
-          (c.values_in-values.ensures i)),
-      p.1.0.size ∙ ap length e ∙ sym st.pre,
-    )) in record { digits = r.0; sized = r.1 }
+    let p = c.put_digits.ensures in record { digits = p.0 ∙ (λ i. track_with_digits_if_possible (e i) (c.bitmaps_in-bitmaps.ensures i)
+          (c.values_in-values.ensures i)); sized = p.1.0.size ∙ ap length e ∙ sym st.pre }

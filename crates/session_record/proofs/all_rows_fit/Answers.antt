@@ -31,10 +31,7 @@ loop-codes-init c = (omega arith, refl, walk_start _)
 
 
 pub next_held-held-requires : goal.next_held-held-requires
-next_held-held-requires c = let r = (let lp = c.loop-codes in (
-      c.requires,
-      (c.packed_row_attributes-codes.ensures, (lp.invariant.0, lp.invariant.1)),
-    )) in record { bytes_len = r.0; codes_value = r.1.0; from_le_row_count = r.1.1 }
+next_held-held-requires c = let lp = c.loop-codes in record { bytes_len = c.requires; codes_value = c.packed_row_attributes-codes.ensures; from_le_row_count = (lp.invariant.0, lp.invariant.1) }
 
 pub is_enough-requires : goal.is_enough-requires
 is_enough-requires c = tt
@@ -92,7 +89,7 @@ slice_bounds-row_fits-end c =
     let s = stood in omega arith
 
 pub row_fits-requires : goal.row_fits-requires
-row_fits-requires c = let r = (let read : c.unpack_row_attributes-a.result ≡ attributes_of (row_at c.next_held-held.result.row) =
+row_fits-requires c = let read : c.unpack_row_attributes-a.result ≡ attributes_of (row_at c.next_held-held.result.row) =
       row_read _ c.next_held-held.result.row _ (omega arith) c.packed_row_attributes-codes.ensures
     c.unpack_row_attributes-a.ensures in
     let stood : let h = c.next_held-held.result in Stands h.row h.at c.unpack_row_attributes-a.result.greatest =
@@ -101,8 +98,7 @@ row_fits-requires c = let r = (let read : c.unpack_row_attributes-a.result ≡ a
     let s = stood in
     let t = c.next_held-held.ensures.there (omega arith) in
     let f = part_first c.args.bytes.now c.next_held-held.result.at
-    c.unpack_row_attributes-a.result.greatest in
-    (simp (length-take, length-drop) (omega arith), omega arith)) in record { place_len = r.0; nonzero = r.1 }
+    c.unpack_row_attributes-a.result.greatest in record { place_len = simp (length-take, length-drop) (omega arith); nonzero = omega arith }
 
 pub returns-then-not-row_fits : goal.returns-then-not-row_fits
 returns-then-not-row_fits c =

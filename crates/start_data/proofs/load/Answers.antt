@@ -21,19 +21,13 @@ sized : (b : List ℕ) → b ≡ replicate store_size 0 → length b ≡ store_s
 sized b e = ap length e ∙ length-replicate {A = ℕ} store_size 0
 
 pub returns-then-terminal-gt-MOST : goal.returns-then-terminal-gt-MOST
-returns-then-terminal-gt-MOST c = let r = (let a = c.args in (
-      refuses a.store.now c.refused.ensures
-          (load_long a.store.now a.terminal.now c.if-terminal-gt-MOST.true),
-      sized _ c.requires,
-    )) in record { given = r.0; sized = r.1 }
+returns-then-terminal-gt-MOST c = let a = c.args in record { given = refuses a.store.now c.refused.ensures
+          (load_long a.store.now a.terminal.now c.if-terminal-gt-MOST.true); sized = sized _ c.requires }
 
 pub returns-then-not-is_primitive_list : goal.returns-then-not-is_primitive_list
-returns-then-not-is_primitive_list c = let r = (let a = c.args in (
-      refuses a.store.now c.refused-then-not-is_primitive_list.ensures
+returns-then-not-is_primitive_list c = let a = c.args in record { given = refuses a.store.now c.refused-then-not-is_primitive_list.ensures
           (load_broken a.store.now a.terminal.now c.if-terminal-gt-MOST.false
-          (sym c.is_primitive_list.ensures ∙ c.if-not-is_primitive_list.true)),
-      sized _ c.requires,
-    )) in record { given = r.0; sized = r.1 }
+          (sym c.is_primitive_list.ensures ∙ c.if-not-is_primitive_list.true)); sized = sized _ c.requires }
 
 pub set_objects-requires : goal.set_objects-requires
 set_objects-requires c = record { store_len = sized _ c.requires; are_dictionary_tables = record {
@@ -46,38 +40,29 @@ pub shape_of-store-then-not-set_objects : goal.shape_of-store-then-not-set_objec
 shape_of-store-then-not-set_objects c = ap length (empty c.set_objects.ensures.sized c.cleared.ensures.empty ∙ sym c.requires)
 
 pub returns-then-not-set_objects : goal.returns-then-not-set_objects
-returns-then-not-set_objects c = let r = (let a = c.args in
-    let e = empty c.set_objects.ensures.sized c.cleared.ensures.empty in (
-      refuses_as a.store.now _ (e ∙ sym c.requires) c.cleared.ensures.said
+returns-then-not-set_objects c = let a = c.args in
+    let e = empty c.set_objects.ensures.sized c.cleared.ensures.empty in record { given = refuses_as a.store.now _ (e ∙ sym c.requires) c.cleared.ensures.said
           (load_object a.store.now a.terminal.now c.if-terminal-gt-MOST.false
           (sym c.is_primitive_list.ensures ∙ c.if-not-is_primitive_list.false)
-          (was_not _ _ c.set_objects.ensures.set c.if-not-set_objects.true)),
-      sized _ e,
-    )) in record { given = r.0; sized = r.1 }
+          (was_not _ _ c.set_objects.ensures.set c.if-not-set_objects.true)); sized = sized _ e }
 
 pub shape_of-store-then-not-all_required_at_start_present : goal.shape_of-store-then-not-all_required_at_start_present
 shape_of-store-then-not-all_required_at_start_present c = ap length (empty c.set_objects.ensures.sized c.cleared-then-not-all_required_at_start_present.ensures.empty ∙ sym c.requires)
 
 pub returns-then-not-all_required_at_start_present : goal.returns-then-not-all_required_at_start_present
-returns-then-not-all_required_at_start_present c = let r = (let a = c.args in
-    let e = empty c.set_objects.ensures.sized c.cleared-then-not-all_required_at_start_present.ensures.empty in (
-      refuses_as a.store.now _ (e ∙ sym c.requires) c.cleared-then-not-all_required_at_start_present.ensures.said
+returns-then-not-all_required_at_start_present c = let a = c.args in
+    let e = empty c.set_objects.ensures.sized c.cleared-then-not-all_required_at_start_present.ensures.empty in record { given = refuses_as a.store.now _ (e ∙ sym c.requires) c.cleared-then-not-all_required_at_start_present.ensures.said
           (load_absent a.store.now a.terminal.now c.if-terminal-gt-MOST.false _
           (was_set _ c.set_objects.ensures.set c.if-not-set_objects.false)
-          (sym c.all_required_at_start_present.ensures ∙ c.if-not-all_required_at_start_present.true)),
-      sized _ e,
-    )) in record { given = r.0; sized = r.1 }
+          (sym c.all_required_at_start_present.ensures ∙ c.if-not-all_required_at_start_present.true)); sized = sized _ e }
 
 pub shape_of-store : goal.shape_of-store
 shape_of-store c = c.set_objects.ensures.sized ∙ sym (sized _ c.requires)
 
 pub returns : goal.returns
-returns c = let r = (let a =
-    c.args in (
-      loads
+returns c = let a =
+    c.args in record { given = loads
           (load_taken a.store.now a.terminal.now
           c.if-terminal-gt-MOST.false _
           (was_set _ c.set_objects.ensures.set c.if-not-set_objects.false)
-          (sym c.all_required_at_start_present.ensures ∙ c.if-not-all_required_at_start_present.false)),
-      c.set_objects.ensures.sized,
-    )) in record { given = r.0; sized = r.1 }
+          (sym c.all_required_at_start_present.ensures ∙ c.if-not-all_required_at_start_present.false)); sized = c.set_objects.ensures.sized }

@@ -12,13 +12,10 @@ use Rattle.start_data.proofs.Setting.{set_unknown, set_taken, set_refused, setta
 use Rattle.start_data.proofs.set_object.Goals as goal
 
 pub returns-in_default : goal.returns-in_default
-returns-in_default c = let r = (let a = c.args in
+returns-in_default c = let a = c.args in
     let s = c.search_tags-found in
-    let e = lent_found a.tag c.requires.1.tags s.ensures.found in (
-      says_set (set_unknown a.store.now (tlv_object a.tag a.v.now) s.result.found e
-          c.in_default.is) refl,
-      c.requires.0,
-    )) in record { set = r.0; sized = r.1 }
+    let e = lent_found a.tag c.requires.1.tags s.ensures.found in record { set = says_set (set_unknown a.store.now (tlv_object a.tag a.v.now) s.result.found e
+          c.in_default.is) refl; sized = c.requires.0 }
 
 pub is_settable-requires : goal.is_settable-requires
 is_settable-requires c =
@@ -29,37 +26,31 @@ is_settable-requires c =
 
 
 pub returns-then-not-is_settable : goal.returns-then-not-is_settable
-returns-then-not-is_settable c = let r = (let a = c.args in
+returns-then-not-is_settable c = let a = c.args in
     let s = c.search_tags-found in
-    let e = lent_found a.tag c.requires.1.tags s.ensures.found in
-    let f = c.found-1.given in (
-      says_not _ (set_refused a.store.now (tlv_object a.tag a.v.now) s.result.found e f.0.0 f.1
-          (sym c.is_settable.ensures ∙ c.if-not-is_settable.true)) refl,
-      c.requires.0,
-    )) in record { set = r.0; sized = r.1 }
+    let e = lent_found a.tag c.requires.1.tags s.ensures.found in record { set = says_not _ (set_refused a.store.now (tlv_object a.tag a.v.now) s.result.found e c.in-At.row c.in-At.is
+          (sym c.is_settable.ensures ∙ c.if-not-is_settable.true)) refl; sized = c.requires.0 }
 
 pub put-requires : goal.put-requires
-put-requires c = let r = (let a = c.args in
+put-requires c = let a = c.args in
     let e = lent_found a.tag c.requires.1.tags
     c.search_tags-found.ensures.found in
-    let f = c.found-1.given in
-    let fit = fits_length (row_at f.0.0) a.v.now
-    (settable_fits a.store.now f.0.0 (tlv_object a.tag a.v.now)
-    (sym c.is_settable.ensures ∙ c.if-not-is_settable.false)) in
-    (c.requires.0, (row-found a.tag (sym e ∙ f.1), fit.1))) in record { bytes_len = r.0; row_lt_row_count = r.1 }
+    
+    let fit = fits_length (row_at c.in-At.row) a.v.now
+    (settable_fits a.store.now c.in-At.row (tlv_object a.tag a.v.now)
+    (sym c.is_settable.ensures ∙ c.if-not-is_settable.false)) in record { bytes_len = c.requires.0; row_lt_row_count = (row-found a.tag (sym e ∙ c.in-At.is), fit.1) }
 
 pub shape_of-store : goal.shape_of-store
 shape_of-store c = c.put.ensures.sized ∙ sym c.requires.0
 
 pub returns : goal.returns
-returns c = let r = (let st =
+returns c = let st =
     c.before.before.before.before.before.before.before.before.before.before.before.before.before.before in
     let a = st.args in
     let s = c.search_tags-found in
     let e = lent_found a.tag st.pre.1.tags s.ensures.found in
-    let f = c.found-1.given in
+    
     let put = c.put.ensures in
-    let taken = set_taken a.store.now (tlv_object a.tag a.v.now) s.result.found e f.0.0 f.1
+    let taken = set_taken a.store.now (tlv_object a.tag a.v.now) s.result.found e c.in-At.row c.in-At.is
     (sym c.is_settable.ensures ∙ not-false _
-    c.if-not-is_settable.false) in
-    (says_set (taken ∙ ap some (sym put.0)) refl, put.1)) in record { set = r.0; sized = r.1 }
+    c.if-not-is_settable.false) in record { set = says_set (taken ∙ ap some (sym put.0)) refl; sized = put.1 }

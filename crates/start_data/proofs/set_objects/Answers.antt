@@ -26,11 +26,8 @@ pub shape_of-store-in_default : goal.shape_of-store-in_default
 shape_of-store-in_default c = c.loop-s.invariant.1.0 ∙ sym c.requires.0
 
 pub returns-in_default : goal.returns-in_default
-returns-in_default c = let r = (let lp = c.loop-s in (
-      says_not _ (lp.invariant.0 ∙ set_broken _ c.loop-s-test.true _
-          (sym c.primitive_at_front-front.ensures ∙ c.in_default.is)) refl,
-      lp.invariant.1.0,
-    )) in record { set = r.0; sized = r.1 }
+returns-in_default c = let lp = c.loop-s in record { set = says_not _ (lp.invariant.0 ∙ set_broken _ c.loop-s-test.true _
+          (sym c.primitive_at_front-front.ensures ∙ c.in_default.is)) refl; sized = lp.invariant.1.0 }
 
 pub overflow_add-e : goal.overflow_add-e
 overflow_add-e c =
@@ -71,15 +68,12 @@ pub shape_of-store-then-not-set_object : goal.shape_of-store-then-not-set_object
 shape_of-store-then-not-set_object c = c.set_object.ensures.sized ∙ sym c.requires.0
 
 pub returns-then-not-set_object : goal.returns-then-not-set_object
-returns-then-not-set_object c = let r = (let next-at : primitive_at_front c.loop-s.s.now ≡ front.Object c.in-Object.h =
+returns-then-not-set_object c = let next-at : primitive_at_front c.loop-s.s.now ≡ front.Object c.in-Object.h =
       sym c.primitive_at_front-front.ensures ∙ c.in-Object.is in
-    let set = c.set_object.ensures in (
-      says_not _ (c.loop-s.invariant.0 ∙ set_stopped _
+    let set = c.set_object.ensures in record { set = says_not _ (c.loop-s.invariant.0 ∙ set_stopped _
           c.loop-s-test.true _ (next-at) _
           (was_not _ _ set.0 c.if-not-set_object.true))
-          refl,
-      set.1,
-    )) in record { set = r.0; sized = r.1 }
+          refl; sized = set.1 }
 
 pub loop-s-smaller : goal.loop-s-smaller
 loop-s-smaller c =
@@ -106,5 +100,4 @@ pub shape_of-store : goal.shape_of-store
 shape_of-store c = c.loop-s.invariant.1.0 ∙ sym c.requires.0
 
 pub returns : goal.returns
-returns c = let r = (let lp = c.loop-s in
-    (says_set (lp.invariant.0 ∙ set_end _ _ c.loop-s-test.false) refl, lp.invariant.1.0)) in record { set = r.0; sized = r.1 }
+returns c = let lp = c.loop-s in record { set = says_set (lp.invariant.0 ∙ set_end _ _ c.loop-s-test.false) refl; sized = lp.invariant.1.0 }

@@ -21,8 +21,7 @@ write-requires c =
 
 pub returns : goal.returns
 unfolding put_row
-returns c = let r = (let a = c.args in
+returns c = let a = c.args in
     let f = fits_row a.bytes.now a.row a.v.now c.requires.0 c.requires.1.0 c.requires.1.1 in
     let p = c.write.ensures ∙ ap (λ (n : ℕ). length_and_value_written_at a.bytes.now n a.v.now)
-    c.start_of_lem.ensures in
-    (p, ap length p ∙ put_length dictionary_rows a.bytes.now a.row a.v.now f ∙ c.requires.0)) in record { stored = r.0; sized = r.1 }
+    c.start_of_lem.ensures in record { stored = p; sized = ap length p ∙ put_length dictionary_rows a.bytes.now a.row a.v.now f ∙ c.requires.0 }

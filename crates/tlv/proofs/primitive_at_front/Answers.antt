@@ -11,14 +11,14 @@ returns-in_default c = sym (primitive_broken _ _ c.object_header-front.ensures c
 
 pub returns-then-h : goal.returns-then-h
 returns-then-h c =
-    let f = c.front-1.given in
-    sym (primitive_template _ _ c.object_header-front.ensures f.0.0 f.1
+    
+    sym (primitive_template _ _ c.object_header-front.ensures c.in-Object.h c.in-Object.is
     c.if-h.true)
 
 
 pub returns : goal.returns
 returns c =
-    let f = c.front-1.given in
-    sym (primitive_object _ _ c.object_header-front.ensures f.0.0 f.1
+    
+    sym (primitive_object _ _ c.object_header-front.ensures c.in-Object.h c.in-Object.is
     c.if-h.false)
 

@@ -15,69 +15,57 @@ use Rattle.tlv.proofs.tag_size.Goals as goal
 
 pub returns-then-s-lt1 : goal.returns-then-s-lt1
 unfolding if
-returns-then-s-lt1 c = let r = (let s = c.args.s.now in
-    (sym (tag_size_by s ∙ simp (lt-ltb (length s) 1 (omega arith))), omega arith)) in record { size = r.0; inside = r.1 }
+returns-then-s-lt1 c = let s = c.args.s.now in record { size = sym (tag_size_by s ∙ simp (lt-ltb (length s) 1 (omega arith))); inside = omega arith }
 
 pub returns-then-s-eq0 : goal.returns-then-s-eq0
 unfolding if
-returns-then-s-eq0 c = let r = (let s = c.args.s.now in
-    (sym (tag_size_by s ∙ simp (le-ltb (length s) 1 (omega arith), eq-eqb (get_or s 0 0) 0 (omega arith))), omega arith)) in record { size = r.0; inside = r.1 }
+returns-then-s-eq0 c = let s = c.args.s.now in record { size = sym (tag_size_by s ∙ simp (le-ltb (length s) 1 (omega arith), eq-eqb (get_or s 0 0) 0 (omega arith))); inside = omega arith }
 
 pub returns-then-s-ne31 : goal.returns-then-s-ne31
 unfolding if
-returns-then-s-ne31 c = let r = (let s = c.args.s.now in (
-  sym
+returns-then-s-ne31 c = let s = c.args.s.now in record { size = sym
       (tag_size_by s ∙ simp (
         le-ltb (length s) 1 (omega arith),
         ne_eqb (get_or s 0 0) 0 (omega arith),
         ne_eqb
             (get_or s 0 0 % 32) 31 (omega arith),
-      )),
-  omega arith,
-)) in record { size = r.0; inside = r.1 }
+      )); inside = omega arith }
 
 pub returns-then-s-lt2 : goal.returns-then-s-lt2
 unfolding if
-returns-then-s-lt2 c = let r = (let second : tag_size c.args.s.now ≡ from_second c.args.s.now =
+returns-then-s-lt2 c = let second : tag_size c.args.s.now ≡ from_second c.args.s.now =
       let s = c.args.s.now in tag_size_by s ∙ simp
     (le-ltb (length s) 1 (omega arith), ne_eqb (get_or s 0 0) 0 (omega arith), eq-eqb (get_or s 0 0 % 32) 31 (omega arith)) in
-    let s = c.args.s.now in
-    (sym (second ∙ simp (lt-ltb (length s) 2 (omega arith))), omega arith)) in record { size = r.0; inside = r.1 }
+    let s = c.args.s.now in record { size = sym (second ∙ simp (lt-ltb (length s) 2 (omega arith))); inside = omega arith }
 
 pub returns-then-s : goal.returns-then-s
 unfolding if
-returns-then-s c = let r = (let second : tag_size c.args.s.now ≡ from_second c.args.s.now =
+returns-then-s c = let second : tag_size c.args.s.now ≡ from_second c.args.s.now =
       let s = c.args.s.now in tag_size_by s ∙ simp
     (le-ltb (length s) 1 (omega arith), ne_eqb (get_or s 0 0) 0 (omega arith), eq-eqb (get_or s 0 0 % 32) 31 (omega arith)) in
-    let s = c.args.s.now in (
-  sym
+    let s = c.args.s.now in record { size = sym
       (second ∙ simp (
         le-ltb (length s) 2 (omega arith),
         eq-eqb (get_or s 1 0) 0x80
             (omega arith),
-      )),
-  omega arith,
-)) in record { size = r.0; inside = r.1 }
+      )); inside = omega arith }
 
 pub returns-then-s-lt128 : goal.returns-then-s-lt128
 unfolding if
-returns-then-s-lt128 c = let r = (let second : tag_size c.args.s.now ≡ from_second c.args.s.now =
+returns-then-s-lt128 c = let second : tag_size c.args.s.now ≡ from_second c.args.s.now =
       let s = c.args.s.now in tag_size_by s ∙ simp
     (le-ltb (length s) 1 (omega arith), ne_eqb (get_or s 0 0) 0 (omega arith), eq-eqb (get_or s 0 0 % 32) 31 (omega arith)) in
     let s =
-    c.args.s.now in (
-      sym (second ∙ simp (
+    c.args.s.now in record { size = sym (second ∙ simp (
         le-ltb (length s) 2 (omega arith),
         ne_eqb (get_or s 1 0) 0x80 (omega arith),
         lt-leb 0x80 (get_or s 1 0)
             (omega arith),
-      )),
-      omega arith,
-    )) in record { size = r.0; inside = r.1 }
+      )); inside = omega arith }
 
 pub returns-then-s-lt3 : goal.returns-then-s-lt3
 unfolding if
-returns-then-s-lt3 c = let r = (let second : tag_size c.args.s.now ≡ from_second c.args.s.now =
+returns-then-s-lt3 c = let second : tag_size c.args.s.now ≡ from_second c.args.s.now =
       let s = c.args.s.now in tag_size_by s ∙ simp
     (le-ltb (length s) 1 (omega arith), ne_eqb (get_or s 0 0) 0 (omega arith), eq-eqb (get_or s 0 0 % 32) 31 (omega arith)) in
     let third : tag_size c.args.s.now ≡ from_third c.args.s.now =
@@ -89,12 +77,11 @@ returns-then-s-lt3 c = let r = (let second : tag_size c.args.s.now ≡ from_seco
       le-leb 0x80 (get_or s 1 0) (omega arith),
     ) in
     let s =
-    c.args.s.now in
-    (sym (third ∙ simp (lt-ltb (length s) 3 (omega arith))), omega arith)) in record { size = r.0; inside = r.1 }
+    c.args.s.now in record { size = sym (third ∙ simp (lt-ltb (length s) 3 (omega arith))); inside = omega arith }
 
 pub returns-then-s-lt128-2 : goal.returns-then-s-lt128-2
 unfolding if
-returns-then-s-lt128-2 c = let r = (let second : tag_size c.args.s.now ≡ from_second c.args.s.now =
+returns-then-s-lt128-2 c = let second : tag_size c.args.s.now ≡ from_second c.args.s.now =
       let s = c.args.s.now in tag_size_by s ∙ simp
     (le-ltb (length s) 1 (omega arith), ne_eqb (get_or s 0 0) 0 (omega arith), eq-eqb (get_or s 0 0 % 32) 31 (omega arith)) in
     let third : tag_size c.args.s.now ≡ from_third c.args.s.now =
@@ -106,19 +93,16 @@ returns-then-s-lt128-2 c = let r = (let second : tag_size c.args.s.now ≡ from_
       le-leb 0x80 (get_or s 1 0) (omega arith),
     ) in
     let s =
-    c.args.s.now in (
-      sym
+    c.args.s.now in record { size = sym
           (third ∙ simp (
             le-ltb (length s) 3 (omega arith),
             lt-leb 0x80 (get_or s 2 0)
                 (omega arith),
-          )),
-      omega arith,
-    )) in record { size = r.0; inside = r.1 }
+          )); inside = omega arith }
 
 pub returns : goal.returns
 unfolding if
-returns c = let r = (let second : tag_size c.args.s.now ≡ from_second c.args.s.now =
+returns c = let second : tag_size c.args.s.now ≡ from_second c.args.s.now =
       let s = c.args.s.now in tag_size_by s ∙ simp
     (le-ltb (length s) 1 (omega arith), ne_eqb (get_or s 0 0) 0 (omega arith), eq-eqb (get_or s 0 0 % 32) 31 (omega arith)) in
     let third : tag_size c.args.s.now ≡ from_third c.args.s.now =
@@ -130,12 +114,9 @@ returns c = let r = (let second : tag_size c.args.s.now ≡ from_second c.args.s
       le-leb 0x80 (get_or s 1 0) (omega arith),
     ) in
     let s =
-    c.args.s.now in (
-      sym
+    c.args.s.now in record { size = sym
           (third ∙ simp (
             le-ltb (length s) 3 (omega arith),
             le-leb 0x80 (get_or s 2 0)
                 (omega arith),
-          )),
-      omega arith,
-    )) in record { size = r.0; inside = r.1 }
+          )); inside = omega arith }

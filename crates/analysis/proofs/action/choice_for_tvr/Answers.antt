@@ -8,8 +8,5 @@ use Rattle.analysis.proofs.action.choice_for_tvr.Goals as goal
 
 pub returns : goal.returns
 unfolding choice_for_tvr
-returns c = let r = (let k = c.terminal_type.ensures in
-    let p = c.action_codes_of.ensures in (
-      c.terminal_action_analysis.ensures.choice ∙ ap₂ (terminal_action_analysis _) k p,
-      c.terminal_action_analysis.ensures.number ∙ ap₂ (generate_ac_p1_for _) k p,
-    )) in record { choice = r.0; number = r.1 }
+returns c = let k = c.terminal_type.ensures in
+    let p = c.action_codes_of.ensures in record { choice = c.terminal_action_analysis.ensures.choice ∙ ap₂ (terminal_action_analysis _) k p; number = c.terminal_action_analysis.ensures.number ∙ ap₂ (generate_ac_p1_for _) k p }

@@ -40,7 +40,7 @@ returns-in-3 c = elim c.in-3.is [
 pub returns-in_default : goal.returns-in_default
 unfolding online_capability_by_digit
 returns-in_default c =
-    let r = c.in_default.rest in
+    
     sym
-    (if_no _ _ (is_none _ 1 4 r.0.0.1) ∙ (if_no _ _ (is_none _ 2 5 r.0.1) ∙ if_no _ _ (is_none _ 3 6 r.1)))
+    (if_no _ _ (is_none _ 1 4 c.in_default.rest.0.0.1) ∙ (if_no _ _ (is_none _ 2 5 c.in_default.rest.0.1) ∙ if_no _ _ (is_none _ 3 6 c.in_default.rest.1)))
 

@@ -26,10 +26,10 @@ returns-in-9 c = simp c.in-9.is
 
 pub returns-in_default : goal.returns-in_default
 unfolding if
-returns-in_default c = let r = c.in_default.rest in simp (
-  ne_eqb _ _ r.0.0.0.1,
-  ne_eqb _ _ r.0.0.1,
-  ne_eqb _ _ r.0.1,
-  ne_eqb _ _ r.1,
+returns-in_default c = simp (
+  ne_eqb _ _ c.in_default.rest.0.0.0.1,
+  ne_eqb _ _ c.in_default.rest.0.0.1,
+  ne_eqb _ _ c.in_default.rest.0.1,
+  ne_eqb _ _ c.in_default.rest.1,
 )
 

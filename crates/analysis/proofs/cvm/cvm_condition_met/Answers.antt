@@ -39,8 +39,8 @@ returns-in-5 c = simp c.in-5.is
 
 pub returns-in_default : goal.returns-in_default
 returns-in_default c =
-    let r = c.in_default.rest in
+    
     and_both _ _ _ _ refl c.cvm_amount_met.ensures
-    ∙ sym (condition_amount _ _ _ r.0.0.0.0.0.1 r.0.0.0.0.1 r.0.0.0.1 r.0.0.1 r.0.1
-    r.1)
+    ∙ sym (condition_amount _ _ _ c.in_default.rest.0.0.0.0.0.1 c.in_default.rest.0.0.0.0.1 c.in_default.rest.0.0.0.1 c.in_default.rest.0.0.1 c.in_default.rest.0.1
+    c.in_default.rest.1)
 

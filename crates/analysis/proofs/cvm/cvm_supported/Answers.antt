@@ -52,16 +52,16 @@ returns-in-31 c = simp (c.in-31.is, c.byte_has_bit-in-31.ensures)
 pub returns-in_default : goal.returns-in_default
 unfolding cvm_supported if
 returns-in_default c =
-    let r = c.in_default.rest in
+    
     simp (
-      ne_eqb _ _ r.0.0.0.0.0.0.0.1,
-      ne_eqb _ _ r.0.0.0.0.0.0.1,
-      ne_eqb _ _ r.0.0.0.0.0.1,
-      ne_eqb _ _ r.0.0.0.0.1,
-      ne_eqb _ _ r.0.0.0.1,
-      ne_eqb _ _ r.0.0.1,
-      ne_eqb _ _ r.0.1,
+      ne_eqb _ _ c.in_default.rest.0.0.0.0.0.0.0.1,
+      ne_eqb _ _ c.in_default.rest.0.0.0.0.0.0.1,
+      ne_eqb _ _ c.in_default.rest.0.0.0.0.0.1,
+      ne_eqb _ _ c.in_default.rest.0.0.0.0.1,
+      ne_eqb _ _ c.in_default.rest.0.0.0.1,
+      ne_eqb _ _ c.in_default.rest.0.0.1,
+      ne_eqb _ _ c.in_default.rest.0.1,
       ne_eqb _ _
-          r.1,
+          c.in_default.rest.1,
     )
 

@@ -23,9 +23,9 @@ returns c =
     
     
     let a = c.args in
-    let g = c.found-1.given in
-    row_comes in_record_response (row_at g.0.0) tag_record_template a.v.now c.may_come.ensures
+    
+    row_comes in_record_response (row_at c.in-At.row) tag_record_template a.v.now c.may_come.ensures
     c.attributes_of-attributes.ensures
     ∙ sym (settable_at (tlv_object a.tag a.v.now) c.lookup_row-found.result.found c.lookup_row-found.ensures.found
-    g.0.0 g.1)
+    c.in-At.row c.in-At.is)
 

@@ -67,7 +67,7 @@ slice_bounds-rest-start c =
     let h = fits-at in omega arith
 
 pub put_placed-to-requires : goal.put_placed-to-requires
-put_placed-to-requires c = let r = (let next-at : primitive_at_front c.loop-s.s.now ≡ front.Object c.in-Object.h =
+put_placed-to-requires c = let next-at : primitive_at_front c.loop-s.s.now ≡ front.Object c.in-Object.h =
       sym c.primitive_at_front-front.ensures ∙ c.in-Object.is in
     let lp = c.loop-s in
     
@@ -75,12 +75,9 @@ put_placed-to-requires c = let r = (let next-at : primitive_at_front c.loop-s.s.
     let t = c.loop-s-test.true in
     let ps = placements_in a.placements.now in
     let room : lp.to + length (content ps a.k lp.number lp.s.now) ≤ length lp.out =
-    omega (arith, lp.invariant.1, lp.invariant.2, c.requires.1) in (
-      first_small lp.s.now t c.in-Object.h (next-at) lp.invariant.3 ps a.k lp.number,
-      first_room
+    omega (arith, lp.invariant.1, lp.invariant.2, c.requires.1) in record { tag_bound = first_small lp.s.now t c.in-Object.h (next-at) lp.invariant.3 ps a.k lp.number; v_in_bounds = first_room
           lp.s.now t c.in-Object.h (next-at) lp.invariant.3 ps a.k lp.number lp.out lp.to
-          room,
-    )) in record { tag_bound = r.0; v_in_bounds = r.1 }
+          room }
 
 pub overflow_add-number : goal.overflow_add-number
 overflow_add-number c = omega ( arith, c.loop-s.invariant.4, )

@@ -58,15 +58,12 @@ put_length-behind_length-requires c =
 
 
 pub put_content-requires : goal.put_content-requires
-put_content-requires c = let r = (let a = c.args in
+put_content-requires c = let a = c.args in
     let v = record_content (parsed_objects_or_empty a.objects.now) (placements_in a.placements.now) a.k in
     let e = exact c.size-size.result v c.size-size.ensures c.requires.1.0 in
     let q = subst (λ (n : ℕ). WritesBytesAt c.put_length-behind_length.result c.put_length-behind_length.new.out c.put_tag-behind_tag.new.out
-    c.put_tag-behind_tag.result (length_bytes n)) e c.put_length-behind_length.ensures in (
-      c.requires.0,
-      value_room a.out.now a.at (tag_bytes tag_record_template) (length_bytes (length v)) v
-          (room a.out.now a.at v c.requires.1.0 c.requires.1.1) c.put_tag-behind_tag.ensures q,
-    )) in record { are_objects_allowed_in_record = r.0; k_in_bounds = r.1 }
+    c.put_tag-behind_tag.result (length_bytes n)) e c.put_length-behind_length.ensures in record { are_objects_allowed_in_record = c.requires.0; k_in_bounds = value_room a.out.now a.at (tag_bytes tag_record_template) (length_bytes (length v)) v
+          (room a.out.now a.at v c.requires.1.0 c.requires.1.1) c.put_tag-behind_tag.ensures q }
 
 pub returns : goal.returns
 returns c =

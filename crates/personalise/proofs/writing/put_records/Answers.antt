@@ -21,15 +21,8 @@ pub loop-k-init : goal.loop-k-init
 loop-k-init c = (refl, refl, refl, omega arith, omega arith, omega arith)
 
 pub put_record-at-requires : goal.put_record-at-requires
-put_record-at-requires c = let r = (let lp = c.loop-k in
-    (
-      c.requires.0,
-      (
-        c.requires.1.0 lp.k c.loop-k-test.true,
-        omega
-            (arith, lp.invariant.2, lp.invariant.3, lp.invariant.4, lp.invariant.5, c.loop-k-test.true, c.requires.1.1.1),
-      ),
-    )) in record { are_objects_allowed_in_record = r.0; k_len_bound = r.1.0; at_in_bounds = r.1.1 }
+put_record-at-requires c = let lp = c.loop-k in record { are_objects_allowed_in_record = c.requires.0; k_len_bound = c.requires.1.0 lp.k c.loop-k-test.true; at_in_bounds = omega
+            (arith, lp.invariant.2, lp.invariant.3, lp.invariant.4, lp.invariant.5, c.loop-k-test.true, c.requires.1.1.1) }
 
 pub overflow_add-k : goal.overflow_add-k
 overflow_add-k c = omega ( arith, c.loop-k.invariant.4, c.requires.1.1.0, )

@@ -24,7 +24,7 @@ pub bounds-ends-depth : goal.bounds-ends-depth
 bounds-ends-depth c = omega (arith, c.loop-at.invariant.few)
 
 pub returns-then-depth-eq0 : goal.returns-then-depth-eq0
-returns-then-depth-eq0 c = let r = (let w = c.loop-at.invariant in (done w c.if-at-end.true c.if-depth-eq0.true, w.fits.room)) in record { walks = r.0; room = r.1 }
+returns-then-depth-eq0 c = let w = c.loop-at.invariant in record { walks = done w c.if-at-end.true c.if-depth-eq0.true; room = w.fits.room }
 
 pub loop-at-preserved-then-at-end : goal.loop-at-preserved-then-at-end
 loop-at-preserved-then-at-end c = close c.loop-at.invariant c.if-at-end.true c.if-depth-eq0.false
@@ -70,14 +70,11 @@ pub slice_bounds-object_header-end : goal.slice_bounds-object_header-end
 slice_bounds-object_header-end c = stops (run c.loop-at.invariant)
 
 pub returns-in_default : goal.returns-in_default
-returns-in_default c = let r = (let more-at : c.loop-at.at < get_or c.loop-at.ends c.loop-at.depth 0 =
+returns-in_default c = let more-at : c.loop-at.at < get_or c.loop-at.ends c.loop-at.depth 0 =
       more c.loop-at.invariant c.if-at-end.false in
-    let w = c.loop-at.invariant in (
-      failed (run w) (more-at)
+    let w = c.loop-at.invariant in record { walks = failed (run w) (more-at)
           c.if-bytes-at-eq0.false
-          (sym c.object_header-front.ensures ∙ c.in_default.is) _,
-      w.fits.room,
-    )) in record { walks = r.0; room = r.1 }
+          (sym c.object_header-front.ensures ∙ c.in_default.is) _; room = w.fits.room }
 
 pub overflow_add-from : goal.overflow_add-from
 overflow_add-from c =
@@ -85,7 +82,7 @@ overflow_add-from c =
       more c.loop-at.invariant c.if-at-end.false in
     let next-at : Next _ _ _ _ _ _ _ _ _ _ _ (run c.loop-at.invariant) c.in-Object.h =
       record {
-  bytes = λ i. omega (arith, c.shared_slice_known-else-at-end-1.given i);
+  bytes = λ i. omega (arith, c.type_inv.bytes i);
   more = more-at;
   is = sym c.object_header-front.ensures ∙ c.in-Object.is;
 } in
@@ -97,7 +94,7 @@ overflow_add-e c =
       more c.loop-at.invariant c.if-at-end.false in
     let next-at : Next _ _ _ _ _ _ _ _ _ _ _ (run c.loop-at.invariant) c.in-Object.h =
       record {
-  bytes = λ i. omega (arith, c.shared_slice_known-else-at-end-1.given i);
+  bytes = λ i. omega (arith, c.type_inv.bytes i);
   more = more-at;
   is = sym c.object_header-front.ensures ∙ c.in-Object.is;
 } in
@@ -113,16 +110,15 @@ overflow_add-depth c =
     omega (arith, few-at)
 
 pub returns-then-depth-eq-LEVELS : goal.returns-then-depth-eq-LEVELS
-returns-then-depth-eq-LEVELS c = let r = (let more-at : c.loop-at.at < get_or c.loop-at.ends c.loop-at.depth 0 =
+returns-then-depth-eq-LEVELS c = let more-at : c.loop-at.at < get_or c.loop-at.ends c.loop-at.depth 0 =
       more c.loop-at.invariant c.if-at-end.false in
     let next-at : Next _ _ _ _ _ _ _ _ _ _ _ (run c.loop-at.invariant) c.in-Object.h =
       record {
-  bytes = λ i. omega (arith, c.shared_slice_known-else-at-end-1.given i);
+  bytes = λ i. omega (arith, c.type_inv.bytes i);
   more = more-at;
   is = sym c.object_header-front.ensures ∙ c.in-Object.is;
 } in
-    let w = c.loop-at.invariant in
-    (too_deep w (next-at) c.if-h.true c.if-depth-eq-LEVELS.true _, w.fits.room)) in record { walks = r.0; room = r.1 }
+    let w = c.loop-at.invariant in record { walks = too_deep w (next-at) c.if-h.true c.if-depth-eq-LEVELS.true _; room = w.fits.room }
 
 pub overflow_add-depth-then-h : goal.overflow_add-depth-then-h
 overflow_add-depth-then-h c =
@@ -160,7 +156,7 @@ loop-at-smaller-then-h c =
       more c.loop-at.invariant c.if-at-end.false in
     let next-at : Next _ _ _ _ _ _ _ _ _ _ _ (run c.loop-at.invariant) c.in-Object.h =
       record {
-  bytes = λ i. omega (arith, c.shared_slice_known-else-at-end-1.given i);
+  bytes = λ i. omega (arith, c.type_inv.bytes i);
   more = more-at;
   is = sym c.object_header-front.ensures ∙ c.in-Object.is;
 } in
@@ -172,7 +168,7 @@ loop-at-preserved-then-h c =
       more c.loop-at.invariant c.if-at-end.false in
     let next-at : Next _ _ _ _ _ _ _ _ _ _ _ (run c.loop-at.invariant) c.in-Object.h =
       record {
-  bytes = λ i. omega (arith, c.shared_slice_known-else-at-end-1.given i);
+  bytes = λ i. omega (arith, c.type_inv.bytes i);
   more = more-at;
   is = sym c.object_header-front.ensures ∙ c.in-Object.is;
 } in
@@ -197,7 +193,7 @@ packed_item-requires c =
       more c.loop-at.invariant c.if-at-end.false in
     let next-at : Next _ _ _ _ _ _ _ _ _ _ _ (run c.loop-at.invariant) c.in-Object.h =
       record {
-  bytes = λ i. omega (arith, c.shared_slice_known-else-at-end-1.given i);
+  bytes = λ i. omega (arith, c.type_inv.bytes i);
   more = more-at;
   is = sym c.object_header-front.ensures ∙ c.in-Object.is;
 } in
@@ -209,7 +205,7 @@ offset_bounds-items-k c =
       more c.loop-at.invariant c.if-at-end.false in
     let next-at : Next _ _ _ _ _ _ _ _ _ _ _ (run c.loop-at.invariant) c.in-Object.h =
       record {
-  bytes = λ i. omega (arith, c.shared_slice_known-else-at-end-1.given i);
+  bytes = λ i. omega (arith, c.type_inv.bytes i);
   more = more-at;
   is = sym c.object_header-front.ensures ∙ c.in-Object.is;
 } in
@@ -221,7 +217,7 @@ bounds-items-k c =
       more c.loop-at.invariant c.if-at-end.false in
     let next-at : Next _ _ _ _ _ _ _ _ _ _ _ (run c.loop-at.invariant) c.in-Object.h =
       record {
-  bytes = λ i. omega (arith, c.shared_slice_known-else-at-end-1.given i);
+  bytes = λ i. omega (arith, c.type_inv.bytes i);
   more = more-at;
   is = sym c.object_header-front.ensures ∙ c.in-Object.is;
 } in
@@ -233,7 +229,7 @@ overflow_add-k c =
       more c.loop-at.invariant c.if-at-end.false in
     let next-at : Next _ _ _ _ _ _ _ _ _ _ _ (run c.loop-at.invariant) c.in-Object.h =
       record {
-  bytes = λ i. omega (arith, c.shared_slice_known-else-at-end-1.given i);
+  bytes = λ i. omega (arith, c.type_inv.bytes i);
   more = more-at;
   is = sym c.object_header-front.ensures ∙ c.in-Object.is;
 } in
@@ -245,7 +241,7 @@ loop-at-smaller c =
       more c.loop-at.invariant c.if-at-end.false in
     let next-at : Next _ _ _ _ _ _ _ _ _ _ _ (run c.loop-at.invariant) c.in-Object.h =
       record {
-  bytes = λ i. omega (arith, c.shared_slice_known-else-at-end-1.given i);
+  bytes = λ i. omega (arith, c.type_inv.bytes i);
   more = more-at;
   is = sym c.object_header-front.ensures ∙ c.in-Object.is;
 } in
@@ -257,7 +253,7 @@ loop-at-preserved c =
       more c.loop-at.invariant c.if-at-end.false in
     let next-at : Next _ _ _ _ _ _ _ _ _ _ _ (run c.loop-at.invariant) c.in-Object.h =
       record {
-  bytes = λ i. omega (arith, c.shared_slice_known-else-at-end-1.given i);
+  bytes = λ i. omega (arith, c.type_inv.bytes i);
   more = more-at;
   is = sym c.object_header-front.ensures ∙ c.in-Object.is;
 } in
