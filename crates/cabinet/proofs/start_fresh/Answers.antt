@@ -26,7 +26,7 @@ pub returns-in-Refused : goal.returns-in-Refused
 returns-in-Refused c =
     
     fresh_refused c.args.terminal.now c.args.state.now _ c.args.command.now c.args.remaining own
-    c.requires.1.0 _ _ _
+    c.requires.least_buffer_in_bounds _ _ _
     c.start_on_parts-transition.ensures
     c.in-Refused.refusal _ c.refusal_word.ensures c.in-Refused.is
 

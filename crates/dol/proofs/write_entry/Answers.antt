@@ -72,7 +72,7 @@ offset_bounds-codes-row c =
       sym
     (lent_found
     c.args.entry.tag
-    c.requires.1.tags
+    c.requires.are_dictionary_tables.tags
     c.search_tags-found.ensures.found) ∙
     c.in-At.is in
     let in_table : c.in-At.row < row_count =
@@ -89,7 +89,7 @@ returns c =
       sym
     (lent_found
     c.args.entry.tag
-    c.requires.1.tags
+    c.requires.are_dictionary_tables.tags
     c.search_tags-found.ensures.found) ∙
     c.in-At.is in
     let in_table : c.in-At.row < row_count =

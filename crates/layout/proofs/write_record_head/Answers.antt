@@ -15,12 +15,6 @@ pub returns-then-bytes-lt-RECORD_SIZE : goal.returns-then-bytes-lt-RECORD_SIZE
 returns-then-bytes-lt-RECORD_SIZE c = let a = c.args in sym (headed_no a.bytes.now a.phase a.count c.if-bytes-lt-RECORD_SIZE.true)
 
 
-pub shape_of-bytes : goal.shape_of-bytes
-shape_of-bytes c =
-    let a = c.args in
-    ap length (returns c) ∙ headed_length a.bytes.now a.phase a.count
-
-
 -- the whole head, and what lies after it
 pub returns : goal.returns
 returns c =
@@ -34,3 +28,9 @@ returns c =
     (copied c.head_of-head.result _ c.copy.new.dst (simp (length-take, length-drop) (omega arith))
     c.copy.ensures.1 ∙ made)
     ∙ sym (headed_yes a.bytes.now a.phase a.count c.if-bytes-lt-RECORD_SIZE.false)
+
+pub shape_of-bytes : goal.shape_of-bytes
+shape_of-bytes c =
+    let a = c.args in
+    ap length (returns c) ∙ headed_length a.bytes.now a.phase a.count
+

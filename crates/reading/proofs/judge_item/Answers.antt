@@ -33,7 +33,7 @@ returns-then-is_skipped c =
       row-found _ (sym c.find_row-found.ensures.found ∙ c.in-At.is) in
     let attributes-at : c.unpack_row_attributes-attributes.result ≡ attributes_of (row_at c.in-At.row) =
       c.unpack_row_attributes-attributes.ensures
-    ∙ lent_row c.requires.1.1.codes
+    ∙ lent_row c.requires.are_dictionary_tables.codes
     (row-at) in
     said_skipped _ _ _ c.tag_in-tag.ensures
     c.find_row-found.ensures.found _ c.in-At.is
@@ -46,7 +46,7 @@ returns-then-not-may_come c =
       row-found _ (sym c.find_row-found.ensures.found ∙ c.in-At.is) in
     let attributes-at : c.unpack_row_attributes-attributes.result ≡ attributes_of (row_at c.in-At.row) =
       c.unpack_row_attributes-attributes.ensures
-    ∙ lent_row c.requires.1.1.codes
+    ∙ lent_row c.requires.are_dictionary_tables.codes
     (row-at) in
     let said_at : let a = c.args in Said a.answer a.bytes.now a.item c.in-At.row c.may_come.result =
       said _ _ _ c.tag_in-tag.ensures
@@ -64,7 +64,7 @@ returns c =
       row-found _ (sym c.find_row-found.ensures.found ∙ c.in-At.is) in
     let attributes-at : c.unpack_row_attributes-attributes.result ≡ attributes_of (row_at c.in-At.row) =
       c.unpack_row_attributes-attributes.ensures
-    ∙ lent_row c.requires.1.1.codes
+    ∙ lent_row c.requires.are_dictionary_tables.codes
     (row-at) in
     let said_at : let a = c.args in Said a.answer a.bytes.now a.item c.in-At.row c.may_come.result =
       said _ _ _ c.tag_in-tag.ensures
