@@ -40,7 +40,7 @@ returns-then-remaining-amount c =
     st.pre.1.0 _ _ _
     c.start_on_parts-transition.ensures
     (not_refused c.start_on_parts-transition.result.answer
-    c.in_default.keys2) _ c.refusal_word-then-remaining-amount.ensures
+    c.in_default.in_default-own.keys2) _ c.refusal_word-then-remaining-amount.ensures
     (omega (arith, c.if-remaining-amount.true, q))
 
 
@@ -79,7 +79,7 @@ returns c =
     d
     (not_refused
     c.start_on_parts-transition.result.answer
-    c.in_default.keys2) st.pre.0
+    c.in_default.in_default-own.keys2) st.pre.0
     (omega (
       arith,
       c.if-remaining-amount.false,

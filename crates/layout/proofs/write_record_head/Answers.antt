@@ -20,7 +20,7 @@ pub returns : goal.returns
 returns c =
     let made : let a = c.args in c.head_of-head.result ≡ record_head_bytes (phase_fields_of a.phase) a.count =
       let a = c.args in
-    c.head_of-head.ensures ∙ ap (λ (x : PhaseFields). record_head_bytes x a.count) c.code_of_lem.ensures in
+    c.head_of-head.ensures ∙ ap (λ (x : PhaseFields). record_head_bytes x a.count) c.code_of.ensures in
     let a = c.args in
     let size : length c.head_of-head.result ≡ record_head_size = ap length (made) ∙ head_length
     (phase_fields_of a.phase) a.count in

@@ -15,7 +15,7 @@ returns-in_default c =
     did_end _ _ _ (c.fail_session.ensures ∙ ap (failing_transition cvm_number_not_applicable c.args.count)
     c.verdict_number.ensures)
     (unsound_read c.args.bytes.now c.args.card.now c.judge_answer-verdict.result c.requires.bytes_value
-    c.judge_answer-verdict.ensures c.in_default.keys2)
+    c.judge_answer-verdict.ensures c.in_default.in_default-own.keys2)
 
 
 pub returns : goal.returns
