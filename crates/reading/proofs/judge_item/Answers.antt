@@ -25,7 +25,10 @@ offset_bounds-codes-row c =
     omega (arith, row-at)
 
 pub bounds-codes-row : goal.bounds-codes-row
-bounds-codes-row = row-at
+bounds-codes-row c =
+    let row-at : c.in-At.row < row_count =
+      row-found _ (sym c.find_row-found.ensures.found ∙ c.in-At.is) in
+    row-at
 
 pub returns-then-is_skipped : goal.returns-then-is_skipped
 returns-then-is_skipped c =

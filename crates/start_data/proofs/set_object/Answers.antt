@@ -52,5 +52,4 @@ returns c = let st =
     
     let put = c.put.ensures in
     let taken = set_taken a.store.now (tlv_object a.tag a.v.now) s.result.found e c.in-At.row c.in-At.is
-    (sym c.is_settable.ensures ∙ not-false _
-    c.if-not-is_settable.false) in record { set = says_set (taken ∙ ap some (sym put.stored)) refl; sized = put.sized }
+    (sym c.is_settable.ensures ∙ c.if-not-is_settable.false) in record { set = says_set (taken ∙ ap some (sym put.stored)) refl; sized = put.sized }
