@@ -2,21 +2,17 @@
 -- and holds a bit.
 -- Then the first that does decides (`choice_by_stage`), and after the last the type alone (`choice_by_type`); the
 -- number follows (`asks`). Assumes nothing.
-use mathlib.Core.Logic.{inl, inr}
 use mathlib.Core.Path.{sym, ap, ◌∙◌}
-use Prim.Native.Nat.{◌-◌, ◌≤◌}
 use native.Mathlib.Omega.{arith}
 use borrow.Author.Count.{below_more}
-use borrow.Author.Rules.{rules}
 use Rattle.basics.proofs.Laws.{both_no_left, both_no_right}
 use Rattle.analysis.specs.Choice.{is_some_bit, some_tvr_bit_in_codes_of_stage}
 use Rattle.analysis.proofs.Laws.{asks}
-use Rattle.analysis.proofs.Stages.{Unforced, choice_by_stage, choice_by_type}
+use Rattle.analysis.proofs.Stages.{choice_by_stage, choice_by_type}
 use Rattle.analysis.proofs.choice.terminal_action_analysis.Goals as goal
 
 pub loop-stage-init : goal.loop-stage-init
 loop-stage-init c = (omega arith, λ m h. absurd (omega arith))
-
 
 pub returns-in-Bit : goal.returns-in-Bit
 unfolding some_tvr_bit_in_codes_of_stage
@@ -44,7 +40,6 @@ loop-stage-preserved c =
       | goal.else-consulted w ↦
           (omega arith, below_more _ _ lp.invariant.1 (both_no_left _ _ (sym c.consulted.ensures ∙ w.if-consulted.false)))
     ]
-
 
 pub returns : goal.returns
 returns c = let r = (let lp = c.loop-stage in
