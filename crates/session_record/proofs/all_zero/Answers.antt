@@ -5,7 +5,7 @@ use borrow.Author.Tests.{eq-eqb, ne_eqb}
 use mathlib.Core.Path.{◌≡◌, refl, sym, ap, ◌∙◌}
 use mathlib.Core.Logic.{inl, inr}
 use mathlib.Core.List.{List}
-use Prim.Native.Nat.{ℕ, ◌+◌, ◌-◌, ◌≤◌, ◌<◌}
+use Prim.Native.Nat.{ℕ, ◌+◌, ◌≤◌, ◌<◌}
 use native.Mathlib.Omega.{arith}
 use lib.Dec.{eqb}
 use lib.ListN.{length, get_or, drop}
@@ -44,10 +44,8 @@ loop-i-preserved c =
           ∙ ap (λ (n : ℕ). both (eqb n 0) (every is_zero_byte (drop (lp.i + 1) v))) (sym w.most-is)
     ]
 
-
 pub returns : goal.returns
 returns c =
     let lp = c.loop-i in
     let v = c.args.v.now in
     sym (lp.invariant ∙ both_right_true _ (every_done is_zero_byte v 0 lp.i (omega arith)))
-

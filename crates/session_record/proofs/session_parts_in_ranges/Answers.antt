@@ -1,7 +1,6 @@
 -- `session_record::session_parts_in_ranges` meets its contract: the store's size, then what the phase keeps, the stored
 -- objects among it.
 -- Assumes nothing.
-use borrow.Author.Rules.{rules}
 use borrow.Author.Tests.{eq-eqb, ne_eqb}
 use mathlib.Core.Path.{◌≡◌, sym, ap, ◌∙◌}
 use mathlib.Core.Bool.{Bool}
