@@ -1,11 +1,8 @@
 -- `walk` meets its contract. The recursion falls with the levels, the loop with what is left of the contents.
 -- The invariant is `Run` (proofs/Runs), which has a law for each way through an iteration: what follows is the end.
 -- Assumes nothing.
-use borrow.Author.Rules.{rules}
 use mathlib.Core.Path.{sym, ◌∙◌}
-use Prim.Native.Nat.{◌<◌}
 use native.Mathlib.Omega.{arith}
-use lib.ListN.{length}
 use Rattle.reading.proofs.Runs.{Next, has_listed, stops, ended, padding, failed, bounds, small, list_length}
 use Rattle.reading.proofs.Runs.{deep, number_fits, room}
 use Rattle.reading.proofs.Runs.{listed, entered_alone, inner_broken, inner_whole}
