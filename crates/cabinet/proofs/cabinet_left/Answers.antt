@@ -28,8 +28,7 @@ returns-then-not-session_parts_in_ranges c =
       state_taken _ _ (sym c.holding_in-admission.ensures ∙ c.in-Admitted.is) in
     sym
     (ap remaining_amount_or_all_ones
-    ((told).held ∙ if_no _ _ (sym c.session_parts_in_ranges.ensures ∙ not-true _
-    c.if-not-session_parts_in_ranges.true)))
+    ((told).held ∙ if_no _ _ (sym c.session_parts_in_ranges.ensures ∙ c.if-not-session_parts_in_ranges.true)))
 
 pub returns : goal.returns
 returns c =
@@ -37,5 +36,4 @@ returns c =
       state_taken _ _ (sym c.holding_in-admission.ensures ∙ c.in-Admitted.is) in
     sym
     (ap remaining_amount_or_all_ones
-    ((told).held ∙ if_yes _ _ (sym c.session_parts_in_ranges.ensures ∙ not-false
-    _ c.if-not-session_parts_in_ranges.false)))
+    ((told).held ∙ if_yes _ _ (sym c.session_parts_in_ranges.ensures ∙ c.if-not-session_parts_in_ranges.false)))

@@ -13,13 +13,6 @@ use Rattle.layout.proofs.Number.{bytes_length}
 use Rattle.cabinet.proofs.State.{put_both, amounts_length}
 use Rattle.cabinet.proofs.put_amounts.Goals as goal
 
-pub shape_of-state : goal.shape_of-state
-shape_of-state c =
-    let st = c.before.before.before.before.before.before.before.before.before.before.before.before.before
-    in
-    ap length (returns c) ∙ amounts_length st.args.state.now st.args.amounts st.pre
-
-
 pub returns : goal.returns
 returns c =
     let st = c.before.before.before.before.before.before.before.before.before.before.before.before.before
@@ -42,4 +35,11 @@ returns c =
     ap₂ (λ (a b : List ℕ). put_mid (session_record_size + 8) 8 (put_mid session_record_size 8 l a) b) g h ∙ put_both l
     (big_endian_bytes 8 st.args.amounts.remaining) (big_endian_bytes 8 st.args.amounts.reserved) p
     (bytes_length 8 _)
+
+
+pub shape_of-state : goal.shape_of-state
+shape_of-state c =
+    let st = c.before.before.before.before.before.before.before.before.before.before.before.before.before
+    in
+    ap length (returns c) ∙ amounts_length st.args.state.now st.args.amounts st.pre
 

@@ -26,7 +26,7 @@ pub returns-in-Refused : goal.returns-in-Refused
 returns-in-Refused c =
     
     fresh_refused c.args.terminal.now c.args.state.now _ c.args.command.now c.args.remaining own
-    c.requires.1.0 _ _ _
+    c.requires.least_buffer_in_bounds _ _ _
     c.start_on_parts-transition.ensures
     c.in-Refused.refusal _ c.refusal_word.ensures c.in-Refused.is
 
@@ -40,7 +40,7 @@ returns-then-remaining-amount c =
     st.pre.1.0 _ _ _
     c.start_on_parts-transition.ensures
     (not_refused c.start_on_parts-transition.result.answer
-    c.in_default.keys2) _ c.refusal_word-then-remaining-amount.ensures
+    c.in_default.in_default-own.keys2) _ c.refusal_word-then-remaining-amount.ensures
     (omega (arith, c.if-remaining-amount.true, q))
 
 
@@ -79,7 +79,7 @@ returns c =
     d
     (not_refused
     c.start_on_parts-transition.result.answer
-    c.in_default.keys2) st.pre.0
+    c.in_default.in_default-own.keys2) st.pre.0
     (omega (
       arith,
       c.if-remaining-amount.false,

@@ -29,7 +29,7 @@ returns-then-is_running c =
     did_refuse refusal_wrong_phase c.refusal_word-then-is_running.ensures
     (ranged_in (start_on_cabinet a.terminal.now a.state.now a.command.now) _ _
     (cabinet_with_store_in a.holding a.state.now) (kept)
-    ∙ start_running _ a.terminal.now a.state.now a.command.now c.requires.1.0 (kept)
+    ∙ start_running _ a.terminal.now a.state.now a.command.now c.requires.least_buffer_in_bounds (kept)
     a.holding.amounts.remaining a.holding.amounts.reserved
     (sym c.is_running.ensures ∙ c.if-is_running.true))
 
@@ -41,7 +41,7 @@ returns c =
     subst (ReturnsCabinetResult _ _ _)
     (sym (ranged_in (start_on_cabinet a.terminal.now a.state.now a.command.now) a.state.now
     a.command.now (cabinet_with_store_in a.holding a.state.now) (kept)
-    ∙ start_idle _ a.terminal.now a.state.now a.command.now c.requires.1.0 (kept)
+    ∙ start_idle _ a.terminal.now a.state.now a.command.now c.requires.least_buffer_in_bounds (kept)
     a.holding.amounts.remaining a.holding.amounts.reserved
     (sym c.is_running.ensures ∙
     c.if-is_running.false)))

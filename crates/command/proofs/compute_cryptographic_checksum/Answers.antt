@@ -13,12 +13,12 @@ pub returns-then-list-ne0 : goal.returns-then-list-ne0
 returns-then-list-ne0 c = let w = c.with_dol.ensures in
     
     let a = c.args in
-    let e = sym (checksum_own a.store.now _ c.value-list.ensures c.if-list-ne0.true) in record { said = w.0 ∙ ap dol_command_of e; kept = w.1.0 ∙ ap (λ (x : Option (List ℕ)). buffer_with_command x a.buffer.now) e; reason = w.1.1
+    let e = sym (checksum_own a.store.now _ c.value-list.ensures c.if-list-ne0.true) in record { said = w.said ∙ ap dol_command_of e; kept = w.kept ∙ ap (λ (x : Option (List ℕ)). buffer_with_command x a.buffer.now) e; reason = w.reason
             ∙ ap reason_dol_if_no_command e }
 
 pub returns : goal.returns
 returns c = let w = c.with_dol-2.ensures in
     
     let a = c.args in
-    let e = sym (checksum_default a.store.now _ c.value-list.ensures c.if-list-ne0.false) in record { said = w.0 ∙ ap dol_command_of e; kept = w.1.0 ∙ ap (λ (x : Option (List ℕ)). buffer_with_command x a.buffer.now) e; reason = w.1.1
+    let e = sym (checksum_default a.store.now _ c.value-list.ensures c.if-list-ne0.false) in record { said = w.said ∙ ap dol_command_of e; kept = w.kept ∙ ap (λ (x : Option (List ℕ)). buffer_with_command x a.buffer.now) e; reason = w.reason
             ∙ ap reason_dol_if_no_command e }

@@ -13,5 +13,5 @@ pub returns : goal.returns
 returns c = let w = c.with_dol.ensures in
     
     let a = c.args in
-    let e = sym (cryptogram_of a.p1 a.store.now _ c.value-list.ensures) in record { said = w.0 ∙ ap dol_command_of e; kept = w.1.0 ∙ ap (λ (x : Option (List ℕ)). buffer_with_command x a.buffer.now) e; reason = w.1.1
+    let e = sym (cryptogram_of a.p1 a.store.now _ c.value-list.ensures) in record { said = w.said ∙ ap dol_command_of e; kept = w.kept ∙ ap (λ (x : Option (List ℕ)). buffer_with_command x a.buffer.now) e; reason = w.reason
             ∙ ap reason_dol_if_no_command e }

@@ -37,19 +37,19 @@ pub slice_bounds-search_tags-end : goal.slice_bounds-search_tags-end
 slice_bounds-search_tags-end c = let e = ap length c.requires ∙ tags_length in omega (arith, c.part_of-part.ensures.from_le_to.1)
 
 
-pub overflow_add-result : goal.overflow_add-result
-overflow_add-result c = let k = row-found _ (sym (returns-in-At c).0) in omega arith
-
-
 pub returns-in-At : goal.returns-in-At
 returns-in-At c = let pre = c.requires in
     let p = c.part_of-part in
-    let s = c.search_tags-searched.ensures in record { found = part_known _ p.ensures.value (in_table _ (p.result.to - p.result.from) p.result.from pre s.1.0) c.in-At.is; halving = halved_known _ p.ensures.value (s.0 ∙ same-part _ (p.result.to - p.result.from) p.result.from pre)
-            c.in-At.is; few = few _ p.result.from (p.result.to - p.result.from) _ (omega (arith, p.ensures.from_le_to.1)) s.1.1.0 }
+    let s = c.search_tags-searched.ensures in record { found = part_known _ p.ensures.value (in_table _ (p.result.to - p.result.from) p.result.from pre s.found) c.in-At.is; halving = halved_known _ p.ensures.value (s.halving ∙ same-part _ (p.result.to - p.result.from) p.result.from pre)
+            c.in-At.is; few = few _ p.result.from (p.result.to - p.result.from) _ (omega (arith, p.ensures.from_le_to.1)) s.few }
+
+pub overflow_add-result : goal.overflow_add-result
+overflow_add-result c = let k = row-found _ (sym (returns-in-At c).found) in omega arith
+
 
 pub returns-in-Unknown : goal.returns-in-Unknown
 returns-in-Unknown c = let pre = c.requires in
     let p = c.part_of-part in
-    let s = c.search_tags-searched.ensures in record { found = part_unknown _ p.ensures.value (in_table _ (p.result.to - p.result.from) p.result.from pre s.1.0)
-          c.in-Unknown.is; halving = halved_unknown _ p.ensures.value (s.0 ∙ same-part _ (p.result.to - p.result.from) p.result.from pre)
-            c.in-Unknown.is; few = few _ p.result.from (p.result.to - p.result.from) _ (omega (arith, p.ensures.from_le_to.1)) s.1.1.0 }
+    let s = c.search_tags-searched.ensures in record { found = part_unknown _ p.ensures.value (in_table _ (p.result.to - p.result.from) p.result.from pre s.found)
+          c.in-Unknown.is; halving = halved_unknown _ p.ensures.value (s.halving ∙ same-part _ (p.result.to - p.result.from) p.result.from pre)
+            c.in-Unknown.is; few = few _ p.result.from (p.result.to - p.result.from) _ (omega (arith, p.ensures.from_le_to.1)) s.few }

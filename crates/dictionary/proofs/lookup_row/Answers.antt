@@ -9,4 +9,4 @@ use Rattle.dictionary.proofs.lookup_row.Goals as goal
 
 pub returns : goal.returns
 unfolding dictionary_rows
-returns c = let s = c.search_tags.ensures in record { found = s.1.0 dictionary_rows refl (proper_rising dictionary_rows rows_proper); halving = s.0; few = s.1.1.0; table = rows_proper }
+returns c = let s = c.search_tags.ensures in record { found = s.found dictionary_rows refl (proper_rising dictionary_rows rows_proper); halving = s.halving; few = s.few; table = rows_proper }

@@ -15,7 +15,7 @@ use Rattle.dol.proofs.Writing.{no_room, entry_room, fill_end, fill_step}
 use Rattle.dol.proofs.fill_entries.Goals as goal
 
 pub loop-rest-init : goal.loop-rest-init
-loop-rest-init c = (refl, refl, c.requires.0)
+loop-rest-init c = (refl, refl, c.requires.filled_dol_fits_at)
 
 pub shape_of-buffer-in_default : goal.shape_of-buffer-in_default
 shape_of-buffer-in_default c = c.loop-rest.invariant.1
@@ -33,7 +33,7 @@ write_entry-requires c = let fits : let lp = c.loop-rest in (2 ≤ c.in-Asked.si
     let e = sym c.entry_at-front.ensures ∙ c.in-Asked.is in
     let i = entry_inside _ _ _ e in
     (i.0, i.1, (entry_room _ _ _ lp.to (length lp.buffer) e lp.invariant.2).0) in
-    let f = fits in record { asked_in_bounds = omega arith; are_dictionary_tables = c.requires.1 }
+    let f = fits in record { asked_in_bounds = omega arith; are_dictionary_tables = c.requires.are_dictionary_tables }
 
 pub overflow_add-to : goal.overflow_add-to
 overflow_add-to c =

@@ -60,8 +60,7 @@ returns-then-not-is_present c =
     (lent_found a.entry.tag st.pre.1.tags
     c.search_tags-found.ensures.found) ∙
     c.in-At.is in
-    let i = sym c.is_present.ensures ∙ not-true _
-    c.if-not-is_present.true in
+    let i = sym c.is_present.ensures ∙ c.if-not-is_present.true in
     zeros_of _ _ _ _ _ _ c.repeat-then-not-is_present.ensures
     c.widen-n.ensures.0 (of_absent dictionary_rows a.store.now a.entry _ t f i)
 
@@ -72,7 +71,7 @@ offset_bounds-codes-row c =
       sym
     (lent_found
     c.args.entry.tag
-    c.requires.1.tags
+    c.requires.are_dictionary_tables.tags
     c.search_tags-found.ensures.found) ∙
     c.in-At.is in
     let in_table : c.in-At.row < row_count =
@@ -81,7 +80,18 @@ offset_bounds-codes-row c =
     let h = in_table in omega arith
 
 pub bounds-codes-row : goal.bounds-codes-row
-bounds-codes-row = in_table
+bounds-codes-row c =
+    let row-at : find_row dictionary_rows c.args.entry.tag ≡ At c.in-At.row =
+      sym
+    (lent_found
+    c.args.entry.tag
+    c.requires.are_dictionary_tables.tags
+    c.search_tags-found.ensures.found) ∙
+    c.in-At.is in
+    let in_table : c.in-At.row < row_count =
+      row-found
+    c.args.entry.tag (row-at) in
+    in_table
 
 pub returns : goal.returns
 returns c =
@@ -89,7 +99,7 @@ returns c =
       sym
     (lent_found
     c.args.entry.tag
-    c.requires.1.tags
+    c.requires.are_dictionary_tables.tags
     c.search_tags-found.ensures.found) ∙
     c.in-At.is in
     let in_table : c.in-At.row < row_count =
@@ -103,8 +113,7 @@ returns c =
     sym
     c.is_template.ensures ∙
     c.if-is_template.false in
-    let i = sym c.is_present.ensures ∙ not-false _
-    c.if-not-is_present.false in
+    let i = sym c.is_present.ensures ∙ c.if-not-is_present.false in
     let row = c.unpack_row_attributes-attributes.ensures ∙ lent_row st.pre.1.codes
     (in_table) in
     c.write_value.ensures

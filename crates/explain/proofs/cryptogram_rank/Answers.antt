@@ -18,5 +18,5 @@ returns-in-2 c = sym (ap rank_of_cryptogram_type c.in-2.is)
 
 pub returns-in_default : goal.returns-in_default
 unfolding rank_of_cryptogram_type
-returns-in_default c = sym (if_no _ _ (ne_eqb _ 1 c.in_default.rest.0.1) ∙ if_no _ _ (ne_eqb _ 2 c.in_default.rest.1))
+returns-in_default c = sym (if_no _ _ (ne_eqb _ 1 c.in_default.in_default-own.rest.0.1) ∙ if_no _ _ (ne_eqb _ 2 c.in_default.in_default-own.rest.1))
 

@@ -43,5 +43,5 @@ returns-in-Ended c =
       λ p e. let a = c.args in
     sym (if_yes _ _ (sym c.session_parts_in_ranges.ensures ∙ c.if-not-session_parts_in_ranges.false) ∙ ap
     (λ (q : Phase). explanation_in_phase q a.bytes.now) e) in
-    told _ (c.Ended-by.ensures ∙ by_phase _
+    told _ (c.ended_by.ensures ∙ by_phase _
     c.in-Ended.is)

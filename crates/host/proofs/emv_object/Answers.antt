@@ -27,8 +27,7 @@ pub returns-then-not-session_parts_in_ranges : goal.returns-then-not-session_par
 returns-then-not-session_parts_in_ranges c =
     let head-is : decoded_record_head (decoded_session c.args.session.now) ≡ DecodedRecordHead.Record c.in-Record.head =
       sym c.decode_record_head-held.ensures ∙ c.in-Record.is in
-    object_ranges _ _ _ _ (head-is) (sym c.session_parts_in_ranges.ensures ∙ not-true _
-    c.if-not-session_parts_in_ranges.true) _ c.refusal_word-then-not-session_parts_in_ranges.ensures
+    object_ranges _ _ _ _ (head-is) (sym c.session_parts_in_ranges.ensures ∙ c.if-not-session_parts_in_ranges.true) _ c.refusal_word-then-not-session_parts_in_ranges.ensures
 
 pub slice_bounds-object_in-end : goal.slice_bounds-object_in-end
 slice_bounds-object_in-end c =
@@ -40,5 +39,4 @@ pub returns : goal.returns
 returns c =
     let head-is : decoded_record_head (decoded_session c.args.session.now) ≡ DecodedRecordHead.Record c.in-Record.head =
       sym c.decode_record_head-held.ensures ∙ c.in-Record.is in
-    object_session _ _ _ _ (head-is) (sym c.session_parts_in_ranges.ensures ∙ not-false _
-    c.if-not-session_parts_in_ranges.false) _ _ c.object_in.ensures
+    object_session _ _ _ _ (head-is) (sym c.session_parts_in_ranges.ensures ∙ c.if-not-session_parts_in_ranges.false) _ _ c.object_in.ensures

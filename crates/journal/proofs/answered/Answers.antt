@@ -24,8 +24,7 @@ slice_bounds-answer-end-2 c = let f = sym c.fits2.ensures ∙ c.if-not-fits.fals
 
 
 pub returns : goal.returns
-returns c = let f = sym c.fits2.ensures ∙ not-false _
-    c.if-not-fits.false in
+returns c = let f = sym c.fits2.ensures ∙ c.if-not-fits.false in
     answer_due _ _ _ _ c.length_in-end.result _ _
     (sym c.is_long.ensures ∙
     c.if-is_long.false) f

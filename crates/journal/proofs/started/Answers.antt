@@ -18,8 +18,7 @@ slice_bounds-start-end c = let f = sym c.fits2.ensures ∙ c.if-not-fits.false i
 
 
 pub returns : goal.returns
-returns c = let f = sym c.fits2.ensures ∙ not-false _
-    c.if-not-fits.false in
+returns c = let f = sym c.fits2.ensures ∙ c.if-not-fits.false in
     start_due _ _ _ _ c.length_in-end.result _ _ f
     c.length_in-end.ensures.0 c.start-reply.ensures
     c.due_of.ensures

@@ -16,20 +16,20 @@ returns-then-bytes-lt-RECORD_SIZE c = sym (ap decoded_record_head (decoded_short
 pub returns-then-not-bytes_equal : goal.returns-then-not-bytes_equal
 returns-then-not-bytes_equal c =
     let phased : c.phase_of-phase.result ≡ phase_in_head c.args.bytes.now =
-      c.phase_of-phase.ensures ∙ ap phase_of_phase_fields c.Code-in.ensures in
+      c.phase_of-phase.ensures ∙ ap phase_of_phase_fields c.code_in.ensures in
     let tested : let l = c.args.bytes.now in bytes_equal (own_head l) (take record_head_size l) ≡ c.bytes_equal.result =
       sym
-    (c.bytes_equal.ensures ∙ rw (c.head_of-own.ensures, c.code_of_lem.ensures, phased)
+    (c.bytes_equal.ensures ∙ rw (c.head_of-own.ensures, c.code_of.ensures, phased)
     refl) in
     sym (ap decoded_record_head (decoded_head _ (tested ∙ c.if-not-bytes_equal.true)))
 
 pub returns : goal.returns
 returns c =
     let phased : c.phase_of-phase.result ≡ phase_in_head c.args.bytes.now =
-      c.phase_of-phase.ensures ∙ ap phase_of_phase_fields c.Code-in.ensures in
+      c.phase_of-phase.ensures ∙ ap phase_of_phase_fields c.code_in.ensures in
     let tested : let l = c.args.bytes.now in bytes_equal (own_head l) (take record_head_size l) ≡ c.bytes_equal.result =
       sym
-    (c.bytes_equal.ensures ∙ rw (c.head_of-own.ensures, c.code_of_lem.ensures, phased)
+    (c.bytes_equal.ensures ∙ rw (c.head_of-own.ensures, c.code_of.ensures, phased)
     refl) in
     rw (phased)
     (sym

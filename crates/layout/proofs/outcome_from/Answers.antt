@@ -33,6 +33,6 @@ unfolding element_with_number
 returns-in_default c =
     
     sym
-    (if_no _ _ (ne_eqb _ _ c.in_default.rest.0.0.0.1) ∙
-    (if_no _ _ (ne_eqb _ _ c.in_default.rest.0.0.1) ∙ (if_no _ _ (ne_eqb _ _ c.in_default.rest.0.1) ∙ if_no _ _ (ne_eqb _ _ c.in_default.rest.1))))
+    (if_no _ _ (ne_eqb _ _ c.in_default.in_default-own.rest.0.0.0.1) ∙
+    (if_no _ _ (ne_eqb _ _ c.in_default.in_default-own.rest.0.0.1) ∙ (if_no _ _ (ne_eqb _ _ c.in_default.in_default-own.rest.0.1) ∙ if_no _ _ (ne_eqb _ _ c.in_default.in_default-own.rest.1))))
 

@@ -15,18 +15,12 @@ pub returns-then-bytes-lt-RECORD_SIZE : goal.returns-then-bytes-lt-RECORD_SIZE
 returns-then-bytes-lt-RECORD_SIZE c = let a = c.args in sym (headed_no a.bytes.now a.phase a.count c.if-bytes-lt-RECORD_SIZE.true)
 
 
-pub shape_of-bytes : goal.shape_of-bytes
-shape_of-bytes c =
-    let a = c.args in
-    ap length (returns c) ∙ headed_length a.bytes.now a.phase a.count
-
-
 -- the whole head, and what lies after it
 pub returns : goal.returns
 returns c =
     let made : let a = c.args in c.head_of-head.result ≡ record_head_bytes (phase_fields_of a.phase) a.count =
       let a = c.args in
-    c.head_of-head.ensures ∙ ap (λ (x : PhaseFields). record_head_bytes x a.count) c.code_of_lem.ensures in
+    c.head_of-head.ensures ∙ ap (λ (x : PhaseFields). record_head_bytes x a.count) c.code_of.ensures in
     let a = c.args in
     let size : length c.head_of-head.result ≡ record_head_size = ap length (made) ∙ head_length
     (phase_fields_of a.phase) a.count in
@@ -34,3 +28,9 @@ returns c =
     (copied c.head_of-head.result _ c.copy.new.dst (simp (length-take, length-drop) (omega arith))
     c.copy.ensures.1 ∙ made)
     ∙ sym (headed_yes a.bytes.now a.phase a.count c.if-bytes-lt-RECORD_SIZE.false)
+
+pub shape_of-bytes : goal.shape_of-bytes
+shape_of-bytes c =
+    let a = c.args in
+    ap length (returns c) ∙ headed_length a.bytes.now a.phase a.count
+

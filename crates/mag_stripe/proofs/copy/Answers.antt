@@ -18,7 +18,7 @@ digit : (n base : ℕ) → (1 ≤ base) × (base ≤ 16) → n % base < 16
 digit n base h = omega (arith, mod-lt n h.0)
 
 pub loop-copied-init : goal.loop-copied-init
-loop-copied-init c = (refl, copying_start _ _ _ _ _ _ c.requires.0 c.requires.1.0.1)
+loop-copied-init c = (refl, copying_start _ _ _ _ _ _ c.requires.count_bound c.requires.end_in_bounds.1)
 
 
 pub next_place-next-requires : goal.next_place-next-requires
@@ -38,7 +38,7 @@ pub overflow_cast-left : goal.overflow_cast-left
 overflow_cast-left c =
     let lp = c.loop-copied in
     
-    omega (arith, digit lp.left c.args.base c.requires.1.1)
+    omega (arith, digit lp.left c.args.base c.requires.le_base)
 
 
 pub put_nibble-requires : goal.put_nibble-requires
@@ -50,13 +50,13 @@ put_nibble-requires c =
         arith,
         place,
         c.next_place-next.ensures.1,
-        c.requires.1.0.0,
+        c.requires.end_in_bounds.0,
         lp.invariant.0,
         length_nibbles
             lp.track,
         length_nibbles c.args.track.now,
       ),
-      digit lp.left c.args.base c.requires.1.1,
+      digit lp.left c.args.base c.requires.le_base,
     )
 
 

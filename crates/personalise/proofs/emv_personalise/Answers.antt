@@ -15,6 +15,6 @@ pub returns : goal.returns
 returns c = let a = c.args in
     let q = c.personalise-answer.ensures in
     let w = sym (ap is_personalise_word_of_written c.word.ensures ∙ says_written c.personalise-answer.result
-    q.1.1.1.0) in record { said = c.word.ensures ∙ ap personalise_word q.0; wrote = q.1.0 ∙ ap
+    q.small) in record { said = c.word.ensures ∙ ap personalise_word q.said; wrote = q.wrote ∙ ap
             (λ (b : Bool). records_buffer_after b (card_plan a.objects.now a.entries.now a.placements.now)
-            a.records.now) w; located = q.1.1.0 ∙ ap (λ (b : Bool). afl_buffer_after b a.entries.now a.afl.now) w }
+            a.records.now) w; located = q.located ∙ ap (λ (b : Bool). afl_buffer_after b a.entries.now a.afl.now) w }

@@ -67,6 +67,6 @@ returns c = let r = (let a = c.args in
     let q = c.with_list.ensures in
     promise (card_plan a.objects.now a.entries.now a.placements.now) a.records.now a.afl.now
     (λ i. omega (arith, c.type_inv.placements i)) c.with_list.result _ _
-    (q.0 ∙ sym (good_list (card_plan a.objects.now a.entries.now a.placements.now) a.records.now
+    (q.said ∙ sym (good_list (card_plan a.objects.now a.entries.now a.placements.now) a.records.now
     a.afl.now c.if-records-lt-RECORDS_ROOM.false c.if-afl-lt-AFL_ROOM.false (sym c.keeps.ensures ∙ c.if-not-keeps.false)))
-    q.1.0 q.1.1) in record { said = r.0; wrote = r.1.0; located = r.1.1.0; small = r.1.1.1.0; reads = r.1.1.1.1 }
+    q.wrote q.located) in record { said = r.0; wrote = r.1.0; located = r.1.1.0; small = r.1.1.1.0; reads = r.1.1.1.1 }

@@ -25,7 +25,10 @@ offset_bounds-codes-row c =
     omega (arith, row-at)
 
 pub bounds-codes-row : goal.bounds-codes-row
-bounds-codes-row = row-at
+bounds-codes-row c =
+    let row-at : c.in-At.row < row_count =
+      row-found _ (sym c.find_row-found.ensures.found ∙ c.in-At.is) in
+    row-at
 
 pub returns-then-is_skipped : goal.returns-then-is_skipped
 returns-then-is_skipped c =
@@ -33,7 +36,7 @@ returns-then-is_skipped c =
       row-found _ (sym c.find_row-found.ensures.found ∙ c.in-At.is) in
     let attributes-at : c.unpack_row_attributes-attributes.result ≡ attributes_of (row_at c.in-At.row) =
       c.unpack_row_attributes-attributes.ensures
-    ∙ lent_row c.requires.1.1.codes
+    ∙ lent_row c.requires.are_dictionary_tables.codes
     (row-at) in
     said_skipped _ _ _ c.tag_in-tag.ensures
     c.find_row-found.ensures.found _ c.in-At.is
@@ -46,7 +49,7 @@ returns-then-not-may_come c =
       row-found _ (sym c.find_row-found.ensures.found ∙ c.in-At.is) in
     let attributes-at : c.unpack_row_attributes-attributes.result ≡ attributes_of (row_at c.in-At.row) =
       c.unpack_row_attributes-attributes.ensures
-    ∙ lent_row c.requires.1.1.codes
+    ∙ lent_row c.requires.are_dictionary_tables.codes
     (row-at) in
     let said_at : let a = c.args in Said a.answer a.bytes.now a.item c.in-At.row c.may_come.result =
       said _ _ _ c.tag_in-tag.ensures
@@ -64,7 +67,7 @@ returns c =
       row-found _ (sym c.find_row-found.ensures.found ∙ c.in-At.is) in
     let attributes-at : c.unpack_row_attributes-attributes.result ≡ attributes_of (row_at c.in-At.row) =
       c.unpack_row_attributes-attributes.ensures
-    ∙ lent_row c.requires.1.1.codes
+    ∙ lent_row c.requires.are_dictionary_tables.codes
     (row-at) in
     let said_at : let a = c.args in Said a.answer a.bytes.now a.item c.in-At.row c.may_come.result =
       said _ _ _ c.tag_in-tag.ensures

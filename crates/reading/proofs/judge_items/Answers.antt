@@ -11,20 +11,20 @@ use Rattle.reading.proofs.Pending.{judged_skipped, judged_barred, row_is, judged
 use Rattle.reading.proofs.judge_items.Goals as goal
 
 pub loop-i-init : goal.loop-i-init
-loop-i-init c = let p = c.requires.0 in judging_none _ _ _ _ _ p.0 p.1.room
+loop-i-init c = let p = c.requires.store_len in judging_none _ _ _ _ _ p.0 p.1.room
 
 pub offset_bounds-items-i : goal.offset_bounds-items-i
-offset_bounds-items-i c = omega (arith, c.loop-i-test.true, c.requires.0.1.few)
+offset_bounds-items-i c = omega (arith, c.loop-i-test.true, c.requires.store_len.1.few)
 
 pub bounds-items-i : goal.bounds-items-i
-bounds-items-i c = omega ( arith, c.loop-i-test.true, c.requires.0.1.few, c.loop-i.invariant.room, )
+bounds-items-i c = omega ( arith, c.loop-i-test.true, c.requires.store_len.1.few, c.loop-i.invariant.room, )
 
 pub overflow_add-i : goal.overflow_add-i
-overflow_add-i c = omega ( arith, c.loop-i-test.true, c.requires.0.1.few, )
+overflow_add-i c = omega ( arith, c.loop-i-test.true, c.requires.store_len.1.few, )
 
 pub judge_item-verdict-requires : goal.judge_item-verdict-requires
-judge_item-verdict-requires c = let p = c.requires in record { item_value_inside = next_inside p.0.1 c.loop-i.invariant
-          c.loop-i-test.true; answer_nonzero = p.1; are_dictionary_tables = record {
+judge_item-verdict-requires c = let p = c.requires in record { item_value_inside = next_inside p.store_len.1 c.loop-i.invariant
+          c.loop-i-test.true; answer_nonzero = p.answer_nonzero; are_dictionary_tables = record {
           tags = c.dictionary_tags-tags.ensures;
           codes = c.packed_row_attributes-codes.ensures;
         } }
@@ -33,7 +33,7 @@ pub loop-i-smaller-in-Skipped : goal.loop-i-smaller-in-Skipped
 loop-i-smaller-in-Skipped c =
     let item-at : NextItem _ _ _ _ _ _ _ _ _ c.loop-i.invariant c.judge_item-verdict.result =
       record {
-  list = c.requires.0.1;
+  list = c.requires.store_len.1;
   more = c.loop-i-test.true;
   says = c.judge_item-verdict.ensures;
 } in
@@ -43,7 +43,7 @@ pub loop-i-preserved-in-Skipped : goal.loop-i-preserved-in-Skipped
 loop-i-preserved-in-Skipped c =
     let item-at : NextItem _ _ _ _ _ _ _ _ _ c.loop-i.invariant c.judge_item-verdict.result =
       record {
-  list = c.requires.0.1;
+  list = c.requires.store_len.1;
   more = c.loop-i-test.true;
   says = c.judge_item-verdict.ensures;
 } in
@@ -52,7 +52,7 @@ loop-i-preserved-in-Skipped c =
 pub returns-in-NotAllowed : goal.returns-in-NotAllowed
 returns-in-NotAllowed c = let item-at : NextItem _ _ _ _ _ _ _ _ _ c.loop-i.invariant c.judge_item-verdict.result =
       record {
-  list = c.requires.0.1;
+  list = c.requires.store_len.1;
   more = c.loop-i-test.true;
   says = c.judge_item-verdict.ensures;
 } in
@@ -62,20 +62,20 @@ pub is_free-requires : goal.is_free-requires
 is_free-requires c =
     let item-at : NextItem _ _ _ _ _ _ _ _ _ c.loop-i.invariant c.judge_item-verdict.result =
       record {
-  list = c.requires.0.1;
+  list = c.requires.store_len.1;
   more = c.loop-i-test.true;
   says = c.judge_item-verdict.ensures;
 } in
     (
   (row_is (item-at) c.in-ForRow.is).0,
-  c.requires.0.0,
+  c.requires.store_len.0,
   c.loop-i.invariant.values.marks,
 )
 
 pub returns-then-not-is_free : goal.returns-then-not-is_free
 returns-then-not-is_free c = let item-at : NextItem _ _ _ _ _ _ _ _ _ c.loop-i.invariant c.judge_item-verdict.result =
       record {
-  list = c.requires.0.1;
+  list = c.requires.store_len.1;
   more = c.loop-i-test.true;
   says = c.judge_item-verdict.ensures;
 } in
@@ -85,7 +85,7 @@ returns-then-not-is_free c = let item-at : NextItem _ _ _ _ _ _ _ _ _ c.loop-i.i
 pub add_pending-requires : goal.add_pending-requires
 add_pending-requires c = let item-at : NextItem _ _ _ _ _ _ _ _ _ c.loop-i.invariant c.judge_item-verdict.result =
       record {
-  list = c.requires.0.1;
+  list = c.requires.store_len.1;
   more = c.loop-i-test.true;
   says = c.judge_item-verdict.ensures;
 } in
@@ -95,7 +95,7 @@ pub overflow_add-pending : goal.overflow_add-pending
 overflow_add-pending c =
     let item-at : NextItem _ _ _ _ _ _ _ _ _ c.loop-i.invariant c.judge_item-verdict.result =
       record {
-  list = c.requires.0.1;
+  list = c.requires.store_len.1;
   more = c.loop-i-test.true;
   says = c.judge_item-verdict.ensures;
 } in
@@ -105,7 +105,7 @@ pub loop-i-smaller : goal.loop-i-smaller
 loop-i-smaller c =
     let item-at : NextItem _ _ _ _ _ _ _ _ _ c.loop-i.invariant c.judge_item-verdict.result =
       record {
-  list = c.requires.0.1;
+  list = c.requires.store_len.1;
   more = c.loop-i-test.true;
   says = c.judge_item-verdict.ensures;
 } in
@@ -115,7 +115,7 @@ pub loop-i-preserved : goal.loop-i-preserved
 loop-i-preserved c =
     let item-at : NextItem _ _ _ _ _ _ _ _ _ c.loop-i.invariant c.judge_item-verdict.result =
       record {
-  list = c.requires.0.1;
+  list = c.requires.store_len.1;
   more = c.loop-i-test.true;
   says = c.judge_item-verdict.ensures;
 } in
@@ -124,4 +124,4 @@ loop-i-preserved c =
     c.is_free.ensures c.if-not-is_free.false)
 
 pub returns : goal.returns
-returns c = let w = c.loop-i.invariant in record { judges = judged_all c.requires.0.1 w c.loop-i-test.false; room = w.room }
+returns c = let w = c.loop-i.invariant in record { judges = judged_all c.requires.store_len.1 w c.loop-i-test.false; room = w.room }

@@ -12,7 +12,7 @@ returns-then-h-ne128 c = record { lists = parts_none _ _ _ _ _ (λ v e. wrong_ta
 
 pub returns-in-Gpo : goal.returns-in-Gpo
 returns-in-Gpo c = let g = c.list_gpo.ensures in record { lists = parts_for _ _ _ c.in-Gpo.is
-          (λ v. as_gpo _ v c.if-h-ne128.false) g.0; room = g.1 }
+          (λ v. as_gpo _ v c.if-h-ne128.false) g.lists; room = g.room }
 
 pub returns-in-Record : goal.returns-in-Record
 returns-in-Record c = record { lists = parts_for _ _ _ c.in-Record.is (λ v. as_record _ v _)
@@ -20,7 +20,7 @@ returns-in-Record c = record { lists = parts_for _ _ _ c.in-Record.is (λ v. as_
 
 pub returns-in-Cryptogram : goal.returns-in-Cryptogram
 returns-in-Cryptogram c = let g = c.list_cryptogram.ensures in record { lists = parts_for _ _ _ c.in-Cryptogram.is
-          (λ v. as_cryptogram _ v c.if-h-ne128.false) g.0; room = g.1 }
+          (λ v. as_cryptogram _ v c.if-h-ne128.false) g.lists; room = g.room }
 
 pub returns-in-Checksum : goal.returns-in-Checksum
 returns-in-Checksum c = record { lists = parts_for _ _ _ c.in-Checksum.is (λ v. as_checksum _ v)

@@ -45,4 +45,4 @@ pub returns-in-Primitive : goal.returns-in-Primitive
 returns-in-Primitive c = let q = sym c.begin-beginning.ensures
     ∙ c.in-Body.is in
     let g = c.list_parts.ensures in record { opens = primitive_opened _ _ _ q c.outer_of-outer.ensures _
-          c.in-Primitive.is _ g.0; room = g.1 }
+          c.in-Primitive.is _ g.lists; room = g.room }

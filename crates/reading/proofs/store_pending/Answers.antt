@@ -71,8 +71,8 @@ loop-i-preserved c =
     let p = c.put.ensures in (
       omega (arith, c.loop-i-test.true),
       (
-        p.1,
-        p.0 ∙ ap₂ (put_row dictionary_rows _) c.row_in.ensures (value_at)
+        p.sized,
+        p.stored ∙ ap₂ (put_row dictionary_rows _) c.row_in.ensures (value_at)
             ∙ ap (λ (b : List ℕ). put_row dictionary_rows b (pending_entry_row x) (packed_item_value_in a.bytes.now x))
             c.loop-i.invariant.1.1
             ∙ after_one _ a.store.now _ _

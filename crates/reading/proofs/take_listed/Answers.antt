@@ -5,4 +5,4 @@ use Rattle.reading.proofs.Parts.{restore}
 use Rattle.reading.proofs.take_listed.Goals as goal
 
 pub returns : goal.returns
-returns c = let s = c.store_pending.ensures in record { given = restore s.0 c.judge_listed-judged.ensures.given; sized = s.1 }
+returns c = let s = c.store_pending.ensures in record { given = restore s.put c.judge_listed-judged.ensures.given; sized = s.sized }

@@ -25,8 +25,7 @@ pub returns-in-Fresh : goal.returns-in-Fresh
 returns-in-Fresh c =
     let by_phase : (p : Phase) → let a = c.args in let s = session_of a.phase a.count a.bytes.now in a.phase ≡ p → abort_step s a.reason a.command.now ≡ step_of_effect s a.command.now (effect_if_running p (λ (w : AwaitedResponse). end (ending_for_reason a.reason) (held_cvm w) a.bytes.now)) =
       λ p e. let a = c.args in
-    admitted_in _ _ _ c.if-command-lt-LEAST_BUFFER.false (sym c.session_parts_in_ranges.ensures ∙ not-false _
-    c.if-not-session_parts_in_ranges.false)
+    admitted_in _ _ _ c.if-command-lt-LEAST_BUFFER.false (sym c.session_parts_in_ranges.ensures ∙ c.if-not-session_parts_in_ranges.false)
     ∙ ap (λ (q : Phase). step_of_effect (session_of a.phase a.count a.bytes.now) a.command.now
     (effect_if_running q (λ (w : AwaitedResponse). end (ending_for_reason a.reason) (held_cvm w) a.bytes.now))) e in
     did_without_command _ c.refuse_call-in-Fresh.ensures
@@ -36,8 +35,7 @@ pub returns-in-Waiting : goal.returns-in-Waiting
 returns-in-Waiting c =
     let by_phase : (p : Phase) → let a = c.args in let s = session_of a.phase a.count a.bytes.now in a.phase ≡ p → abort_step s a.reason a.command.now ≡ step_of_effect s a.command.now (effect_if_running p (λ (w : AwaitedResponse). end (ending_for_reason a.reason) (held_cvm w) a.bytes.now)) =
       λ p e. let a = c.args in
-    admitted_in _ _ _ c.if-command-lt-LEAST_BUFFER.false (sym c.session_parts_in_ranges.ensures ∙ not-false _
-    c.if-not-session_parts_in_ranges.false)
+    admitted_in _ _ _ c.if-command-lt-LEAST_BUFFER.false (sym c.session_parts_in_ranges.ensures ∙ c.if-not-session_parts_in_ranges.false)
     ∙ ap (λ (q : Phase). step_of_effect (session_of a.phase a.count a.bytes.now) a.command.now
     (effect_if_running q (λ (w : AwaitedResponse). end (ending_for_reason a.reason) (held_cvm w) a.bytes.now))) e in
     let a = c.args in
@@ -49,8 +47,7 @@ pub returns-in-Ended : goal.returns-in-Ended
 returns-in-Ended c =
     let by_phase : (p : Phase) → let a = c.args in let s = session_of a.phase a.count a.bytes.now in a.phase ≡ p → abort_step s a.reason a.command.now ≡ step_of_effect s a.command.now (effect_if_running p (λ (w : AwaitedResponse). end (ending_for_reason a.reason) (held_cvm w) a.bytes.now)) =
       λ p e. let a = c.args in
-    admitted_in _ _ _ c.if-command-lt-LEAST_BUFFER.false (sym c.session_parts_in_ranges.ensures ∙ not-false _
-    c.if-not-session_parts_in_ranges.false)
+    admitted_in _ _ _ c.if-command-lt-LEAST_BUFFER.false (sym c.session_parts_in_ranges.ensures ∙ c.if-not-session_parts_in_ranges.false)
     ∙ ap (λ (q : Phase). step_of_effect (session_of a.phase a.count a.bytes.now) a.command.now
     (effect_if_running q (λ (w : AwaitedResponse). end (ending_for_reason a.reason) (held_cvm w) a.bytes.now))) e in
     did_without_command _ c.refuse_call-in-Ended.ensures

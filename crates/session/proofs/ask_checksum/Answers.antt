@@ -12,7 +12,7 @@ returns-in_default c =
     let a = c.args in
     let g = c.compute_cryptographic_checksum.ensures in
     handed_none a.count a.bytes.now (awaited_checksum_with_limit a.limit) a.command.now
-    (compute_cryptographic_checksum a.bytes.now) g.0 g.1.0 c.in_default.is
+    (compute_cryptographic_checksum a.bytes.now) g.said g.kept c.in_default.is
     c.fail_session.ensures
 
 
@@ -22,6 +22,6 @@ returns c =
     let a = c.args in
     let g = c.compute_cryptographic_checksum.ensures in
     handed_some a.count a.bytes.now (awaited_checksum_with_limit a.limit) a.command.now
-    (compute_cryptographic_checksum a.bytes.now) g.0 g.1.0 c.in-Command.is
+    (compute_cryptographic_checksum a.bytes.now) g.said g.kept c.in-Command.is
     c.issue_command.ensures
 

@@ -13,7 +13,7 @@ returns-in_default c =
     let a = c.args in
     let g = c.get_processing_options.ensures in
     handed_none a.count a.bytes.now AwaitedResponse.Gpo a.command.now (get_processing_options a.bytes.now)
-    g.0 g.1.0 c.in_default.is c.fail_session.ensures
+    g.said g.kept c.in_default.is c.fail_session.ensures
 
 
 pub returns : goal.returns
@@ -22,5 +22,5 @@ returns c =
     let a = c.args in
     let g = c.get_processing_options.ensures in
     handed_some a.count a.bytes.now AwaitedResponse.Gpo a.command.now (get_processing_options a.bytes.now)
-    g.0 g.1.0 c.in-Command.is c.issue_command.ensures
+    g.said g.kept c.in-Command.is c.issue_command.ensures
 

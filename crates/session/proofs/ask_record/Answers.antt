@@ -13,4 +13,4 @@ use Rattle.session.proofs.ask_record.Goals as goal
 pub returns : goal.returns
 returns c = let a = c.args in
     let w = wrote_yes _ _ a.wanted a.command.now c.read_record-size.ensures (omega arith)
-    c.requires.1 in record { transition = c.issue_command.ensures ∙ ap (command_transition (AwaitedResponse.Record a.place) (a.count + 1)) w.0; buffer = w.1 }
+    c.requires.sfi_bound in record { transition = c.issue_command.ensures ∙ ap (command_transition (AwaitedResponse.Record a.place) (a.count + 1)) w.0; buffer = w.1 }

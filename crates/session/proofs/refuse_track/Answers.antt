@@ -14,8 +14,8 @@ returns-in_default c =
     
     did_end _ _ _ (c.fail_session.ensures ∙ ap (failing_transition cvm_number_not_applicable c.args.count)
     c.verdict_number.ensures)
-    (unsound_read c.args.bytes.now c.args.card.now c.judge_answer-verdict.result c.requires.1
-    c.judge_answer-verdict.ensures c.in_default.keys2)
+    (unsound_read c.args.bytes.now c.args.card.now c.judge_answer-verdict.result c.requires.bytes_value
+    c.judge_answer-verdict.ensures c.in_default.in_default-own.keys2)
 
 
 pub returns : goal.returns
@@ -23,5 +23,5 @@ returns c =
     
     
     did_end _ _ _ c.fail_session-2.ensures (unsound_kept c.args.bytes.now c.args.card.now
-    c.judge_answer-verdict.result c.requires.1 c.judge_answer-verdict.ensures c.in-Accepted.is)
+    c.judge_answer-verdict.result c.requires.bytes_value c.judge_answer-verdict.ensures c.in-Accepted.is)
 

@@ -29,7 +29,7 @@ returns-in_default-verdict c =
     c.verdict_number.ensures)
     (read_ends Awaited.Checksum cvm_number_not_applicable a.store.now a.card.now
     (next_if_track_takes_digits a.store.now) c.read_answer-read.ensures.given
-    c.in_default-verdict.keys2)
+    c.in_default-verdict.in_default-verdict-own.keys2)
 
 
 pub returns : goal.returns

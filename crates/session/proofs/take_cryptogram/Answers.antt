@@ -18,7 +18,7 @@ returns-in_default c =
     c.requested_cvm.ensures c.verdict_number.ensures)
     (read_ends Awaited.Cryptogram (cvm_number a.asked.cvm) a.store.now a.card.now
     (next_after_cryptogram_read a.asked) c.read_answer-read.ensures.given
-    c.in_default.keys2)
+    c.in_default.in_default-own.keys2)
 
 
 pub returns : goal.returns

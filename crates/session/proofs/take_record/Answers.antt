@@ -37,7 +37,7 @@ returns-in_default-verdict c =
     c.in-At.is
     ∙ read_ends (Awaited.Record (record { number = c.in-At.asked.sfi })) cvm_number_not_applicable a.store.now a.card.now
     (next_after_record_read a.place) c.read_answer-read.ensures.given
-    c.in_default-verdict.keys2)
+    c.in_default-verdict.in_default-verdict-own.keys2)
 
 pub returns : goal.returns
 returns c =

@@ -30,8 +30,7 @@ unfolding in_checksum_ranges
 returns-then-not-is_mag_stripe_mode c =
     let past-running : let a = c.args in let b = a.bytes.now in both (all_stored_objects_fit_rows b) (in_checksum_ranges a.checksum a.count b) ≡ both (mag_stripe_mode b) (both (is_object_zero_or_absent b 0x95) (both (track2_and_bitmaps_non_empty b) (both (eqb a.checksum.limit (transaction_limit b)) (both (accepts_afl (stored_afl b)) (eqb a.count (2 + stored_afl_record_count b)))))) =
       both_assoc _ _ _ ∙ both_true _ (sym c.is_running.ensures ∙ c.if-not-is_running.false) in
-    sym (past-running ∙ both_no_left _ _ (sym c.is_mag_stripe_mode.ensures ∙ not-true _
-    c.if-not-is_mag_stripe_mode.true))
+    sym (past-running ∙ both_no_left _ _ (sym c.is_mag_stripe_mode.ensures ∙ c.if-not-is_mag_stripe_mode.true))
 
 pub returns-then-not-all_zero : goal.returns-then-not-all_zero
 unfolding in_checksum_ranges
@@ -39,8 +38,7 @@ returns-then-not-all_zero c =
     let past-running : let a = c.args in let b = a.bytes.now in both (all_stored_objects_fit_rows b) (in_checksum_ranges a.checksum a.count b) ≡ both (mag_stripe_mode b) (both (is_object_zero_or_absent b 0x95) (both (track2_and_bitmaps_non_empty b) (both (eqb a.checksum.limit (transaction_limit b)) (both (accepts_afl (stored_afl b)) (eqb a.count (2 + stored_afl_record_count b)))))) =
       both_assoc _ _ _ ∙ both_true _ (sym c.is_running.ensures ∙ c.if-not-is_running.false) in
     let past-mode : let a = c.args in let b = a.bytes.now in both (all_stored_objects_fit_rows b) (in_checksum_ranges a.checksum a.count b) ≡ both (is_object_zero_or_absent b 0x95) (both (track2_and_bitmaps_non_empty b) (both (eqb a.checksum.limit (transaction_limit b)) (both (accepts_afl (stored_afl b)) (eqb a.count (2 + stored_afl_record_count b))))) =
-      past-running ∙ both_true _ (sym c.is_mag_stripe_mode.ensures ∙ not-false _
-    c.if-not-is_mag_stripe_mode.false) in
+      past-running ∙ both_true _ (sym c.is_mag_stripe_mode.ensures ∙ c.if-not-is_mag_stripe_mode.false) in
     sym
     (past-mode ∙ both_no_left _ _
     (zero_is _ _ _ at_95 c.value.ensures c.all_zero.ensures c.if-not-all_zero.true))
@@ -51,14 +49,12 @@ returns-then-not-track2_and_bitmaps_non_empty c =
     let past-running : let a = c.args in let b = a.bytes.now in both (all_stored_objects_fit_rows b) (in_checksum_ranges a.checksum a.count b) ≡ both (mag_stripe_mode b) (both (is_object_zero_or_absent b 0x95) (both (track2_and_bitmaps_non_empty b) (both (eqb a.checksum.limit (transaction_limit b)) (both (accepts_afl (stored_afl b)) (eqb a.count (2 + stored_afl_record_count b)))))) =
       both_assoc _ _ _ ∙ both_true _ (sym c.is_running.ensures ∙ c.if-not-is_running.false) in
     let past-mode : let a = c.args in let b = a.bytes.now in both (all_stored_objects_fit_rows b) (in_checksum_ranges a.checksum a.count b) ≡ both (is_object_zero_or_absent b 0x95) (both (track2_and_bitmaps_non_empty b) (both (eqb a.checksum.limit (transaction_limit b)) (both (accepts_afl (stored_afl b)) (eqb a.count (2 + stored_afl_record_count b))))) =
-      past-running ∙ both_true _ (sym c.is_mag_stripe_mode.ensures ∙ not-false _
-    c.if-not-is_mag_stripe_mode.false) in
+      past-running ∙ both_true _ (sym c.is_mag_stripe_mode.ensures ∙ c.if-not-is_mag_stripe_mode.false) in
     let past-95 : let a = c.args in let b = a.bytes.now in both (all_stored_objects_fit_rows b) (in_checksum_ranges a.checksum a.count b) ≡ both (track2_and_bitmaps_non_empty b) (both (eqb a.checksum.limit (transaction_limit b)) (both (accepts_afl (stored_afl b)) (eqb a.count (2 + stored_afl_record_count b)))) =
       past-mode ∙ both_true _ (zero_is _ _ _ at_95 c.value.ensures c.all_zero.ensures
     c.if-not-all_zero.false) in
     sym
-    (past-95 ∙ both_no_left _ _ (sym c.track2_and_bitmaps_non_empty.ensures ∙ not-true _
-    c.if-not-track2_and_bitmaps_non_empty.true))
+    (past-95 ∙ both_no_left _ _ (sym c.track2_and_bitmaps_non_empty.ensures ∙ c.if-not-track2_and_bitmaps_non_empty.true))
 
 pub returns-then-checksum-transaction_limit : goal.returns-then-checksum-transaction_limit
 unfolding in_checksum_ranges
@@ -66,8 +62,7 @@ returns-then-checksum-transaction_limit c =
     let past-running : let a = c.args in let b = a.bytes.now in both (all_stored_objects_fit_rows b) (in_checksum_ranges a.checksum a.count b) ≡ both (mag_stripe_mode b) (both (is_object_zero_or_absent b 0x95) (both (track2_and_bitmaps_non_empty b) (both (eqb a.checksum.limit (transaction_limit b)) (both (accepts_afl (stored_afl b)) (eqb a.count (2 + stored_afl_record_count b)))))) =
       both_assoc _ _ _ ∙ both_true _ (sym c.is_running.ensures ∙ c.if-not-is_running.false) in
     let past-mode : let a = c.args in let b = a.bytes.now in both (all_stored_objects_fit_rows b) (in_checksum_ranges a.checksum a.count b) ≡ both (is_object_zero_or_absent b 0x95) (both (track2_and_bitmaps_non_empty b) (both (eqb a.checksum.limit (transaction_limit b)) (both (accepts_afl (stored_afl b)) (eqb a.count (2 + stored_afl_record_count b))))) =
-      past-running ∙ both_true _ (sym c.is_mag_stripe_mode.ensures ∙ not-false _
-    c.if-not-is_mag_stripe_mode.false) in
+      past-running ∙ both_true _ (sym c.is_mag_stripe_mode.ensures ∙ c.if-not-is_mag_stripe_mode.false) in
     let past-95 : let a = c.args in let b = a.bytes.now in both (all_stored_objects_fit_rows b) (in_checksum_ranges a.checksum a.count b) ≡ both (track2_and_bitmaps_non_empty b) (both (eqb a.checksum.limit (transaction_limit b)) (both (accepts_afl (stored_afl b)) (eqb a.count (2 + stored_afl_record_count b)))) =
       past-mode ∙ both_true _ (zero_is _ _ _ at_95 c.value.ensures c.all_zero.ensures
     c.if-not-all_zero.false) in
@@ -83,8 +78,7 @@ returns-in_default c =
     let past-running : let a = c.args in let b = a.bytes.now in both (all_stored_objects_fit_rows b) (in_checksum_ranges a.checksum a.count b) ≡ both (mag_stripe_mode b) (both (is_object_zero_or_absent b 0x95) (both (track2_and_bitmaps_non_empty b) (both (eqb a.checksum.limit (transaction_limit b)) (both (accepts_afl (stored_afl b)) (eqb a.count (2 + stored_afl_record_count b)))))) =
       both_assoc _ _ _ ∙ both_true _ (sym c.is_running.ensures ∙ c.if-not-is_running.false) in
     let past-mode : let a = c.args in let b = a.bytes.now in both (all_stored_objects_fit_rows b) (in_checksum_ranges a.checksum a.count b) ≡ both (is_object_zero_or_absent b 0x95) (both (track2_and_bitmaps_non_empty b) (both (eqb a.checksum.limit (transaction_limit b)) (both (accepts_afl (stored_afl b)) (eqb a.count (2 + stored_afl_record_count b))))) =
-      past-running ∙ both_true _ (sym c.is_mag_stripe_mode.ensures ∙ not-false _
-    c.if-not-is_mag_stripe_mode.false) in
+      past-running ∙ both_true _ (sym c.is_mag_stripe_mode.ensures ∙ c.if-not-is_mag_stripe_mode.false) in
     let past-95 : let a = c.args in let b = a.bytes.now in both (all_stored_objects_fit_rows b) (in_checksum_ranges a.checksum a.count b) ≡ both (track2_and_bitmaps_non_empty b) (both (eqb a.checksum.limit (transaction_limit b)) (both (accepts_afl (stored_afl b)) (eqb a.count (2 + stored_afl_record_count b)))) =
       past-mode ∙ both_true _ (zero_is _ _ _ at_95 c.value.ensures c.all_zero.ensures
     c.if-not-all_zero.false) in
@@ -104,8 +98,7 @@ returns-then-n-lt2 c =
     let past-running : let a = c.args in let b = a.bytes.now in both (all_stored_objects_fit_rows b) (in_checksum_ranges a.checksum a.count b) ≡ both (mag_stripe_mode b) (both (is_object_zero_or_absent b 0x95) (both (track2_and_bitmaps_non_empty b) (both (eqb a.checksum.limit (transaction_limit b)) (both (accepts_afl (stored_afl b)) (eqb a.count (2 + stored_afl_record_count b)))))) =
       both_assoc _ _ _ ∙ both_true _ (sym c.is_running.ensures ∙ c.if-not-is_running.false) in
     let past-mode : let a = c.args in let b = a.bytes.now in both (all_stored_objects_fit_rows b) (in_checksum_ranges a.checksum a.count b) ≡ both (is_object_zero_or_absent b 0x95) (both (track2_and_bitmaps_non_empty b) (both (eqb a.checksum.limit (transaction_limit b)) (both (accepts_afl (stored_afl b)) (eqb a.count (2 + stored_afl_record_count b))))) =
-      past-running ∙ both_true _ (sym c.is_mag_stripe_mode.ensures ∙ not-false _
-    c.if-not-is_mag_stripe_mode.false) in
+      past-running ∙ both_true _ (sym c.is_mag_stripe_mode.ensures ∙ c.if-not-is_mag_stripe_mode.false) in
     let past-95 : let a = c.args in let b = a.bytes.now in both (all_stored_objects_fit_rows b) (in_checksum_ranges a.checksum a.count b) ≡ both (track2_and_bitmaps_non_empty b) (both (eqb a.checksum.limit (transaction_limit b)) (both (accepts_afl (stored_afl b)) (eqb a.count (2 + stored_afl_record_count b)))) =
       past-mode ∙ both_true _ (zero_is _ _ _ at_95 c.value.ensures c.all_zero.ensures
     c.if-not-all_zero.false) in
@@ -129,8 +122,7 @@ returns c =
     let past-running : let a = c.args in let b = a.bytes.now in both (all_stored_objects_fit_rows b) (in_checksum_ranges a.checksum a.count b) ≡ both (mag_stripe_mode b) (both (is_object_zero_or_absent b 0x95) (both (track2_and_bitmaps_non_empty b) (both (eqb a.checksum.limit (transaction_limit b)) (both (accepts_afl (stored_afl b)) (eqb a.count (2 + stored_afl_record_count b)))))) =
       both_assoc _ _ _ ∙ both_true _ (sym c.is_running.ensures ∙ c.if-not-is_running.false) in
     let past-mode : let a = c.args in let b = a.bytes.now in both (all_stored_objects_fit_rows b) (in_checksum_ranges a.checksum a.count b) ≡ both (is_object_zero_or_absent b 0x95) (both (track2_and_bitmaps_non_empty b) (both (eqb a.checksum.limit (transaction_limit b)) (both (accepts_afl (stored_afl b)) (eqb a.count (2 + stored_afl_record_count b))))) =
-      past-running ∙ both_true _ (sym c.is_mag_stripe_mode.ensures ∙ not-false _
-    c.if-not-is_mag_stripe_mode.false) in
+      past-running ∙ both_true _ (sym c.is_mag_stripe_mode.ensures ∙ c.if-not-is_mag_stripe_mode.false) in
     let past-95 : let a = c.args in let b = a.bytes.now in both (all_stored_objects_fit_rows b) (in_checksum_ranges a.checksum a.count b) ≡ both (track2_and_bitmaps_non_empty b) (both (eqb a.checksum.limit (transaction_limit b)) (both (accepts_afl (stored_afl b)) (eqb a.count (2 + stored_afl_record_count b)))) =
       past-mode ∙ both_true _ (zero_is _ _ _ at_95 c.value.ensures c.all_zero.ensures
     c.if-not-all_zero.false) in

@@ -13,7 +13,7 @@ use Rattle.dictionary.proofs.unpack_row_attributes.Reads as unpacked
 use Rattle.session_record.proofs.next_held.Goals as goal
 
 pub loop-row-init : goal.loop-row-init
-loop-row-init c = passed_none _ c.args.from c.args.start (omega arith) c.requires.1.1.1
+loop-row-init c = passed_none _ c.args.from c.args.start (omega arith) c.requires.from_le_row_count.1
 
 
 pub bounds-bytes-at : goal.bounds-bytes-at
@@ -35,7 +35,7 @@ overflow_add-at c =
       let lp = c.loop-row in
     
     stands lp.row _ _ (omega arith) lp.invariant.place
-    (row_read _ lp.row _ (omega arith) c.requires.1.0 c.unpack_row_attributes.ensures) in
+    (row_read _ lp.row _ (omega arith) c.requires.codes_value c.unpack_row_attributes.ensures) in
     let s = stood in omega arith
 
 pub overflow_add-at-in-loop-row : goal.overflow_add-at-in-loop-row
@@ -44,7 +44,7 @@ overflow_add-at-in-loop-row c =
       let lp = c.loop-row in
     
     stands lp.row _ _ (omega arith) lp.invariant.place
-    (row_read _ lp.row _ (omega arith) c.requires.1.0 c.unpack_row_attributes.ensures) in
+    (row_read _ lp.row _ (omega arith) c.requires.codes_value c.unpack_row_attributes.ensures) in
     let s = stood in omega arith
 
 pub loop-row-preserved : goal.loop-row-preserved
@@ -53,7 +53,7 @@ loop-row-preserved c =
       let lp = c.loop-row in
     
     stands lp.row _ _ (omega arith) lp.invariant.place
-    (row_read _ lp.row _ (omega arith) c.requires.1.0 c.unpack_row_attributes.ensures) in
+    (row_read _ lp.row _ (omega arith) c.requires.codes_value c.unpack_row_attributes.ensures) in
     let lp = c.loop-row in
     passed_more _ _ lp.row lp.at _ lp.invariant (omega arith) (stood) (omega arith)
 

@@ -12,13 +12,13 @@ use Rattle.session_record.proofs.row_fits.Goals as goal
 
 pub returns-then-place-stored : goal.returns-then-place-stored
 returns-then-place-stored c = 
-    sym (place_long (row_with_attributes_and_tag_zero c.args.a) _ (sym c.requires.0) (omega arith))
+    sym (place_long (row_with_attributes_and_tag_zero c.args.a) _ (sym c.requires.place_len) (omega arith))
 
 
 pub returns-then-stored-a : goal.returns-then-stored-a
 returns-then-stored-a c =
     
-    sym (place_short (row_with_attributes_and_tag_zero c.args.a) _ (sym c.requires.0) (λ e. omega arith) (omega arith)
+    sym (place_short (row_with_attributes_and_tag_zero c.args.a) _ (sym c.requires.place_len) (λ e. omega arith) (omega arith)
     (omega arith))
 
 
@@ -30,6 +30,6 @@ returns c =
     let st = c.widen-stored in
     c.digits_match_form.ensures
     ∙ ap (λ (n : ℕ). digits_match_form c.args.a.form (take (n - 1) (drop 1 p))) st.ensures.0
-    ∙ sym (place_digits (row_with_attributes_and_tag_zero c.args.a) p (sym c.requires.0) (λ e. omega arith) (omega arith)
+    ∙ sym (place_digits (row_with_attributes_and_tag_zero c.args.a) p (sym c.requires.place_len) (λ e. omega arith) (omega arith)
     (omega arith))
 

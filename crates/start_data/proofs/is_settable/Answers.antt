@@ -49,8 +49,7 @@ returns-then-is_present c =
     c.requires.1
     c.requires.0 in
     sym (both_true _ (sym (start-bit e) ∙ eq-eqb _ _ c.if-attributes-ne1.false)
-    ∙ both_true _ (sym (row_fits _ _ c.length_and_digits_fit_row.ensures e) ∙ not-false _
-    c.if-not-length_and_digits_fit_row.false)
+    ∙ both_true _ (sym (row_fits _ _ c.length_and_digits_fit_row.ensures e) ∙ c.if-not-length_and_digits_fit_row.false)
     ∙ both_no_left _ _ (ap not (sym c.is_present.ensures ∙ c.if-is_present.true)))
 
 
@@ -64,7 +63,6 @@ returns c =
     c.requires.0 in
     c.is_type_listed.ensures
     ∙ sym (both_true _ (sym (start-bit e) ∙ eq-eqb _ _ c.if-attributes-ne1.false)
-    ∙ both_true _ (sym (row_fits _ _ c.length_and_digits_fit_row.ensures e) ∙ not-false _
-    c.if-not-length_and_digits_fit_row.false)
+    ∙ both_true _ (sym (row_fits _ _ c.length_and_digits_fit_row.ensures e) ∙ c.if-not-length_and_digits_fit_row.false)
     ∙ both_true _ (ap not (sym c.is_present.ensures ∙ c.if-is_present.false)))
 

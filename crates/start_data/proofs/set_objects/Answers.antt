@@ -20,10 +20,10 @@ use Rattle.start_data.proofs.set_object.Reads as set-object
 use Rattle.start_data.proofs.set_objects.Goals as goal
 
 pub loop-s-init : goal.loop-s-init
-loop-s-init c = (refl, (c.requires.0, omega arith))
+loop-s-init c = (refl, (c.requires.store_len, omega arith))
 
 pub shape_of-store-in_default : goal.shape_of-store-in_default
-shape_of-store-in_default c = c.loop-s.invariant.1.0 ∙ sym c.requires.0
+shape_of-store-in_default c = c.loop-s.invariant.1.0 ∙ sym c.requires.store_len
 
 pub returns-in_default : goal.returns-in_default
 returns-in_default c = let lp = c.loop-s in record { set = says_not _ (lp.invariant.0 ∙ set_broken _ c.loop-s-test.true _
@@ -62,18 +62,18 @@ slice_bounds-rest-start c =
     let h = fits-at in omega arith
 
 pub set_object-requires : goal.set_object-requires
-set_object-requires c = record { store_len = c.loop-s.invariant.1.0; are_dictionary_tables = c.requires.1 }
+set_object-requires c = record { store_len = c.loop-s.invariant.1.0; are_dictionary_tables = c.requires.are_dictionary_tables }
 
 pub shape_of-store-then-not-set_object : goal.shape_of-store-then-not-set_object
-shape_of-store-then-not-set_object c = c.set_object.ensures.sized ∙ sym c.requires.0
+shape_of-store-then-not-set_object c = c.set_object.ensures.sized ∙ sym c.requires.store_len
 
 pub returns-then-not-set_object : goal.returns-then-not-set_object
 returns-then-not-set_object c = let next-at : primitive_at_front c.loop-s.s.now ≡ front.Object c.in-Object.h =
       sym c.primitive_at_front-front.ensures ∙ c.in-Object.is in
     let set = c.set_object.ensures in record { set = says_not _ (c.loop-s.invariant.0 ∙ set_stopped _
           c.loop-s-test.true _ (next-at) _
-          (was_not _ _ set.0 c.if-not-set_object.true))
-          refl; sized = set.1 }
+          (was_not _ _ set.set c.if-not-set_object.true))
+          refl; sized = set.sized }
 
 pub loop-s-smaller : goal.loop-s-smaller
 loop-s-smaller c =
@@ -92,12 +92,12 @@ loop-s-preserved c =
     let set = c.set_object.ensures in
     let h = fits-at in (
       c.loop-s.invariant.0 ∙ set_on _ c.loop-s-test.true _
-          (next-at) _ _ (was_set _ set.0 c.if-not-set_object.false),
-      (set.1, simp (length-take, length-drop) (omega arith)),
+          (next-at) _ _ (was_set _ set.set c.if-not-set_object.false),
+      (set.sized, simp (length-take, length-drop) (omega arith)),
     )
 
 pub shape_of-store : goal.shape_of-store
-shape_of-store c = c.loop-s.invariant.1.0 ∙ sym c.requires.0
+shape_of-store c = c.loop-s.invariant.1.0 ∙ sym c.requires.store_len
 
 pub returns : goal.returns
 returns c = let lp = c.loop-s in record { set = says_set (lp.invariant.0 ∙ set_end _ _ c.loop-s-test.false) refl; sized = lp.invariant.1.0 }

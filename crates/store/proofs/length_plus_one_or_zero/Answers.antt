@@ -11,6 +11,6 @@ use Rattle.store.proofs.length_plus_one_or_zero.Goals as goal
 pub returns : goal.returns
 returns c =
     let a = c.args in
-    c.byte_at.ensures ∙ ap (λ (n : ℕ). get_or a.bytes.now n 0) c.start_of_lem.ensures ∙ sym
+    c.byte_at.ensures ∙ ap (λ (n : ℕ). get_or a.bytes.now n 0) c.start_of.ensures ∙ sym
     (length_byte_at dictionary_rows a.bytes.now a.row)
 

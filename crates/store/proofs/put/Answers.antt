@@ -14,14 +14,14 @@ use Rattle.store.proofs.put.Goals as goal
 pub write-requires : goal.write-requires
 write-requires c =
     
-    let at = c.start_of_lem.ensures in
-    let i = row_inside c.args.row c.requires.1.0 in
+    let at = c.start_of-at.ensures in
+    let i = row_inside c.args.row c.requires.row_lt_row_count.0 in
     (omega arith, omega arith)
 
 
 pub returns : goal.returns
 unfolding put_row
 returns c = let a = c.args in
-    let f = fits_row a.bytes.now a.row a.v.now c.requires.0 c.requires.1.0 c.requires.1.1 in
+    let f = fits_row a.bytes.now a.row a.v.now c.requires.bytes_len c.requires.row_lt_row_count.0 c.requires.row_lt_row_count.1 in
     let p = c.write.ensures ∙ ap (λ (n : ℕ). length_and_value_written_at a.bytes.now n a.v.now)
-    c.start_of_lem.ensures in record { stored = p; sized = ap length p ∙ put_length dictionary_rows a.bytes.now a.row a.v.now f ∙ c.requires.0 }
+    c.start_of-at.ensures in record { stored = p; sized = ap length p ∙ put_length dictionary_rows a.bytes.now a.row a.v.now f ∙ c.requires.bytes_len }

@@ -36,11 +36,11 @@ length-stored b k n x p e ex en =
 pub returns-then-e-bytes : goal.returns-then-e-bytes
 returns-then-e-bytes c =
     let a = c.args in
-    let o = c.Span-of in
+    let o = c.span_of-span in
     let n = c.value_length-n in
-    let f = ap (λ (p : RowOffsetAndMaxLength). p.at) o.ensures.0 in
+    let f = ap (λ (p : RowOffsetAndMaxLength). p.at) o.ensures.value in
     let l = length-stored a.bytes.now a.row n.result c.byte_at.result o.result
-    o.ensures.0 c.byte_at.ensures n.ensures.value in
+    o.ensures.value c.byte_at.ensures n.ensures.value in
     cut a.bytes.now a.row (o.result.at + 1) (o.result.at + 1 + n.result - (o.result.at + 1)) (omega arith)
     (omega arith) (omega arith)
 
@@ -49,11 +49,11 @@ pub returns-then-first-bytes : goal.returns-then-first-bytes
 returns-then-first-bytes c =
     let a = c.args in
     let b = a.bytes.now in
-    let o = c.Span-of in
+    let o = c.span_of-span in
     let m = c.value_length-n in
-    let f = ap (λ (p : RowOffsetAndMaxLength). p.at) o.ensures.0 in
+    let f = ap (λ (p : RowOffsetAndMaxLength). p.at) o.ensures.value in
     let l = length-stored b a.row m.result c.byte_at.result o.result
-    o.ensures.0 c.byte_at.ensures m.ensures.value in
+    o.ensures.value c.byte_at.ensures m.ensures.value in
     let n = stored_length dictionary_rows b a.row in
     let s : length (drop (o.result.at + 1) b) ≤ length b - (o.result.at + 1) = simp length-drop (omega arith) in
     let t : length (drop (o.result.at + 1) b) ≤ n = simp length-drop (omega arith) in
@@ -64,7 +64,7 @@ returns-then-first-bytes c =
 pub returns : goal.returns
 returns c =
     let a = c.args in
-    let f = ap (λ (p : RowOffsetAndMaxLength). p.at) c.Span-of.ensures.0
+    let f = ap (λ (p : RowOffsetAndMaxLength). p.at) c.span_of-span.ensures.value
     in
     let h : length a.bytes.now ≤ row_offset dictionary_rows a.row = omega arith in
     sym (ap bytes_or_empty_if_absent (no_place dictionary_rows a.bytes.now a.row h))

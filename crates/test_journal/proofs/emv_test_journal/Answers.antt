@@ -28,7 +28,7 @@ pub loop-at-preserved : goal.loop-at-preserved
 loop-at-preserved c =
     let b = c.args.bytes.now in
     let lp = c.loop-at in
-    let e = c.end_of_lem in (
+    let e = c.end_of-end in (
       e.ensures.1,
       subst (CheckerWasFed c.feed-checker-in-loop-at.result) (parted b lp.at e.result e.ensures.0)
           (c.feed-checker-in-loop-at.ensures.follows (take lp.at b) lp.invariant.1),

@@ -32,15 +32,13 @@ both-there (present s) (present t) e f = refl
 pub returns-then-not-is_present : goal.returns-then-not-is_present
 returns-then-not-is_present c =
     sym
-    (no-transaction _ _ (sym (there_by_row _ 0x5F2A at_5f2a c.is_present.ensures) ∙ not-true _
-    c.if-not-is_present.true))
+    (no-transaction _ _ (sym (there_by_row _ 0x5F2A at_5f2a c.is_present.ensures) ∙ c.if-not-is_present.true))
 
 
 pub returns-then-not-is_present-2 : goal.returns-then-not-is_present-2
 returns-then-not-is_present-2 c =
     sym
-    (no-application _ _ (sym (there_by_row _ 0x9F42 at_9f42 c.is_present-2.ensures) ∙ not-true _
-    c.if-not-is_present-2.true))
+    (no-application _ _ (sym (there_by_row _ 0x9F42 at_9f42 c.is_present-2.ensures) ∙ c.if-not-is_present-2.true))
 
 
 pub returns : goal.returns
@@ -50,7 +48,6 @@ returns c =
     ∙ ap₂ bytes_equal (bytes_by_row _ 0x5F2A at_5f2a c.value.ensures)
     (bytes_by_row _ 0x9F42 at_9f42 c.value-2.ensures)
     ∙ sym (both-there _ _
-    (sym (there_by_row _ 0x5F2A at_5f2a c.is_present.ensures) ∙ not-false _
-    c.if-not-is_present.false)
+    (sym (there_by_row _ 0x5F2A at_5f2a c.is_present.ensures) ∙ c.if-not-is_present.false)
     (sym (there_by_row _ 0x9F42 at_9f42 c.is_present-2.ensures) ∙ c.if-not-is_present-2.false))
 

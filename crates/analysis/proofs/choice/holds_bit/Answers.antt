@@ -25,8 +25,7 @@ pub returns : goal.returns
 unfolding tvr_byte_bit_in_codes both either
 returns c =
     simp (
-      sym c.byte_has_bit.ensures ∙ not-false _
-          c.if-not-byte_has_bit.false,
+      sym c.byte_has_bit.ensures ∙ c.if-not-byte_has_bit.false,
       sym c.byte_has_bit-2.ensures ∙ c.if-byte_has_bit.false,
     )
     c.byte_has_bit-3.ensures

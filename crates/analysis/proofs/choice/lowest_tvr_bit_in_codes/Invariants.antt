@@ -10,7 +10,7 @@ use Rattle.analysis.proofs.Stages.{Clear, byte_found, byte_clear, all_clear}
 use Rattle.analysis.proofs.choice.lowest_tvr_bit_in_codes.Given as goal
 
 abbrev pub invariant-loop-i : goal.invariant-loop-i
-invariant-loop-i l = (l.i ≤ 5) × Clear l.bits (record { l.card = l.card; l.terminal = l.terminal }) (l.i * 8)
+invariant-loop-i l = (l.i ≤ 5) × Clear l.bits (record { card = l.card; terminal = l.terminal }) (l.i * 8)
 
 
 abbrev pub decreases-loop-i : goal.decreases-loop-i

@@ -42,5 +42,5 @@ unfolding online_capability_by_digit
 returns-in_default c =
     
     sym
-    (if_no _ _ (is_none _ 1 4 c.in_default.rest.0.0.1) ∙ (if_no _ _ (is_none _ 2 5 c.in_default.rest.0.1) ∙ if_no _ _ (is_none _ 3 6 c.in_default.rest.1)))
+    (if_no _ _ (is_none _ 1 4 c.in_default.in_default-own.rest.0.0.1) ∙ (if_no _ _ (is_none _ 2 5 c.in_default.in_default-own.rest.0.1) ∙ if_no _ _ (is_none _ 3 6 c.in_default.in_default-own.rest.1)))
 

@@ -41,6 +41,6 @@ pub returns-in_default : goal.returns-in_default
 returns-in_default c =
     
     and_both _ _ _ _ refl c.cvm_amount_met.ensures
-    ∙ sym (condition_amount _ _ _ c.in_default.rest.0.0.0.0.0.1 c.in_default.rest.0.0.0.0.1 c.in_default.rest.0.0.0.1 c.in_default.rest.0.0.1 c.in_default.rest.0.1
-    c.in_default.rest.1)
+    ∙ sym (condition_amount _ _ _ c.in_default.in_default-own.rest.0.0.0.0.0.1 c.in_default.in_default-own.rest.0.0.0.0.1 c.in_default.in_default-own.rest.0.0.0.1 c.in_default.in_default-own.rest.0.0.1 c.in_default.in_default-own.rest.0.1
+    c.in_default.in_default-own.rest.1)
 

@@ -25,9 +25,9 @@ returns-in-31 c = simp (c.in-31.is, c.weight_if_set-bits.ensures.0, zero-add, ad
 pub returns-in_default : goal.returns-in_default
 unfolding cvm_result_of_supported if
 returns-in_default c = simp (
-  ne_eqb _ _ c.in_default.rest.0.0.1,
-  ne_eqb _ _ c.in_default.rest.0.1,
-  ne_eqb _ _ c.in_default.rest.1,
+  ne_eqb _ _ c.in_default.in_default-own.rest.0.0.1,
+  ne_eqb _ _ c.in_default.in_default-own.rest.0.1,
+  ne_eqb _ _ c.in_default.in_default-own.rest.1,
   c.weight_if_set-bits.ensures.0,
   zero-add,
   add-zero,

@@ -24,8 +24,7 @@ returns-then-not-there c =
 pub returns-then-list-eq0 : goal.returns-then-list-eq0
 returns-then-list-eq0 c =
     let a = c.args in
-    let p = sym c.byte_has_bit.ensures ∙ not-false _
-    c.if-not-byte_has_bit.false in
+    let p = sym c.byte_has_bit.ensures ∙ c.if-not-byte_has_bit.false in
     c.cvm_not_performed-then-list-eq0.ensures ∙ sym
     (list_empty _ _ p a.there a.list.now c.if-not-there.false (omega arith))
 
@@ -33,8 +32,7 @@ returns-then-list-eq0 c =
 pub returns-then-list-lt8 : goal.returns-then-list-lt8
 returns-then-list-lt8 c =
     let a = c.args in
-    let p = sym c.byte_has_bit.ensures ∙ not-false _
-    c.if-not-byte_has_bit.false in
+    let p = sym c.byte_has_bit.ensures ∙ c.if-not-byte_has_bit.false in
     c.no_cvm_performed.ensures ∙ sym
     (list_short _ _ p a.there a.list.now c.if-not-there.false (λ z. omega arith)
     (omega arith))
@@ -43,8 +41,7 @@ returns-then-list-lt8 c =
 pub returns : goal.returns
 returns c =
     let a = c.args in
-    let p = sym c.byte_has_bit.ensures ∙ not-false _
-    c.if-not-byte_has_bit.false in
+    let p = sym c.byte_has_bit.ensures ∙ c.if-not-byte_has_bit.false in
     c.by_cvm_rules.ensures ∙ sym
     (list_rules _ _ p a.there a.list.now c.if-not-there.false
     (omega arith))

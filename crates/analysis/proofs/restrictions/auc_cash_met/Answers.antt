@@ -17,5 +17,5 @@ returns-in-1 c =
 
 pub returns-in_default : goal.returns-in_default
 unfolding auc_allows_cash
-returns-in_default c = sym (if_no _ _ (is_none _ _ _ c.in_default.rest.1))
+returns-in_default c = sym (if_no _ _ (is_none _ _ _ c.in_default.in_default-own.rest.1))
 

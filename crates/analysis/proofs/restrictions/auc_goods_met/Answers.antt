@@ -11,11 +11,11 @@ pub returns-in-0 : goal.returns-in-0
 unfolding auc_allows_goods_or_services
 returns-in-0 c =
     let a = c.args in
-    c.by_country.ensures ∙ ap₂ (requirement_by_country a.country) c.one_of_lem.ensures
+    c.by_country.ensures ∙ ap₂ (requirement_by_country a.country) c.one_of.ensures
     c.one_of-in-0.ensures ∙ sym (if_yes _ _ (is_one _ _ _ c.in-0.is))
 
 
 pub returns-in_default : goal.returns-in_default
 unfolding auc_allows_goods_or_services
-returns-in_default c = sym (if_no _ _ (is_none _ _ _ c.in_default.rest.1))
+returns-in_default c = sym (if_no _ _ (is_none _ _ _ c.in_default.in_default-own.rest.1))
 

@@ -62,10 +62,8 @@ returns c =
     let a = c.args in
     there a.there a.usage.now a.atm a.country a.transaction a.cashback c.auc_cashback_met.result
     c.if-not-there.false
-    (both_true _ (sym c.auc_terminal_met.ensures ∙ not-false _
-    c.if-not-auc_terminal_met.false)
-    ∙ both_true _ (sym c.auc_cash_met.ensures ∙ not-false _
-    c.if-not-auc_cash_met.false)
+    (both_true _ (sym c.auc_terminal_met.ensures ∙ c.if-not-auc_terminal_met.false)
+    ∙ both_true _ (sym c.auc_cash_met.ensures ∙ c.if-not-auc_cash_met.false)
     ∙ both_true _ (sym c.auc_goods_met.ensures ∙ c.if-not-auc_goods_met.false)
     ∙ sym c.auc_cashback_met.ensures)
 

@@ -13,11 +13,11 @@ returns-then-is_misplaced c =
     
     let a = c.args in
     sym (bad_stray (parsed_objects_or_empty a.objects.now) (placements_in a.placements.now) a.records a.k
-    a.count c.requires.1 (sym c.is_misplaced.ensures ∙ c.if-is_misplaced.true))
+    a.count c.requires.count_value (sym c.is_misplaced.ensures ∙ c.if-is_misplaced.true))
 
 
 pub size-requires : goal.size-requires
-size-requires c = c.requires.0
+size-requires c = c.requires.objects_value
 
 pub returns : goal.returns
 returns c =
@@ -25,6 +25,6 @@ returns c =
     
     let a = c.args in
     sym (bad_size (parsed_objects_or_empty a.objects.now) (placements_in a.placements.now) a.records a.k
-    a.count c.requires.1 (sym c.is_misplaced.ensures ∙ c.if-is_misplaced.false) c.size.result
+    a.count c.requires.count_value (sym c.is_misplaced.ensures ∙ c.if-is_misplaced.false) c.size.result
     c.size.ensures)
 

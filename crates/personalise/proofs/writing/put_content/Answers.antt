@@ -22,7 +22,7 @@ use Rattle.personalise.proofs.writing.put_placed.Reads as put-placed
 use Rattle.personalise.proofs.writing.put_content.Goals as goal
 
 pub loop-s-init : goal.loop-s-init
-loop-s-init c = (refl, refl, refl, c.requires.0, omega arith)
+loop-s-init c = (refl, refl, refl, c.requires.are_objects_allowed_in_record, omega arith)
 
 pub shape_of-out-in_default : goal.shape_of-out-in_default
 shape_of-out-in_default c = c.loop-s.invariant.2
@@ -75,7 +75,7 @@ put_placed-to-requires c = let next-at : primitive_at_front c.loop-s.s.now ≡ f
     let t = c.loop-s-test.true in
     let ps = placements_in a.placements.now in
     let room : lp.to + length (content ps a.k lp.number lp.s.now) ≤ length lp.out =
-    omega (arith, lp.invariant.1, lp.invariant.2, c.requires.1) in record { tag_bound = first_small lp.s.now t c.in-Object.h (next-at) lp.invariant.3 ps a.k lp.number; v_in_bounds = first_room
+    omega (arith, lp.invariant.1, lp.invariant.2, c.requires.k_in_bounds) in record { tag_bound = first_small lp.s.now t c.in-Object.h (next-at) lp.invariant.3 ps a.k lp.number; v_in_bounds = first_room
           lp.s.now t c.in-Object.h (next-at) lp.invariant.3 ps a.k lp.number lp.out lp.to
           room }
 
@@ -98,7 +98,7 @@ loop-s-preserved c =
     let t = c.loop-s-test.true in
     let ps = placements_in a.placements.now in
     let room : lp.to + length (content ps a.k lp.number lp.s.now) ≤ length lp.out =
-    omega (arith, lp.invariant.1, lp.invariant.2, c.requires.1) in
+    omega (arith, lp.invariant.1, lp.invariant.2, c.requires.k_in_bounds) in
     let q = c.put_placed-to.ensures in
     let l = rest_less _ t _ (next-at) in (
       lp.invariant.0 ∙ left_over lp.s.now t c.in-Object.h (next-at) lp.invariant.3 ps a.k lp.number

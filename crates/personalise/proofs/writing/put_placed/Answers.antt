@@ -23,7 +23,7 @@ returns-then-not-is_placed c =
 pub put_object-requires : goal.put_object-requires
 put_object-requires c = let a = c.args in
     let e = if_yes (object_bytes a.tag a.v.now) []
-    (sym c.is_placed.ensures ∙ c.if-not-is_placed.false) in record { tag_bound = c.requires.0; v_in_bounds = subst (λ (x : List ℕ). a.at + length x ≤ length a.out.now) e c.requires.1 }
+    (sym c.is_placed.ensures ∙ c.if-not-is_placed.false) in record { tag_bound = c.requires.tag_bound; v_in_bounds = subst (λ (x : List ℕ). a.at + length x ≤ length a.out.now) e c.requires.v_in_bounds }
 
 pub returns : goal.returns
 returns c =

@@ -29,7 +29,7 @@ exact : (n : ℕ) (v : List ℕ) → n ≡ size_capped_at254 (length v) → leng
 exact n v e m = omega arith
 
 pub size-size-requires : goal.size-size-requires
-size-size-requires c = c.requires.0.0
+size-size-requires c = c.requires.are_objects_allowed_in_record.0
 
 pub put_tag-behind_tag-requires : goal.put_tag-behind_tag-requires
 put_tag-behind_tag-requires c =
@@ -38,7 +38,7 @@ put_tag-behind_tag-requires c =
     let v = record_content (parsed_objects_or_empty a.objects.now) (placements_in a.placements.now) a.k in (
       omega arith,
       tag_room a.out.now a.at (tag_bytes tag_record_template) (length_bytes (length v)) v
-          (room a.out.now a.at v c.requires.1.0 c.requires.1.1),
+          (room a.out.now a.at v c.requires.k_len_bound c.requires.at_in_bounds),
     )
 
 
@@ -49,21 +49,21 @@ put_length-behind_length-requires c =
     
     let a = c.args in
     let v = record_content (parsed_objects_or_empty a.objects.now) (placements_in a.placements.now) a.k in
-    let e = exact c.size-size.result v c.size-size.ensures c.requires.1.0 in (
-      omega (arith, c.requires.1.0),
+    let e = exact c.size-size.result v c.size-size.ensures c.requires.k_len_bound in (
+      omega (arith, c.requires.k_len_bound),
       subst (λ (n : ℕ). c.put_tag-behind_tag.result + length (length_bytes n) ≤ length c.put_tag-behind_tag.new.out) (sym e)
           (length_room a.out.now a.at (tag_bytes tag_record_template) (length_bytes (length v)) v
-          (room a.out.now a.at v c.requires.1.0 c.requires.1.1) c.put_tag-behind_tag.ensures),
+          (room a.out.now a.at v c.requires.k_len_bound c.requires.at_in_bounds) c.put_tag-behind_tag.ensures),
     )
 
 
 pub put_content-requires : goal.put_content-requires
 put_content-requires c = let a = c.args in
     let v = record_content (parsed_objects_or_empty a.objects.now) (placements_in a.placements.now) a.k in
-    let e = exact c.size-size.result v c.size-size.ensures c.requires.1.0 in
+    let e = exact c.size-size.result v c.size-size.ensures c.requires.k_len_bound in
     let q = subst (λ (n : ℕ). WritesBytesAt c.put_length-behind_length.result c.put_length-behind_length.new.out c.put_tag-behind_tag.new.out
-    c.put_tag-behind_tag.result (length_bytes n)) e c.put_length-behind_length.ensures in record { are_objects_allowed_in_record = c.requires.0; k_in_bounds = value_room a.out.now a.at (tag_bytes tag_record_template) (length_bytes (length v)) v
-          (room a.out.now a.at v c.requires.1.0 c.requires.1.1) c.put_tag-behind_tag.ensures q }
+    c.put_tag-behind_tag.result (length_bytes n)) e c.put_length-behind_length.ensures in record { are_objects_allowed_in_record = c.requires.are_objects_allowed_in_record; k_in_bounds = value_room a.out.now a.at (tag_bytes tag_record_template) (length_bytes (length v)) v
+          (room a.out.now a.at v c.requires.k_len_bound c.requires.at_in_bounds) c.put_tag-behind_tag.ensures q }
 
 pub returns : goal.returns
 returns c =
@@ -74,9 +74,9 @@ returns c =
     
     let a = c.args in
     let v = record_content (parsed_objects_or_empty a.objects.now) (placements_in a.placements.now) a.k in
-    let e = exact c.size-size.result v c.size-size.ensures c.requires.1.0 in
+    let e = exact c.size-size.result v c.size-size.ensures c.requires.k_len_bound in
     let q = subst (λ (n : ℕ). WritesBytesAt c.put_length-behind_length.result c.put_length-behind_length.new.out c.put_tag-behind_tag.new.out
     c.put_tag-behind_tag.result (length_bytes n)) e c.put_length-behind_length.ensures in
     all_put a.out.now a.at (tag_bytes tag_record_template) (length_bytes (length v)) v
-    (room a.out.now a.at v c.requires.1.0 c.requires.1.1) c.put_tag-behind_tag.ensures q c.put_content.ensures
+    (room a.out.now a.at v c.requires.k_len_bound c.requires.at_in_bounds) c.put_tag-behind_tag.ensures q c.put_content.ensures
 

@@ -21,11 +21,11 @@ pub loop-k-init : goal.loop-k-init
 loop-k-init c = (refl, refl, refl, omega arith, omega arith, omega arith)
 
 pub put_record-at-requires : goal.put_record-at-requires
-put_record-at-requires c = let lp = c.loop-k in record { are_objects_allowed_in_record = c.requires.0; k_len_bound = c.requires.1.0 lp.k c.loop-k-test.true; at_in_bounds = omega
-            (arith, lp.invariant.2, lp.invariant.3, lp.invariant.4, lp.invariant.5, c.loop-k-test.true, c.requires.1.1.1) }
+put_record-at-requires c = let lp = c.loop-k in record { are_objects_allowed_in_record = c.requires.are_objects_allowed_in_record; k_len_bound = c.requires.record_contents_within253bytes lp.k c.loop-k-test.true; at_in_bounds = omega
+            (arith, lp.invariant.2, lp.invariant.3, lp.invariant.4, lp.invariant.5, c.loop-k-test.true, c.requires.records_bound.1) }
 
 pub overflow_add-k : goal.overflow_add-k
-overflow_add-k c = omega ( arith, c.loop-k.invariant.4, c.requires.1.1.0, )
+overflow_add-k c = omega ( arith, c.loop-k.invariant.4, c.requires.records_bound.0, )
 
 pub loop-k-smaller : goal.loop-k-smaller
 loop-k-smaller c = omega (arith, c.loop-k-test.true)
@@ -40,9 +40,9 @@ loop-k-preserved c =
     let os = parsed_objects_or_empty a.objects.now in
     let ps = placements_in a.placements.now in
     let h = c.loop-k-test.true in
-    let f = c.requires.1.0 lp.k h in
+    let f = c.requires.record_contents_within253bytes lp.k h in
     let room : lp.at + 256 ≤ length lp.out =
-    omega (arith, lp.invariant.2, lp.invariant.3, lp.invariant.4, lp.invariant.5, c.requires.1.1.1) in
+    omega (arith, lp.invariant.2, lp.invariant.3, lp.invariant.4, lp.invariant.5, c.requires.records_bound.1) in
     let p = c.put_record-at.ensures in
     let m = transition_most os ps a.records lp.k h f lp.out lp.at room p in (
       lp.invariant.0 ∙ transition_over os ps a.records lp.k h f lp.out lp.at room p,

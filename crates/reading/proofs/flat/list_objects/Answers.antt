@@ -12,21 +12,21 @@ overflow_add-end c = let i = rw c.in-Template.is at c.open-opened.ensures.opens 
 
 pub walk-walked-requires : goal.walk-walked-requires
 walk-walked-requires c = let o = c.open-opened.ensures in
-    let i = rw c.in-Template.is at o.0 in record { template_walk_has_room = record {
+    let i = rw c.in-Template.is at o.opens in record { template_walk_has_room = record {
         begins = omega arith;
         ends = i.ends;
         short = i.short;
         fewer = omega arith;
         half = omega (arith, i.two, i.short);
-        room = o.1;
+        room = o.room;
         inside = tt;
       }; tag_bound = i.tag }
 
 pub returns-in-Listed : goal.returns-in-Listed
-returns-in-Listed c = let o = c.open-opened.ensures in record { lists = rw c.in-Listed.is at o.0; room = o.1 }
+returns-in-Listed c = let o = c.open-opened.ensures in record { lists = rw c.in-Listed.is at o.opens; room = o.room }
 
 pub returns-in-Template : goal.returns-in-Template
 unfolding unpacked_items
 returns-in-Template c = let i = rw c.in-Template.is at
     c.open-opened.ensures.opens in
-    let w = c.walk-walked.ensures in record { lists = template_listed _ _ _ _ i _ w.0 c.close.ensures; room = w.1 }
+    let w = c.walk-walked.ensures in record { lists = template_listed _ _ _ _ i _ w.walks c.close.ensures; room = w.room }

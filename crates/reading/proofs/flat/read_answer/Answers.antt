@@ -9,4 +9,4 @@ take_listed-requires c = record { store_len = (c.requires, c.list_objects-listin
 
 pub returns : goal.returns
 returns c = let r = (let t = c.take_listed.ensures in
-    whole _ _ _ c.list_objects-listing.ensures.lists t.0 t.1) in record { given = r.0; sized = r.1.0; half = r.1.1.0; tree = r.1.1.1 }
+    whole _ _ _ c.list_objects-listing.ensures.lists t.given t.sized) in record { given = r.0; sized = r.1.0; half = r.1.1.0; tree = r.1.1.1 }

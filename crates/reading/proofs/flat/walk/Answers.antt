@@ -15,7 +15,7 @@ use Rattle.reading.proofs.Frames.{Reached, ahead, begin, inside, run, step, more
 use Rattle.reading.proofs.flat.walk.Goals as goal
 
 pub loop-at-init : goal.loop-at-init
-loop-at-init c = let p = c.requires in begin _ _ _ _ _ p.0 p.1
+loop-at-init c = let p = c.requires in begin _ _ _ _ _ p.template_walk_has_room p.tag_bound
 
 pub offset_bounds-ends-depth : goal.offset_bounds-ends-depth
 offset_bounds-ends-depth c = omega (arith, c.loop-at.invariant.few)
