@@ -44,12 +44,11 @@ pub shape_of-store : goal.shape_of-store
 shape_of-store c = c.put.ensures.sized ∙ sym c.requires.store_len
 
 pub returns : goal.returns
-returns c = let st =
-    c.before.before.before.before.before.before.before.before.before.before.before.before.before.before in
-    let a = st.args in
+returns c =
+    let a = c.args in
     let s = c.search_tags-found in
-    let e = lent_found a.tag st.pre.1.tags s.ensures.found in
-    
+    let e = lent_found a.tag c.requires.are_dictionary_tables.tags s.ensures.found in
     let put = c.put.ensures in
     let taken = set_taken a.store.now (tlv_object a.tag a.v.now) s.result.found e c.in-At.row c.in-At.is
-    (sym c.is_settable.ensures ∙ c.if-not-is_settable.false) in record { set = says_set (taken ∙ ap some (sym put.stored)) refl; sized = put.sized }
+    (sym c.is_settable.ensures ∙ c.if-not-is_settable.false) in
+    record { set = says_set (taken ∙ ap some (sym put.stored)) refl; sized = put.sized }

@@ -14,9 +14,6 @@ use Rattle.dictionary.specs.Rows.{store_size}
 use Rattle.start_data.specs.StartData.{set_parsed_start_objects}
 use Rattle.start_data.proofs.Setting.{says_set, says_not, was_set, was_not, set_end, set_broken, set_on}
 use Rattle.start_data.proofs.Setting.{set_stopped}
-use Rattle.start_data.proofs.set_objects.Reads as reads
-use Rattle.tlv.proofs.primitive_at_front.Reads as primitive
-use Rattle.start_data.proofs.set_object.Reads as set-object
 use Rattle.start_data.proofs.set_objects.Given as goal
 
 abbrev pub invariant-loop-s : goal.invariant-loop-s
