@@ -7,7 +7,7 @@
 #                        not installed
 #     make tests         the archives that the Rust tests and benchmarks link beside; they are not installed
 #
-# An archive is proved and built by `rt staticlib NAME` where it is missing or older than a crate that it has.
+# An archive is proved and built by `bin/archive NAME` where it is missing or older than a crate that it has.
 PREFIX = /usr/local
 DESTDIR =
 
@@ -30,12 +30,9 @@ package = $(DESTDIR)$(PREFIX)/lib/pkgconfig/tripodmoon.pc
 installed = '$(headers)/tripodmoon.h' '$(headers)/tripodmoon_personalise.h' '$(headers)/tripodmoon_cabinet.h' \
     '$(folder)/libhost.a' '$(folder)/libpersonalise.a' '$(folder)/libcabinet.a' '$(package)'
 
-# The crates of an archive, directly or not, and their files.
-needed = $(shell awk -F: -v own=$(1) 'function visit(name, need, total, k) { if (name in seen || !(name in needs)) return; seen[name] = 1; \
-    total = split(needs[name], need, " "); for (k = 1; k <= total; k++) visit(need[k]); print name } \
-    !/^\#/ && NF > 1 { needs[$$1] = $$2 } END { visit(own) }' crates.txt)
-crates = $(wildcard $(addprefix crates/,$(call needed,$(1))))
-sources = crates.txt $(shell find $(call crates,$(1)) -type f -not -path '*/must-fail/*')
+# The files of an archive's crates.
+sources = bin/archive bin/prove crates.txt $(shell find $(addprefix crates/,$(shell bin/prove --needed $(1)_c)) -type f \
+    -not -path '*/must-fail/*' -not -path 'crates/*/out/*')
 
 .PHONY: all flat tests install uninstall
 
@@ -46,25 +43,25 @@ flat: $(flat_archive)
 tests: $(test_archives)
 
 $(archive): $(call sources,host)
-	rt staticlib host
+	bin/archive host
 
 $(flat_archive): bin/host-flat tests/calls $(call sources,host)
 	bin/host-flat
 
 $(card_archive): $(call sources,personalise)
-	rt staticlib personalise
+	bin/archive personalise
 
 $(cabinet_archive): $(call sources,cabinet)
-	rt staticlib cabinet
+	bin/archive cabinet
 
 target/staticlib/libtest_reading.a: $(call sources,test_reading)
-	rt staticlib test_reading
+	bin/archive test_reading
 
 target/staticlib/libtest_reading_flat.a: $(call sources,test_reading_flat)
-	rt staticlib test_reading_flat
+	bin/archive test_reading_flat
 
 target/staticlib/libtest_journal.a: $(call sources,test_journal)
-	rt staticlib test_journal
+	bin/archive test_journal
 
 install: $(archive) $(card_archive) $(cabinet_archive)
 	mkdir -p '$(headers)' '$(folder)' '$(dir $(package))'

@@ -1,4 +1,4 @@
-/* The session in EMV mode and in the track 2 part of mag-stripe mode, for a host in C: target/staticlib/libhost.a, built by `rt staticlib host`.
+/* The session in EMV mode and in the track 2 part of mag-stripe mode, for a host in C: target/staticlib/libhost.a, built by `bin/archive host`.
  * docs/HOST.md has the record's layout, the words and how to embed it.
  *
  * The session lies in bytes that the host lends to every call. No call keeps anything between calls,

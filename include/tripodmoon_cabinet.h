@@ -1,4 +1,4 @@
-/* The vending cabinet, for a host in C: target/staticlib/libcabinet.a, built by `rt staticlib cabinet`: one session at a time, and a
+/* The vending cabinet, for a host in C: target/staticlib/libcabinet.a, built by `bin/archive cabinet`: one session at a time, and a
  * cap on what is approved offline since opening. The archive stands beside the kernel's and needs nothing of it; of the kernel's
  * header come the words, the outcomes, the reasons and the refusals. docs/HOST.md has the rules and an example.
  *

@@ -1,4 +1,4 @@
-/* Writing the card's side, for a host in C: target/staticlib/libpersonalise.a, built by `rt staticlib personalise`.
+/* Writing the card's side, for a host in C: target/staticlib/libpersonalise.a, built by `bin/archive personalise`.
  * The archive stands beside the kernel's and needs nothing of it. docs/HOST.md has the rules and an example.
  *
  * The call keeps nothing between calls, allocates nothing, and does no input or output. Lent slices must not overlap.

@@ -10,7 +10,7 @@ fn main() {
     println!("cargo:rerun-if-changed={}", library.display());
     let Some(folder) = library.parent().filter(|_| library.is_file()) else {
         eprintln!(
-            "{} is not there: run `rt staticlib test_journal` at the repository's root",
+            "{} is not there: run `bin/archive test_journal` at the repository's root",
             library.display()
         );
         process::exit(1);

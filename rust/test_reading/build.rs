@@ -11,7 +11,7 @@ fn main() {
         println!("cargo:rerun-if-changed={}", library.display());
         let Some(folder) = library.parent().filter(|_| library.is_file()) else {
             eprintln!(
-                "{} is not there: run `rt staticlib {name}` at the repository's root",
+                "{} is not there: run `bin/archive {name}` at the repository's root",
                 library.display()
             );
             process::exit(1);

@@ -30,7 +30,7 @@ fn link(folder: &Path, name: &str) -> PathBuf {
     let library = folder.join(format!("lib{name}.a"));
     if !library.is_file() {
         eprintln!(
-            "{} is not there: run `rt staticlib {name}` at the repository's root, \
+            "{} is not there: run `bin/archive {name}` at the repository's root, \
              or set TRIPODMOON_LIB to libhost.a or its folder",
             library.display()
         );

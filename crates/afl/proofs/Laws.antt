@@ -8,11 +8,11 @@ use mathlib.Core.List.{List, [], ◌∷◌, ◌++◌}
 use Prim.Native.Nat.{ℕ, zero, suc, ◌+◌, ◌-◌, ◌%◌, ◌≤◌, ◌<◌}
 use native.Mathlib.Omega.{arith}
 use lib.Dec.{leb}
-use lib.ListN.{length, get_or, take, drop, length-drop}
-use borrow.Author.Tests.{leb-true, leb-false, eqb-true, le-leb, lt-leb, lt-ltb, le-ltb, eq-eqb}
+use lib.ListN.{length, get_or, take, drop}
+use borrow.Author.Tests.{leb-true, leb-false, eqb-true, le-leb, eq-eqb}
 use Rattle.basics.specs.Choice.{every}
 use Rattle.basics.specs.Reason.{reason_afl_invalid, reason_unless}
-use Rattle.basics.proofs.Laws.{if_yes, if_no, bool_cases, both_yes, both_left, both_right, both_no_left, both_no_right}
+use Rattle.basics.proofs.Laws.{if_yes, if_no, bool_cases, both_yes, both_left, both_right}
 use Rattle.afl.specs.declared.AflCheck.{AflCheck}
 use Rattle.afl.specs.declared.AflCheck.TheVariants.{Accepted, Rejected}
 use Rattle.afl.specs.declared.AflExtent.{AflExtent}

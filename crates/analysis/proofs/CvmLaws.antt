@@ -171,7 +171,7 @@ added_rules t u [] = added_none u
 added_rules t u (r ∷ rs) =
     if_ind Added _ _ _ (λ e. added_rules t u rs) (λ e.
     if_ind Added _ _ _ (λ f. added_taken r.code r.condition u) (λ f.
-    if_ind Added _ _ _ (λ g. added_rules t _ rs) (λ g. added_unsuccessful r.code r.condition _)))
+    if_ind Added _ _ _ (λ g. added_rules t (either u (not (cvm_recognised r.code))) rs) (λ g. added_unsuccessful r.code r.condition _)))
 
 added_missing : (m : Bool) → Added (cvm_result_not_performed m)
 unfolding if

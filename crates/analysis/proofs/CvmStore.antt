@@ -1,8 +1,8 @@
 -- Cardholder verification over a store: one byte after a list of even length; and for on-device CVM, that neither 8E
 -- nor a bit of 82 but byte 1 b2 matters, and that no bit of 95 is added.
 -- Assumes nothing.
-use mathlib.Core.Path.{◌≡◌, refl, sym, ap, ap₂, ◌∙◌}
-use mathlib.Core.Bool.{Bool, true}
+use mathlib.Core.Path.{◌≡◌, refl, sym, ap, ◌∙◌}
+use mathlib.Core.Bool.{true}
 use mathlib.Core.List.{List, [], ◌∷◌, ◌++◌}
 use Prim.Native.Nat.{ℕ, zero, suc, ◌+◌, ◌%◌, ◌≤◌}
 use native.Mathlib.Omega.{arith}
@@ -14,14 +14,12 @@ use Rattle.basics.proofs.Laws.{if_yes}
 use Rattle.store.specs.Place.{StoredValue, present, bytes_or_empty_if_absent, object_value}
 use Rattle.store.specs.Held.{stored_bytes, stored_byte}
 use Rattle.analysis.specs.Value.{first_bytes_zero_padded}
-use Rattle.analysis.specs.Digits.{is_one_of, amount_of, first_amount_is_above}
-use Rattle.analysis.specs.Restrictions.{is_atm_type_with_cash_capability}
-use Rattle.analysis.specs.Cvm.{cvm_amount_x, cvm_amount_y, cvm_processing, on_device_cvm_result_by_above_limit, cvm_tvr_bits}
+use Rattle.analysis.specs.Digits.{first_amount_is_above}
+use Rattle.analysis.specs.Cvm.{cvm_amount_x, cvm_amount_y, on_device_cvm_result_by_above_limit}
 use Rattle.analysis.specs.Action.{card_and_kernel_support_on_device_cvm, auc_violated_in_store, restrictions_tvr_byte2}
-use Rattle.analysis.specs.Action.{tvr_before_cvm, currencies_present_and_equal, cvm_conditions_in, cvm_result_in}
+use Rattle.analysis.specs.Action.{tvr_before_cvm, cvm_conditions_in, cvm_result_in}
 use Rattle.analysis.specs.Action.{tvr_with_cvm, findings_of, AlikeButAipAndCvmList, OnDeviceCvmIgnoresCvmList}
 use Rattle.analysis.specs.Tvr.{tvr_byte4_amount_above_floor_limit, tvr_with_bits}
-use Rattle.analysis.specs.declared.action.AnalysisFindings.{AnalysisFindings}
 use Rattle.analysis.specs.declared.cvm.CvmResult.{CvmResult}
 use Rattle.analysis.proofs.CvmLaws.{odd_byte, on_device_bits}
 

@@ -2,7 +2,7 @@
 -- three bytes of 9F34, and the bits that the choice adds to 95. On a device with on-device CVM (document 02, Item 8;
 -- CVM.1 to CVM.4) the CVM is by the amount.
 -- Assumes nothing.
-use Rattle.std.specs.Prelude.{Bool, true, false, not, List, [], ◌∷◌, ℕ, ◌+◌, ◌%◌, drop}
+use Rattle.std.specs.Prelude.{Bool, true, false, not, List, [], ◌∷◌, ◌+◌, ◌%◌, drop}
 use Rattle.basics.specs.Types.{Amount, Byte, Bytes, CvmNumber, TvrBytes, Value}
 use Rattle.basics.specs.Choice.{if◌then◌else◌, ◌and◌, ◌or◌, ◌≤?◌, ◌<?◌, ◌=?◌}
 use Rattle.basics.specs.Number.{big_endian_number}

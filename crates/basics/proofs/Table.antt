@@ -1,12 +1,12 @@
 -- A rule of a table, proved at all of its entries by one test that is computed over the whole table.
 -- Assumes nothing.
 use mathlib.Core.Path.{◌≡◌}
-use mathlib.Core.Bool.{Bool, true, false}
+use mathlib.Core.Bool.{Bool, true}
 use mathlib.Core.List.{List, [], ◌∷◌}
 use Prim.Native.Nat.{ℕ, zero, suc, ◌<◌}
 use native.Mathlib.Omega.{arith}
 use lib.ListN.{length, get_or}
-use Rattle.basics.specs.Choice.{both, every}
+use Rattle.basics.specs.Choice.{every}
 use Rattle.basics.proofs.Laws.{both_left, both_right}
 
 -- the test holds at each place

@@ -3,7 +3,7 @@
 // The state lies in bytes that the host passes to every call: the session's record, then what remains of the cap, then
 // the amount that is reserved for the running session. A start reserves its amount; an approval spends it, and every
 // other end gives it back. `cabinet_find` looks a start object up in a site's list and the maker's defaults.
-// docs/HOST.md has the state and the words.
+// docs/HOST.md has the state and the words; `cabinet_c` exports the calls.
 #![tactic(auto)]
 
 ghost use Rattle.std.specs.Prelude.{◌≡◌, ◌+◌, ◌*◌, ◌≤◌, ◌<◌, leb, length};
@@ -65,16 +65,14 @@ pub enum CabinetAdmission {
 }
 
 // How many bytes a host provides for a cabinet.
-#[unsafe(no_mangle)]
-pub extern "C" fn cabinet_size() -> usize
+pub fn cabinet_size() -> usize
     ensures { result ≡ cabinet_state_size }
 {
     STATE_SIZE
 }
 
 // Opens the cabinet with a cap, whatever the bytes held: 0, or refusal 25 where they are too few, then 31.
-#[unsafe(no_mangle)]
-pub extern "C" fn cabinet_open(state: &mut [u8], cap: u64) -> u32
+pub fn cabinet_open(state: &mut [u8], cap: u64) -> u32
     ensures { OpensCabinetOrRefuses cap result state.old state.new }
 {
     if state.len() < STATE_SIZE {
@@ -96,8 +94,7 @@ pub extern "C" fn cabinet_open(state: &mut [u8], cap: u64) -> u32
 }
 
 // Starts a session with the objects that the terminal brings, a fresh one after an end, and reserves its amount.
-#[unsafe(no_mangle)]
-pub extern "C" fn cabinet_start(state: &mut [u8], terminal: &[u8], command: &mut [u8]) -> u32
+pub fn cabinet_start(state: &mut [u8], terminal: &[u8], command: &mut [u8]) -> u32
     ensures { ReturnsCabinetResult result state.new command.new
         (cabinet_start terminal.now state.old command.old) }
 {
@@ -109,8 +106,7 @@ pub extern "C" fn cabinet_start(state: &mut [u8], terminal: &[u8], command: &mut
 }
 
 // Takes the card's answer to the command that was handed out last, status bytes included.
-#[unsafe(no_mangle)]
-pub extern "C" fn cabinet_answer(state: &mut [u8], card: &[u8], command: &mut [u8]) -> u32
+pub fn cabinet_answer(state: &mut [u8], card: &[u8], command: &mut [u8]) -> u32
     ensures { ReturnsCabinetResult result state.new command.new
         (cabinet_answer card.now state.old command.old) }
 {
@@ -133,8 +129,7 @@ pub extern "C" fn cabinet_answer(state: &mut [u8], card: &[u8], command: &mut [u
 }
 
 // The link to the card failed.
-#[unsafe(no_mangle)]
-pub extern "C" fn cabinet_link_failed(state: &mut [u8], command: &mut [u8]) -> u32
+pub fn cabinet_link_failed(state: &mut [u8], command: &mut [u8]) -> u32
     ensures { ReturnsCabinetResult result state.new command.new (cabinet_link_failed state.old command.old) }
 {
     let admission = admit(state, command.len());
@@ -155,8 +150,7 @@ pub extern "C" fn cabinet_link_failed(state: &mut [u8], command: &mut [u8]) -> u
 }
 
 // The terminal stops the session.
-#[unsafe(no_mangle)]
-pub extern "C" fn cabinet_stop(state: &mut [u8], command: &mut [u8]) -> u32
+pub fn cabinet_stop(state: &mut [u8], command: &mut [u8]) -> u32
     ensures { ReturnsCabinetResult result state.new command.new (cabinet_stop state.old command.old) }
 {
     let admission = admit(state, command.len());
@@ -177,8 +171,7 @@ pub extern "C" fn cabinet_stop(state: &mut [u8], command: &mut [u8]) -> u32
 }
 
 // What remains of the cap; NO_AMOUNT where every call but opening is refused with 25.
-#[unsafe(no_mangle)]
-pub extern "C" fn cabinet_left(state: &[u8]) -> u64
+pub fn cabinet_left(state: &[u8]) -> u64
     ensures { result ≡ remaining_amount_or_all_ones (decoded_cabinet_if_valid state.now) }
 {
     let admission = holding_in(state);
@@ -196,8 +189,7 @@ pub extern "C" fn cabinet_left(state: &[u8]) -> u64
 // source in bits 16 and 17, the length in bits 0 to 15. The source is 1 where the site's list has the tag, 2 where only
 // the defaults have it, and 0 where neither has it: length 0 at the front of the defaults. All ones where both have
 // 2^32 bytes or more.
-#[unsafe(no_mangle)]
-pub extern "C" fn cabinet_find(site: &[u8], defaults: &[u8], tag: u32) -> u64
+pub fn cabinet_find(site: &[u8], defaults: &[u8], tag: u32) -> u64
     ensures { result ≡ lookup_word tag site.now defaults.now }
 {
     cabinet_lookup::lookup_word(site, defaults, tag)

@@ -4,24 +4,24 @@
 -- Assumes nothing.
 use mathlib.Core.Path.{◌≡◌, refl, sym, ap, ap₂, ◌∙◌}
 use mathlib.Core.List.{List, ◌++◌}
-use mathlib.Core.Option.{Option, some, none}
+use mathlib.Core.Option.{Option}
 use Prim.Native.Nat.{ℕ, ◌+◌, ◌-◌, ◌*◌, ◌≤◌, ◌<◌}
 use native.Mathlib.Omega.{arith}
 use lib.Dec.{eqb}
-use lib.ListN.{length, take, drop, length-append, length-take, length-drop}
+use lib.ListN.{length, drop, length-append, length-take, length-drop}
 use denote.Ref.{Bor}
 use Rattle.basics.specs.Choice.{if}
 use Rattle.tlv.proofs.Laws.{Bytes}
 use Rattle.cabinet_lookup.specs.declared.LookupSpan.{LookupSpan}
 use Rattle.cabinet_lookup.specs.declared.LookupFound.{LookupFound}
 use Rattle.cabinet_lookup.specs.declared.LookupFound.TheVariants.{At, Absent}
-use Rattle.cabinet_lookup.specs.Value.{leading_primitive_objects, first_value_of_tag, lookup_value}
-use Rattle.cabinet_lookup.specs.Place.{lookup_span, span_bytes, lookup_first, span_by_site_or_defaults}
+use Rattle.cabinet_lookup.specs.Value.{lookup_value}
+use Rattle.cabinet_lookup.specs.Place.{lookup_span, span_bytes, span_by_site_or_defaults}
 use Rattle.cabinet_lookup.specs.Place.{span_in_site_then_defaults}
 use Rattle.cabinet_lookup.specs.Address.{address_after, address_in_site_or_defaults, address_of_value}
 use Rattle.cabinet_lookup.specs.Word.{source_site, source_by_values, lookup_source, lookup_word_of_span, lookup_word}
 use Rattle.cabinet_lookup.specs.Word.{lookup_word_start, lookup_word_source, lookup_word_length}
-use Rattle.cabinet_lookup.specs.Named.{address_from_word, WordDescribesPart, LookupWordDescribesPart}
+use Rattle.cabinet_lookup.specs.Named.{LookupWordDescribesPart}
 use Rattle.cabinet_lookup.proofs.Laws.{Stands, stands, place_inside, Handed, source_few, word-is}
 use Rattle.cabinet_lookup.proofs.Small.{place_small}
 

@@ -1,6 +1,6 @@
 -- The command that reads a record (document 01, "Commands and steps", Record; Book C-2, 5.8).
 -- Assumes nothing.
-use Rattle.std.specs.Prelude.{List, [], ◌∷◌, ◌+◌, ◌*◌, length}
+use Rattle.std.specs.Prelude.{[], ◌∷◌, ◌+◌, ◌*◌, length}
 use Rattle.std.proofs.Math.Option.{Option, some, none}
 use Rattle.basics.specs.Types.{Buffer, Byte, CommandBytes, Length}
 use Rattle.basics.specs.Choice.{if◌then◌else◌, ◌and◌, ◌≤?◌, ◌<?◌}

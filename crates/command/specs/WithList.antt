@@ -1,7 +1,7 @@
 -- The commands that carry a filled list: GPO and GENERATE AC (document 01, "Commands and steps"), and COMPUTE
 -- CRYPTOGRAPHIC CHECKSUM (document 02, Item 9; Book C-2, 5.2).
 -- Assumes nothing.
-use Rattle.std.specs.Prelude.{List, [], ◌∷◌, ◌++◌, length}
+use Rattle.std.specs.Prelude.{[], ◌∷◌, ◌++◌, length}
 use Rattle.std.proofs.Math.Option.{Option, some, none}
 use Rattle.basics.specs.Types.{Buffer, Byte, Bytes, CommandBytes, DolBytes, Length, Reason, StoreBytes, Tag}
 use Rattle.basics.specs.Choice.{if◌then◌else◌, ◌≤?◌}

@@ -1,21 +1,18 @@
 -- The rule of a table, from its test to each row; and in a table that rises every row is found by its tag.
 -- Assumes nothing.
-use mathlib.Core.Path.{◌≡◌, refl, sym, ap, ◌∙◌}
-use mathlib.Core.Bool.{Bool, true, false}
+use mathlib.Core.Path.{◌≡◌, refl, ap, ◌∙◌}
+use mathlib.Core.Bool.{true}
 use mathlib.Core.List.{List, [], ◌∷◌}
-use Prim.Native.Nat.{ℕ, zero, suc, ◌+◌, ◌≤◌, ◌<◌}
+use Prim.Native.Nat.{ℕ, zero, suc, ◌≤◌, ◌<◌}
 use native.Mathlib.Omega.{arith}
-use lib.Dec.{ltb, eqb}
-use lib.ListN.{length, get_or}
+use lib.ListN.{length}
 use borrow.Author.Tests.{ltb-true, leb-true, eq-eqb, ne_eqb}
 use Rattle.basics.specs.Choice.{if, both, every}
-use Rattle.basics.specs.Number.{big_endian_number}
 use Rattle.basics.proofs.Laws.{if_yes, if_no, both_left, both_right}
 use Rattle.basics.proofs.Table.{at}
 use Rattle.tlv.specs.Tag.{tag_size, tag_size_from_second_byte, tag_size_from_third_byte}
 use Rattle.tlv.specs.Encoding.{well_formed_tag, tag_bytes}
-use Rattle.dictionary.specs.declared.RowFound.{RowFound}
-use Rattle.dictionary.specs.declared.RowFound.TheVariants.{At, Unknown}
+use Rattle.dictionary.specs.declared.RowFound.TheVariants.{At}
 use Rattle.dictionary.specs.Rows.{Row, dictionary_rows, blank_row, row_in, row_found_shifted, find_row}
 use Rattle.dictionary.specs.Rule.{row_has_valid_tag_and_lengths, tag_below_next_row, rising_tags, tags_rise_and_rows_valid}
 

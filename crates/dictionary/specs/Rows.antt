@@ -1,7 +1,7 @@
 -- The dictionary of data objects (document 01, "Dictionary"; document 02, Items 5, 8, 9 and 11; Book C-2, annex A):
 -- its rows by number and by tag. specs/Row has what a row is, specs/AnnexA the rows; both are passed on here.
 -- Assumes nothing.
-use Rattle.std.specs.Prelude.{List, [], ◌∷◌, ℕ, ◌+◌, get_or}
+use Rattle.std.specs.Prelude.{List, [], ◌∷◌, ◌+◌, get_or}
 use Rattle.basics.specs.Choice.{if◌then◌else◌, ◌=?◌}
 use Rattle.basics.specs.Types.{Tag, Count, RowNumber}
 use Rattle.dictionary.specs.declared.RowFound.{RowFound}

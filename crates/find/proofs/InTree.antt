@@ -19,7 +19,7 @@ use Rattle.tlv.specs.declared.TlvHeader.{TlvHeader}
 use Rattle.tlv.specs.declared.NextInTemplate.{NextInTemplate}
 use Rattle.tlv.specs.declared.NextInTemplate.TheVariants as following
 use Rattle.tlv.specs.Object.{header_value, behind_object}
-use Rattle.tlv.specs.Tree.{Forest, end, leaf, node, next_in_template, prepend_leaf, prepend_node, parse_tree}
+use Rattle.tlv.specs.Tree.{Forest, end, next_in_template, prepend_leaf, prepend_node, parse_tree}
 use Rattle.tlv.proofs.Laws.{HeaderFits}
 use Rattle.tlv.proofs.NextObject.{next_fits}
 use Rattle.tlv.proofs.Tree.{shorter_value, shorter_behind, parse_end, parse_malformed, parse_deep, parse_node}

@@ -23,7 +23,7 @@ use Rattle.find.specs.declared.ValueSpan.{ValueSpan}
 use Rattle.find.specs.declared.TagFound.{TagFound}
 use Rattle.find.specs.declared.TagFound.TheVariants.{At, Absent, Malformed}
 use Rattle.find.specs.Find.{value_span, found_if_tag_matches, first_found_unless_malformed, found_shifted}
-use Rattle.find.specs.Find.{found_if_header_tag, found_with_one_level_less, found_in_contents, found_after_object}
+use Rattle.find.specs.Find.{found_if_header_tag, found_with_one_level_less}
 use Rattle.find.specs.Find.{found_from_next_in_template, find_tag_step, find_tag_within_levels}
 
 -- ---- finds, concatenated

@@ -5,20 +5,19 @@
 use mathlib.Core.Path.{◌≡◌, refl, sym, ap, ap₂, subst, ◌∙◌}
 use mathlib.Core.Bool.{true, false}
 use mathlib.Core.List.{List, [], ◌∷◌}
-use Prim.Native.Nat.{ℕ, zero, suc, ◌+◌, ◌-◌, ◌*◌, ◌≤◌, ◌<◌}
+use Prim.Native.Nat.{ℕ, zero, suc, ◌+◌, ◌-◌, ◌≤◌, ◌<◌}
 use native.Mathlib.Numerals.{add-one}
 use native.Mathlib.Omega.{arith}
 use lib.Dec.{eqb}
-use lib.ListN.{length, take, drop, get_or, set, length-take, length-drop, length-set}
+use lib.ListN.{length, take, drop, get_or, set, length-take, length-set}
 use lib.Seq.{take-take, take-nil, drop-drop, take_all, get_or-set_same, get_or-set_other}
 use Rattle.tlv.specs.declared.TlvHeader.{TlvHeader}
 use Rattle.tlv.specs.declared.NextInTemplate.TheVariants as following
 use Rattle.tlv.specs.Object.{header_value, behind_object}
 use Rattle.tlv.specs.Tree.{next_in_template}
-use Rattle.tlv.proofs.Laws.{HeaderFits}
 use Rattle.tlv.proofs.NextObject.{next_fits}
 use Rattle.find.specs.declared.TagFound.{TagFound}
-use Rattle.find.specs.declared.TagFound.TheVariants.{At, Absent, Malformed}
+use Rattle.find.specs.declared.TagFound.TheVariants.{Absent, Malformed}
 use Rattle.find.specs.Find.{found_if_tag_matches, first_found_unless_malformed, found_shifted, find_tag_within_levels}
 use Rattle.find.proofs.Laws.{first_absent, absent_first, first_malformed, malformed_first, first_assoc}
 use Rattle.find.proofs.Laws.{shift_first, shift_shift, shift_zero, shift_here, shift_absent, shift_malformed}

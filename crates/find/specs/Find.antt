@@ -1,7 +1,7 @@
 -- The first object of a tag in some bytes, which are read as the contents of a template are (document 01, "Reading an
 -- answer"): in the order of the bytes, a template before what it holds. Malformed anywhere is malformed.
 -- Assumes nothing.
-use Rattle.std.specs.Prelude.{Bool, ℕ, zero, suc, ◌+◌, length}
+use Rattle.std.specs.Prelude.{Bool, zero, suc, ◌+◌, length}
 use Rattle.basics.specs.Types.{Bytes, Count, Length, Offset, Tag}
 use Rattle.basics.specs.Choice.{if◌then◌else◌, ◌≤?◌, ◌=?◌}
 use Rattle.basics.specs.Recursion.{recurse_with_fuel_from_length}

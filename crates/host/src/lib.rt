@@ -1,4 +1,4 @@
-// The calls for a host in C: numbers and byte slices only.
+// The calls for a host in C: numbers and byte slices only. `host_c` exports them.
 //
 // The session lies in bytes that the host passes to every call, as the record of `layout`; a call works on the store in
 // its place, and nothing is kept between calls. A call gives one word: a command's length, an outcome with its reason,
@@ -52,16 +52,14 @@ const MINOR: u32 = 1;
 const PATCH: u32 = 0;
 
 // How many bytes a host provides for a session.
-#[unsafe(no_mangle)]
-pub extern "C" fn emv_session_size() -> usize
+pub fn emv_session_size() -> usize
     ensures { result ≡ session_record_size }
 {
     layout::session_size()
 }
 
 // Writes a fresh session: 0, or refusal 25 where the bytes are too few.
-#[unsafe(no_mangle)]
-pub extern "C" fn emv_open(session: &mut [u8]) -> u32
+pub fn emv_open(session: &mut [u8]) -> u32
     ensures { HostOpened result session.old session.new }
 {
     let store = store::empty();
@@ -72,8 +70,7 @@ pub extern "C" fn emv_open(session: &mut [u8]) -> u32
 }
 
 // Starts a session with the objects that the terminal brings.
-#[unsafe(no_mangle)]
-pub extern "C" fn emv_start(session: &mut [u8], terminal: &[u8], command: &mut [u8]) -> u32
+pub fn emv_start(session: &mut [u8], terminal: &[u8], command: &mut [u8]) -> u32
     ensures { ReturnsHostResult result session.new command.new
         (host_start terminal.now session.old command.old) }
 {
@@ -95,8 +92,7 @@ pub extern "C" fn emv_start(session: &mut [u8], terminal: &[u8], command: &mut [
 }
 
 // Takes the card's answer to the command that was handed out last, status bytes included.
-#[unsafe(no_mangle)]
-pub extern "C" fn emv_answer(session: &mut [u8], card: &[u8], command: &mut [u8]) -> u32
+pub fn emv_answer(session: &mut [u8], card: &[u8], command: &mut [u8]) -> u32
     ensures { ReturnsHostResult result session.new command.new
         (host_answer card.now session.old command.old) }
 {
@@ -118,8 +114,7 @@ pub extern "C" fn emv_answer(session: &mut [u8], card: &[u8], command: &mut [u8]
 }
 
 // The link to the card failed.
-#[unsafe(no_mangle)]
-pub extern "C" fn emv_link_failed(session: &mut [u8], command: &mut [u8]) -> u32
+pub fn emv_link_failed(session: &mut [u8], command: &mut [u8]) -> u32
     ensures { ReturnsHostResult result session.new command.new
         (perform_host_call_if_admitted link_failed_step session.old command.old) }
 {
@@ -140,8 +135,7 @@ pub extern "C" fn emv_link_failed(session: &mut [u8], command: &mut [u8]) -> u32
 }
 
 // The terminal stops the session.
-#[unsafe(no_mangle)]
-pub extern "C" fn emv_stop(session: &mut [u8], command: &mut [u8]) -> u32
+pub fn emv_stop(session: &mut [u8], command: &mut [u8]) -> u32
     ensures { ReturnsHostResult result session.new command.new
         (perform_host_call_if_admitted stop_step session.old command.old) }
 {
@@ -162,8 +156,7 @@ pub extern "C" fn emv_stop(session: &mut [u8], command: &mut [u8]) -> u32
 }
 
 // How many commands the session has handed out; NO_COUNT where the bytes hold no record.
-#[unsafe(no_mangle)]
-pub extern "C" fn emv_count(session: &[u8]) -> u32
+pub fn emv_count(session: &[u8]) -> u32
     ensures { result ≡ command_count_or_all_ones (decoded_session session.now) }
 {
     let held = layout::decode_record_head(session);
@@ -174,8 +167,7 @@ pub extern "C" fn emv_count(session: &[u8]) -> u32
 }
 
 // Why the session is where it is: the stage that decided, the lowest bit that forced its choice and who holds it.
-#[unsafe(no_mangle)]
-pub extern "C" fn emv_explain(session: &[u8]) -> u32
+pub fn emv_explain(session: &[u8]) -> u32
     ensures { result ≡ explanation_word_or_refusal (decoded_session session.now) }
 {
     let held = layout::decode_record_head(session);
@@ -192,8 +184,7 @@ pub extern "C" fn emv_explain(session: &[u8]) -> u32
 
 // Reads an object of the session back: its length, with the value at the front of the caller's bytes, or a word that
 // states why not, with all of them as they were.
-#[unsafe(no_mangle)]
-pub extern "C" fn emv_object(session: &[u8], tag: u32, value: &mut [u8]) -> u32
+pub fn emv_object(session: &[u8], tag: u32, value: &mut [u8]) -> u32
     ensures { ReturnsObjectCopied result value.new (object_copied_from_session (decoded_session session.now) tag value.old) }
 {
     let held = layout::decode_record_head(session);
@@ -208,16 +199,14 @@ pub extern "C" fn emv_object(session: &[u8], tag: u32, value: &mut [u8]) -> u32
 }
 
 // The first object of a tag in a card's bytes: its value's place and length, none, or that the bytes are malformed.
-#[unsafe(no_mangle)]
-pub extern "C" fn emv_find(bytes: &[u8], tag: u32) -> u64
+pub fn emv_find(bytes: &[u8], tag: u32) -> u64
     ensures { result ≡ find_word (find_tag tag bytes.now) }
 {
     find::find_word(bytes, tag)
 }
 
 // Writes 0 over all of the caller's bytes, which hold no record then.
-#[unsafe(no_mangle)]
-pub extern "C" fn emv_wipe(session: &mut [u8]) -> u32
+pub fn emv_wipe(session: &mut [u8]) -> u32
     ensures { SessionWiped result session.old session.new }
 {
     let mut i = 0;
@@ -229,8 +218,7 @@ pub extern "C" fn emv_wipe(session: &mut [u8]) -> u32
 }
 
 // The library's version, a byte for each part, and the record layout's in the lowest byte.
-#[unsafe(no_mangle)]
-pub extern "C" fn emv_version() -> u32
+pub fn emv_version() -> u32
     ensures { result ≡ version_word }
 {
     MAJOR * 0x1000000 + MINOR * 0x10000 + PATCH * 0x100 + basics::widen32(layout::layout_version())

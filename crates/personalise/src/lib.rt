@@ -2,7 +2,8 @@
 //
 // `personalise` takes the list, the proposed entries of the AFL and the placements, and writes into two buffers of the
 // caller, or names what is refused and writes nothing. `emv_personalise` is the same for a host, with the answer as one
-// word. The tests are in `objects`, `entries` and `contents`, in the order of the refusals; `writing` writes.
+// word; `personalise_c` exports it. The tests are in `objects`, `entries` and `contents`, in the order of the refusals;
+// `writing` writes.
 #![tactic(auto)]
 
 mod contents;
@@ -94,8 +95,7 @@ pub fn personalise(
 }
 
 // The same for a host in C, with the answer as one word.
-#[unsafe(no_mangle)]
-pub extern "C" fn emv_personalise(
+pub fn emv_personalise(
     objects: &[u8],
     entries: &[u8],
     placements: &[u8],

@@ -21,7 +21,7 @@ use Rattle.tlv.proofs.Tree.{parse_end, parse_leaf, parse_node, parse_count}
 use Rattle.reading.specs.declared.Awaited.{Awaited}
 use Rattle.reading.specs.declared.Reading.{Reading}
 use Rattle.reading.specs.Taking.{PrimitiveItem}
-use Rattle.reading.specs.Answer.{ReadingOutcome, ReadingAndStoreMatchOutcome, ResponseBody, template}
+use Rattle.reading.specs.Answer.{ReadingOutcome, ReadingAndStoreMatchOutcome, ResponseBody}
 use Rattle.reading.specs.Answer.{template_body, parse_response_body}
 use Rattle.reading.specs.Answer.{body_object_count, response_body_items, read_body_items, read_parsed_body, read_body}
 use Rattle.reading.specs.Answer.{read_answer}

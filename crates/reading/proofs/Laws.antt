@@ -2,7 +2,7 @@
 use mathlib.Core.Path.{◌≡◌, refl, sym, ap, ◌∙◌}
 use mathlib.Core.Bool.{Bool, true, false, not}
 use mathlib.Core.List.{List, [], ◌∷◌}
-use Prim.Native.Nat.{ℕ, ◌+◌}
+use Prim.Native.Nat.{ℕ}
 use Rattle.basics.specs.Choice.{both}
 use Rattle.basics.proofs.Laws.{if_yes, if_no, both_true, both_right, both_no_left}
 use Rattle.tlv.specs.Tag.{is_private}

@@ -5,7 +5,7 @@ use mathlib.Core.Path.{◌≡◌, refl, sym, ap, ap₂, subst, ◌∙◌}
 use mathlib.Core.Bool.{Bool, true, false, not}
 use mathlib.Core.Logic.{◌⊎◌, inl, inr}
 use mathlib.Core.List.{List, [], ◌∷◌, ◌++◌}
-use Prim.Native.Nat.{ℕ, zero, suc, ◌+◌, ◌-◌, ◌≤◌, ◌<◌}
+use Prim.Native.Nat.{ℕ, zero, suc, ◌+◌, ◌≤◌, ◌<◌}
 use native.Mathlib.Numerals.{add-one}
 use native.Mathlib.Omega.{arith}
 use lib.Dec.{eqb, leb}
@@ -275,9 +275,9 @@ module _ (b f : List ℕ) (k : ℕ) (row : k < row_count) (sized : length b ≡ 
 pub all_bad : (answer : ℕ) {w : StoringState} (b : List ℕ) (is : List PrimitiveItem) → w ≡ storing_state false b
     → (store_all_items answer w is).good ≡ false
 unfolding store_all_items
-all_bad answer b [] e = ap (λ (w : StoringState). w.good) e
-all_bad answer b (i ∷ is) e =
-    all_bad answer b is (ap (λ (w : StoringState). store_next_item answer w i) e ∙ next_bad answer b i refl)
+all_bad answer {w = w} b [] e = ap (λ (w : StoringState). w.good) e
+all_bad answer {w = w} b (i ∷ is) e =
+    all_bad answer {w = store_next_item answer w i} b is (ap (λ (w : StoringState). store_next_item answer w i) e ∙ next_bad answer b i refl)
 
 and-true : (x : Bool) → both x true ≡ x
 unfolding both

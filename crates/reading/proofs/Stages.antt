@@ -31,7 +31,6 @@ use Rattle.reading.specs.declared.ReadingBeginning.TheVariants as begins
 use Rattle.reading.specs.declared.OuterObject.{OuterObject}
 use Rattle.reading.specs.declared.OuterObject.TheVariants as outer
 use Rattle.reading.specs.declared.TemplateWalkResult.{TemplateWalkResult}
-use Rattle.reading.specs.declared.TemplateWalkResult.TheVariants as walked
 use Rattle.reading.specs.declared.ItemListing.{ItemListing}
 use Rattle.reading.specs.declared.ItemListing.TheVariants.{Objects, Decided}
 use Rattle.reading.specs.Taking.{PrimitiveItem, primitive_item, StoringState, storing_state, store_all_items}

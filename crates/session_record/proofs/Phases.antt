@@ -26,7 +26,7 @@ use Rattle.session_record.specs.Numbers.{reason_matches_outcome, outcome_of_nonz
 use Rattle.basics.specs.Reason.{reason_no_supported_mode}
 use Rattle.session_record.specs.Session.{store_bytes, fresh_session, session_in_phase_with_count, ending_of}
 use Rattle.store.specs.Held.{has_object}
-use Rattle.session_record.specs.Ranges.{emv_mode, mag_stripe_mode, emv_or_mag_stripe_mode, stored_afl, most_commands}
+use Rattle.session_record.specs.Ranges.{emv_mode, emv_or_mag_stripe_mode, stored_afl, most_commands}
 use Rattle.session_record.specs.Ranges.{session_record_in_ranges}
 use Rattle.session_record.proofs.Clauses.{AllObjectsFit, FreshClauses, GpoClauses, RecordClauses}
 use Rattle.session_record.proofs.Clauses.{CryptogramClauses, ChecksumClauses, EndedClauses, WaitingClauses}

@@ -25,7 +25,7 @@ use Rattle.store.specs.Place.{StoredValue, absent, present, bytes_or_empty_if_ab
 use Rattle.store.specs.Place.{row_offset, store_size_of, row_place_bytes, value_in_place, row_value}
 use Rattle.store.specs.Place.{row_length_plus_one_or_zero, length_and_value_written_at, put_row, value_of_row_found}
 use Rattle.store.specs.Place.{object_value_in}
-use Rattle.store.proofs.Places.{inside, ends, apart}
+use Rattle.store.proofs.Places.{inside, apart}
 
 take_min : (m n : ℕ) (l : List ℕ) → take m (take n l) ≡ take (min m n) l
 take_min m n l = go (le-or-gt m n)

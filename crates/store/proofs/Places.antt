@@ -10,7 +10,7 @@ use lib.ListN.{length}
 use borrow.Author.Tests.{leb-true}
 use Rattle.basics.specs.Choice.{every}
 use Rattle.basics.proofs.Table.{at}
-use Rattle.dictionary.specs.Rows.{Row, dictionary_rows, blank_row, row_in}
+use Rattle.dictionary.specs.Rows.{Row, blank_row, row_in}
 use Rattle.store.specs.Place.{row_size_in_store, row_offset, store_size_of}
 
 -- a row's place lies inside the store

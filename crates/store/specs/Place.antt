@@ -1,10 +1,10 @@
 -- The store (document 01, "Dictionary" and "The shape of some places"): a fixed place for each row of a table, with
 -- room for every row at its greatest length at once. What holds here holds of every table.
 -- Assumes nothing.
-use Rattle.std.specs.Prelude.{Bool, true, false, List, [], ◌∷◌, ◌++◌, ℕ, zero, suc, ◌+◌, ◌-◌, ◌*◌, ◌/◌, ◌%◌, length, get_or, take, drop}
+use Rattle.std.specs.Prelude.{Bool, true, false, List, [], ◌∷◌, ◌++◌, zero, suc, ◌+◌, ◌-◌, length, get_or, take, drop}
 use Rattle.basics.specs.Choice.{if◌then◌else◌, ◌=?◌}
 use Rattle.basics.specs.Types.{Bytes, StoreBytes, Value, Byte, Tag, Length, Offset, RowNumber}
-use Rattle.dictionary.specs.Rows.{Row, dictionary_rows, row_in, row_at, find_row}
+use Rattle.dictionary.specs.Rows.{Row, dictionary_rows, row_in, find_row}
 use Rattle.dictionary.specs.declared.RowFound.{RowFound}
 use Rattle.dictionary.specs.declared.RowFound.TheVariants.{At, Unknown}
 

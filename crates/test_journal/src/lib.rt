@@ -1,7 +1,7 @@
 // The verdict on the caller's journal, fed in parts, and the conforming record in place of a mismatching one, for tests
 // that compare them with another implementation.
 //
-// It is in an archive of its own, which no host links.
+// It is in an archive of its own, which no host links; `test_journal_c` exports it.
 #![tactic(auto)]
 
 ghost use Rattle.std.specs.Prelude.{◌≡◌, ◌≤◌, ◌<◌, take};
@@ -12,8 +12,7 @@ use journal::JournalVerdict;
 
 // The verdict on a journal: the record's number, and above 16 bits 0 for accepted, 1 for a mismatch, 2 for truncated.
 // It is fed the first bytes, so many, and then parts of one size, 0 for all that is left.
-#[unsafe(no_mangle)]
-pub extern "C" fn emv_test_journal(bytes: &[u8], first: usize, part: usize) -> u32
+pub fn emv_test_journal(bytes: &[u8], first: usize, part: usize) -> u32
     ensures { result ≡ verdict_word (journal_verdict_of bytes.now) }
 {
     let mut at = least(first, bytes.len());
@@ -29,8 +28,7 @@ pub extern "C" fn emv_test_journal(bytes: &[u8], first: usize, part: usize) -> u
 
 // The one conforming record in place of the first mismatching one: its size, and its bytes at the front of `out`. Size
 // 0 where there is none, and where `out` has fewer bytes, which then stay.
-#[unsafe(no_mangle)]
-pub extern "C" fn emv_test_wanted(bytes: &[u8], out: &mut [u8]) -> usize
+pub fn emv_test_wanted(bytes: &[u8], out: &mut [u8]) -> usize
     ensures { GivesBytesIfRoom result out.new (expected_reply_at_first_mismatch bytes.now) out.old }
 {
     let wanted = journal::expected_reply_record(journal::feed(journal::begin(), bytes));

@@ -2,7 +2,8 @@
 // with the reader without recursion, which `test_reading_flat` has.
 //
 // The sessions' calls do not hand out how many objects a reading counted, so these do. Each reader is in an
-// archive of its own, which no host links: so it is compiled as in the library that has it alone.
+// archive of its own, which no host links: so it is compiled as in the library that has it alone. `test_reading_c` and
+// `test_reading_flat_c` export them.
 #![tactic(auto)]
 
 ghost use Rattle.std.specs.Prelude.{◌≡◌, ◌+◌, ◌*◌, ◌%◌};
@@ -28,8 +29,7 @@ const REASON: u32 = 0x10000;
 // Reads an answer, status bytes included, to GPO (0), to a record of this file (1), to the cryptogram (2) or to the
 // checksum (3): the reason's number times 65,536 and the object count. A store of another size and another number
 // are not read.
-#[unsafe(no_mangle)]
-pub extern "C" fn emv_test_read(store: &mut [u8], awaited: u32, sfi: u8, card: &[u8]) -> u32
+pub fn emv_test_read(store: &mut [u8], awaited: u32, sfi: u8, card: &[u8]) -> u32
     ensures { ReturnsTestReading result store.new (test_read awaited sfi store.old card.now) }
 {
     let answer = awaited_by_number(store.len(), awaited, sfi);

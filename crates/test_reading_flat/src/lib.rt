@@ -7,8 +7,7 @@ ghost use Rattle.test_reading.specs.Read.{ReturnsTestReading, test_read};
 use test_reading::AwaitedAnswer;
 
 // Reads an answer as `test_reading::emv_test_read` does.
-#[unsafe(no_mangle)]
-pub extern "C" fn emv_test_read_flat(store: &mut [u8], awaited: u32, sfi: u8, card: &[u8]) -> u32
+pub fn emv_test_read_flat(store: &mut [u8], awaited: u32, sfi: u8, card: &[u8]) -> u32
     ensures { ReturnsTestReading result store.new (test_read awaited sfi store.old card.now) }
 {
     let answer = test_reading::awaited_by_number(store.len(), awaited, sfi);

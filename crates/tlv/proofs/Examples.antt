@@ -1,14 +1,12 @@
 -- Worked contents of templates, by computation: what is next after padding, and the trees of padded bytes.
 -- Assumes nothing.
 use mathlib.Core.Path.{◌≡◌, refl}
-use mathlib.Core.List.{List, [], ◌∷◌, map}
-use mathlib.Core.Option.{Option, some, none}
-use Prim.Native.Nat.{ℕ}
+use mathlib.Core.List.{[], ◌∷◌, map}
+use mathlib.Core.Option.{some, none}
 use Rattle.basics.specs.Choice.{if}
 use Rattle.basics.specs.Number.{append_big_endian_bytes}
 use Rattle.basics.specs.Recursion.{recurse_with_fuel_from_length, recurse_with_fuel}
 use Rattle.tlv.specs.declared.ObjectFront.{ObjectFront}
-use Rattle.tlv.specs.declared.NextInTemplate.{NextInTemplate}
 use Rattle.tlv.specs.declared.NextInTemplate.TheVariants.{End, Inner, Malformed}
 use Rattle.tlv.specs.Tag.{tag_size, tag_size_from_second_byte, tag_size_from_third_byte, tag_at, tag_first_byte, is_template}
 use Rattle.tlv.specs.Tag.{is_private}

@@ -1,13 +1,10 @@
 -- `afl::check_afl` meets its contract. The loop's invariant: what a check reports of the whole is what it says of the
 -- rest, with the records counted so far, which are at most 128. The measure is the length of the rest.
 -- Assumes nothing.
-use borrow.Author.Rules.{rules}
-use borrow.Author.Tests.{not-true, not-false}
-use mathlib.Core.Path.{◌≡◌, refl, sym, ◌∙◌}
-use Prim.Native.Nat.{◌+◌, ◌≤◌}
+use mathlib.Core.Path.{refl, sym, ◌∙◌}
+use Prim.Native.Nat.{◌+◌}
 use native.Mathlib.Omega.{arith}
-use lib.ListN.{length}
-use Rattle.afl.proofs.Walk.{onwards, tail_less, check_start, check_broken, check_next, check_many, check_part}
+use Rattle.afl.proofs.Walk.{tail_less, check_start, check_broken, check_next, check_many, check_part}
 use Rattle.afl.proofs.Walk.{check_none, check_all}
 use Rattle.afl.proofs.Laws.{checked_says}
 use Rattle.afl.proofs.check_afl.Goals as goal
@@ -34,7 +31,6 @@ returns-then-total-gt128 c = let r = (let lp = c.loop-rest in
 pub loop-rest-smaller : goal.loop-rest-smaller
 loop-rest-smaller c = tail_less c.loop-rest.rest.now (omega arith)
 
-
 pub loop-rest-preserved : goal.loop-rest-preserved
 loop-rest-preserved c =
     let lp = c.loop-rest in
@@ -45,7 +41,6 @@ loop-rest-preserved c =
           (sym k.ensures ∙ c.if-not-is_valid_entry.false) n.result n.ensures.0,
       omega arith,
     )
-
 
 pub returns-then-rest-ne0 : goal.returns-then-rest-ne0
 returns-then-rest-ne0 c = let r = (let lp = c.loop-rest in

@@ -1,7 +1,6 @@
 -- `afl::is_valid_entry` meets its contract: each way out but the last breaks one rule of the definition, and the last
 -- keeps them all.
 -- Assumes nothing.
-use borrow.Author.Rules.{rules}
 use borrow.Author.Tests.{lt-leb, ne_eqb}
 use mathlib.Core.Path.{sym}
 use Prim.Native.Nat.{◌%◌}
@@ -17,13 +16,11 @@ returns-then-e-ne0 c =
     let e = c.args.e in
     sym (both_no_left _ _ (ne_eqb (e.lead % 8) 0 (omega arith)))
 
-
 pub returns-then-sfi-lt1 : goal.returns-then-sfi-lt1
 unfolding valid_entry
 returns-then-sfi-lt1 c =
     let e = c.args.e in
     sym (both_no_right _ _ (both_no_left _ _ (both_no_left _ _ (lt-leb 1 (entry_sfi e) (omega arith)))))
-
 
 pub returns-then-sfi-gt30 : goal.returns-then-sfi-gt30
 unfolding valid_entry
@@ -31,13 +28,11 @@ returns-then-sfi-gt30 c =
     let e = c.args.e in
     sym (both_no_right _ _ (both_no_left _ _ (both_no_right _ _ (lt-leb (entry_sfi e) 30 (omega arith)))))
 
-
 pub returns-then-e-lt1 : goal.returns-then-e-lt1
 unfolding valid_entry
 returns-then-e-lt1 c =
     let e = c.args.e in
     sym (both_no_right _ _ (both_no_right _ _ (both_no_left _ _ (lt-leb 1 e.first (omega arith)))))
-
 
 pub returns-then-e : goal.returns-then-e
 unfolding valid_entry
@@ -46,7 +41,6 @@ returns-then-e c =
     sym
     (both_no_right _ _
     (both_no_right _ _ (both_no_right _ _ (both_no_left _ _ (lt-leb e.first e.last (omega arith))))))
-
 
 pub returns-then-count-widen : goal.returns-then-count-widen
 unfolding valid_entry
@@ -58,7 +52,5 @@ returns-then-count-widen c =
     (both_no_right _ _
     (both_no_right _ _ (both_no_right _ _ (lt-leb e.offline (entry_record_count e) (omega arith))))))
 
-
 pub returns : goal.returns
 returns c = sym (kept_keeps _ (omega arith))
-

@@ -8,7 +8,5 @@ use Rattle.basics.proofs.is_between.Goals as goal
 pub returns-then-x-low : goal.returns-then-x-low
 returns-then-x-low c = sym (both_no_left _ _ (lt-leb _ _ c.if-x-low.true))
 
-
 pub returns : goal.returns
 returns c = sym (both_true _ (le-leb _ _ c.if-x-low.false))
-

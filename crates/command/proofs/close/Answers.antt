@@ -3,7 +3,6 @@
 use mathlib.Core.Path.{refl}
 use native.Mathlib.Omega.{arith}
 use lib.ListN.{length-set}
-use borrow.Author.Rules.{rules}
 use Rattle.command.proofs.Parts.{closed}
 use Rattle.command.proofs.close.Goals as goal
 
@@ -23,5 +22,8 @@ pub bounds-buffer-end : goal.bounds-buffer-end
 bounds-buffer-end c = simp length-set (omega arith)
 
 pub returns : goal.returns
-returns c = let a = c.args in record { said = refl; kept = closed a.ins a.p1 a.p2 a.buffer.now a.end c.requires.0
-      (omega arith) }
+returns c = let a = c.args in record {
+  said = refl;
+  kept = closed a.ins a.p1 a.p2 a.buffer.now a.end c.requires.0
+      (omega arith);
+}

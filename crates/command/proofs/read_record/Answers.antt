@@ -1,6 +1,5 @@
 -- `command::read_record` meets its contract: five stores at the front are the command and the old bytes after it.
 -- Assumes nothing.
-use borrow.Author.Rules.{rules}
 use mathlib.Core.Path.{◌≡◌, refl}
 use mathlib.Core.List.{List, [], ◌∷◌}
 use Prim.Native.Nat.{ℕ, ◌≤◌}
@@ -29,14 +28,11 @@ returns-then-wanted-ge32 c = let r = (let a = c.args in
 pub bounds-command-1 : goal.bounds-command-1
 bounds-command-1 c = simp length-set (omega arith)
 
-
 pub bounds-command-2 : goal.bounds-command-2
 bounds-command-2 c = simp length-set (omega arith)
 
-
 pub bounds-command-3 : goal.bounds-command-3
 bounds-command-3 c = simp length-set (omega arith)
-
 
 pub returns : goal.returns
 returns c = let r = (let a = c.args in

@@ -4,7 +4,6 @@ use mathlib.Core.Path.{◌≡◌, sym, ap, ◌∙◌}
 use Prim.Native.Nat.{◌+◌, ◌<◌}
 use native.Mathlib.Omega.{arith}
 use lib.ListN.{length}
-use borrow.Author.Rules.{rules}
 use Rattle.dictionary.specs.Rows.{dictionary_rows}
 use Rattle.dol.specs.Entries.{dol_entries}
 use Rattle.command.specs.WithList.{proprietary_command, command_if_data_is1_to255_bytes, command_with_dol}
@@ -22,8 +21,8 @@ returns-in_default c = let r = (let a = c.args in
     (unfit dictionary_rows a.store.now _ (command_if_data_is1_to255_bytes f) (dol_broken f) (dol_long f) p)) in record { said = r.0; kept = r.1.0; reason = r.1.1 }
 
 pub returns-then-n-eq0 : goal.returns-then-n-eq0
-returns-then-n-eq0 c = let r = (let filling : let a = c.args in Fills dictionary_rows a.store.now (dol_entries a.list.now) c.decreases.given.0.0 =
-      fills dictionary_rows _ _ _ (sym c.measure-measured.ensures ∙ c.decreases.given.1) in
+returns-then-n-eq0 c = let r = (let filling : let a = c.args in Fills dictionary_rows a.store.now (dol_entries a.list.now) c.in-Total.n =
+    fills dictionary_rows _ _ _ (sym c.measure-measured.ensures ∙ c.in-Total.is) in
     let a = c.args in
     let f = proprietary_command a.ins a.p1 a.p2 in
     let v = filling in
@@ -32,35 +31,33 @@ returns-then-n-eq0 c = let r = (let filling : let a = c.args in Fills dictionary
 
 pub fill-requires : goal.fill-requires
 fill-requires c =
-    let filling : let a = c.args in Fills dictionary_rows a.store.now (dol_entries a.list.now) c.decreases.given.0.0 =
-      fills dictionary_rows _ _ _ (sym c.measure-measured.ensures ∙ c.decreases.given.1) in
+    let filling : let a = c.args in Fills dictionary_rows a.store.now (dol_entries a.list.now) c.in-Total.n =
+    fills dictionary_rows _ _ _ (sym c.measure-measured.ensures ∙ c.in-Total.is) in
     (filling).room _ _ (let f = filling in
     omega arith)
 
 pub overflow_add-n : goal.overflow_add-n
 overflow_add-n c =
-    let filling : let a = c.args in Fills dictionary_rows a.store.now (dol_entries a.list.now) c.decreases.given.0.0 =
-      fills dictionary_rows _ _ _ (sym c.measure-measured.ensures ∙ c.decreases.given.1) in
+    let filling : let a = c.args in Fills dictionary_rows a.store.now (dol_entries a.list.now) c.in-Total.n =
+    fills dictionary_rows _ _ _ (sym c.measure-measured.ensures ∙ c.in-Total.is) in
     let f = filling in omega arith
 
 pub close-requires : goal.close-requires
 close-requires c =
-    let filling : let a = c.args in Fills dictionary_rows a.store.now (dol_entries a.list.now) c.decreases.given.0.0 =
-      fills dictionary_rows _ _ _ (sym c.measure-measured.ensures ∙ c.decreases.given.1) in
+    let filling : let a = c.args in Fills dictionary_rows a.store.now (dol_entries a.list.now) c.in-Total.n =
+    fills dictionary_rows _ _ _ (sym c.measure-measured.ensures ∙ c.in-Total.is) in
     let f = filling in
     (omega arith, omega arith, omega arith)
 
 pub returns : goal.returns
-returns c = let r = (let filling : let a = c.args in Fills dictionary_rows a.store.now (dol_entries a.list.now) c.decreases.given.0.0 =
-      fills dictionary_rows _ _ _ (sym c.measure-measured.ensures ∙ c.decreases.given.1) in
-    let st =
-    c.before.before.before.before.before.before.before.before.before.before.before.before.before.before.before.before in
-    let a = st.args in
+returns c = let r = (let filling : let a = c.args in Fills dictionary_rows a.store.now (dol_entries a.list.now) c.in-Total.n =
+    fills dictionary_rows _ _ _ (sym c.measure-measured.ensures ∙ c.in-Total.is) in
+    let a = c.args in
     let f = proprietary_command a.ins a.p1 a.p2 in
     let v = filling in
-    let n = c.decreases.given.0.0 in
+    let n = c.in-Total.n in
     let cl = c.close in
-    let h : 5 + length v.bytes < length a.buffer.now = omega (arith, st.pre, v.long, v.few) in
+    let h : 5 + length v.bytes < length a.buffer.now = omega (arith, c.requires, v.long, v.few) in
     let e : 5 + n ≡ 5 + length v.bytes = omega (arith, v.long) in
     let y : c.fill.new.buffer ≡ buffer_with_bytes_at a.buffer.now
     5 v.bytes = c.fill.ensures ∙ over_some _ _ _ _ v.is in

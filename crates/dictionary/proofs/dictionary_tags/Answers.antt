@@ -6,4 +6,3 @@ use Rattle.dictionary.proofs.dictionary_tags.Goals as goal
 pub returns : goal.returns
 unfolding dictionary_rows
 returns c = refl
-

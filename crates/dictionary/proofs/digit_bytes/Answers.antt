@@ -1,12 +1,7 @@
 -- `dictionary::digit_bytes` meets its contract. The invariant: every byte before i is two decimal digits.
 -- Assumes nothing.
-use borrow.Author.Rules.{rules}
-use mathlib.Core.Path.{◌≡◌, sym, ◌∙◌}
-use Prim.Native.Nat.{◌+◌, ◌-◌, ◌≤◌}
+use mathlib.Core.Path.{sym, ◌∙◌}
 use native.Mathlib.Omega.{arith}
-use lib.ListN.{length, drop}
-use borrow.Author.Tests.{not-true, not-false}
-use Rattle.dictionary.specs.Inner.{leading_decimal_bytes}
 use Rattle.dictionary.proofs.Digits.{stop_here, go_on, all_passed}
 use Rattle.dictionary.proofs.digit_bytes.Goals as goal
 
@@ -22,7 +17,6 @@ loop-i-preserved c =
     let lp = c.loop-i in
     let d = c.is_digits in
     (omega arith, lp.invariant.1 ∙ go_on _ lp.i (omega arith) (sym d.ensures ∙ c.if-not-is_digits.false))
-
 
 pub returns : goal.returns
 returns c = let lp = c.loop-i in record { value = sym (lp.invariant.1 ∙ all_passed _ lp.i (omega arith)); upper_bound = omega arith }

@@ -1,7 +1,6 @@
 -- `dictionary::find_row` meets its contract: a search of the tag's part finds what `find_row` finds in the table; its
 -- looks are those of the part's search.
 -- Assumes nothing.
-use borrow.Author.Rules.{rules}
 use mathlib.Core.Path.{◌≡◌, sym, ap, ◌∙◌}
 use mathlib.Core.Bool.{true}
 use mathlib.Core.List.{List}
@@ -36,20 +35,26 @@ few ts a n probes l h k m = let e : length (take n (drop a ts)) ≤ n = simp len
 pub slice_bounds-search_tags-end : goal.slice_bounds-search_tags-end
 slice_bounds-search_tags-end c = let e = ap length c.requires ∙ tags_length in omega (arith, c.part_of-part.ensures.from_le_to.1)
 
-
 pub returns-in-At : goal.returns-in-At
 returns-in-At c = let pre = c.requires in
     let p = c.part_of-part in
-    let s = c.search_tags-searched.ensures in record { found = part_known _ p.ensures.value (in_table _ (p.result.to - p.result.from) p.result.from pre s.found) c.in-At.is; halving = halved_known _ p.ensures.value (s.halving ∙ same-part _ (p.result.to - p.result.from) p.result.from pre)
-            c.in-At.is; few = few _ p.result.from (p.result.to - p.result.from) _ (omega (arith, p.ensures.from_le_to.1)) s.few }
+    let s = c.search_tags-searched.ensures in record {
+      found = part_known _ p.ensures.value (in_table _ (p.result.to - p.result.from) p.result.from pre s.found) c.in-At.is;
+      halving = halved_known _ p.ensures.value (s.halving ∙ same-part _ (p.result.to - p.result.from) p.result.from pre)
+          c.in-At.is;
+      few = few _ p.result.from (p.result.to - p.result.from) _ (omega (arith, p.ensures.from_le_to.1)) s.few;
+    }
 
 pub overflow_add-result : goal.overflow_add-result
 overflow_add-result c = let k = row-found _ (sym (returns-in-At c).found) in omega arith
 
-
 pub returns-in-Unknown : goal.returns-in-Unknown
 returns-in-Unknown c = let pre = c.requires in
     let p = c.part_of-part in
-    let s = c.search_tags-searched.ensures in record { found = part_unknown _ p.ensures.value (in_table _ (p.result.to - p.result.from) p.result.from pre s.found)
-          c.in-Unknown.is; halving = halved_unknown _ p.ensures.value (s.halving ∙ same-part _ (p.result.to - p.result.from) p.result.from pre)
-            c.in-Unknown.is; few = few _ p.result.from (p.result.to - p.result.from) _ (omega (arith, p.ensures.from_le_to.1)) s.few }
+    let s = c.search_tags-searched.ensures in record {
+      found = part_unknown _ p.ensures.value (in_table _ (p.result.to - p.result.from) p.result.from pre s.found)
+          c.in-Unknown.is;
+      halving = halved_unknown _ p.ensures.value (s.halving ∙ same-part _ (p.result.to - p.result.from) p.result.from pre)
+          c.in-Unknown.is;
+      few = few _ p.result.from (p.result.to - p.result.from) _ (omega (arith, p.ensures.from_le_to.1)) s.few;
+    }

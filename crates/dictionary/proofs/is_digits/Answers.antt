@@ -10,8 +10,6 @@ pub returns-then-b-lt10 : goal.returns-then-b-lt10
 unfolding is_decimal_byte
 returns-then-b-lt10 c = sym (both_true _ (lt-ltb _ _ c.if-b-lt10.true))
 
-
 pub returns : goal.returns
 unfolding is_decimal_byte
 returns c = sym (both_no_left _ _ (le-ltb _ _ c.if-b-lt10.false))
-

@@ -1,7 +1,6 @@
 -- `dictionary::is_numeric` meets its contract. The count of digit bytes is the length.
 -- Assumes nothing.
-use borrow.Author.Rules.{rules}
-use mathlib.Core.Path.{◌≡◌, sym, ap, ◌∙◌}
+use mathlib.Core.Path.{sym, ap, ◌∙◌}
 use Prim.Native.Nat.{ℕ}
 use lib.Dec.{eqb}
 use lib.ListN.{length}
@@ -12,4 +11,3 @@ pub returns : goal.returns
 returns c =
     let v = c.args.v.now in
     ap (λ (n : ℕ). eqb n (length v)) c.digit_bytes.ensures.value ∙ sym (numeric_is v)
-

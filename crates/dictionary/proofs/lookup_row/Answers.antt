@@ -1,7 +1,6 @@
 -- `dictionary::lookup_row` meets its contract: the tags are those of the rows, and these rise, so the search finds what
 -- `find_row` finds.
 -- Assumes nothing.
-use borrow.Author.Rules.{rules}
 use mathlib.Core.Path.{refl}
 use Rattle.dictionary.specs.Rows.{dictionary_rows}
 use Rattle.dictionary.proofs.Rule.{rows_proper, proper_rising}

@@ -6,4 +6,3 @@ use Rattle.dictionary.proofs.packed_row_attributes.Goals as goal
 pub returns : goal.returns
 unfolding dictionary_rows
 returns c = refl
-

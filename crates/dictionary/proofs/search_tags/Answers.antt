@@ -2,13 +2,9 @@
 -- is
 -- left says what the whole says.
 -- Assumes nothing.
-use borrow.Author.Rules.{rules}
-use mathlib.Core.Path.{◌≡◌, sym, ◌∙◌}
-use Prim.Native.Nat.{◌+◌, ◌-◌, ◌≤◌}
+use mathlib.Core.Path.{sym, ◌∙◌}
 use native.Mathlib.Omega.{arith}
-use lib.ListN.{length}
-use Rattle.dictionary.specs.Search.{halving_search_result}
-use Rattle.dictionary.proofs.Halving.{rest, begin, end, go_here, go_behind, go_before, promised}
+use Rattle.dictionary.proofs.Halving.{begin, end, go_here, go_behind, go_before, promised}
 use Rattle.dictionary.proofs.search_tags.Goals as goal
 
 pub loop-from-init : goal.loop-from-init
@@ -23,7 +19,6 @@ loop-from-preserved-then-looked-tag c =
       lp.invariant.2 ∙ go_behind a.tags.now a.tag lp.from lp.to lp.probes
           (omega arith) (omega arith) c.if-looked-tag.true,
     )
-
 
 pub returns-then-looked-tag-2 : goal.returns-then-looked-tag-2
 returns-then-looked-tag-2 c = let r = (let lp = c.loop-from in
@@ -41,7 +36,6 @@ loop-from-preserved c =
       lp.invariant.2 ∙ go_before a.tags.now a.tag lp.from lp.to lp.probes
           (omega arith) (omega arith) (omega (arith, c.if-looked-tag-2.false)),
     )
-
 
 pub returns : goal.returns
 returns c = let r = (let lp = c.loop-from in

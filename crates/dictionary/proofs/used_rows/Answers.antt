@@ -9,4 +9,3 @@ use Rattle.dictionary.proofs.used_rows.Goals as goal
 pub returns : goal.returns
 unfolding if dictionary_rows row_found_shifted find_row row_number_of_tag_or_zero used_tags
 returns c = refl
-

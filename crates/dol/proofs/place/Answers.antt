@@ -8,4 +8,3 @@ pub returns : goal.returns
 returns c =
     let a = c.args in
     over_part a.buffer.now a.at a.v.now _ (search rules) c.copy.ensures.1
-

@@ -1,7 +1,7 @@
 -- `repeat`: the invariant is that the first i bytes of the run are written, the rest is as it was.
 -- Assumes nothing.
 use mathlib.Core.Path.{◌≡◌, refl, sym, ap, ◌∙◌}
-use Prim.Native.Nat.{ℕ, ◌+◌, ◌-◌, ◌≤◌, ◌<◌}
+use Prim.Native.Nat.{ℕ, ◌+◌, ◌<◌}
 use native.Mathlib.Omega.{arith}
 use lib.ListN.{length, replicate, length-set}
 use Rattle.dol.specs.Measure.{buffer_with_bytes_at}
@@ -22,7 +22,6 @@ loop-i-preserved c =
           h),
     )
 
-
 pub shape_of-buffer : goal.shape_of-buffer
 shape_of-buffer c = c.loop-i.invariant.1
 
@@ -32,4 +31,3 @@ returns c =
     let lp = c.loop-i in
     let e : lp.i ≡ a.n = omega arith in
     lp.invariant.2 ∙ ap (λ (k : ℕ). buffer_with_bytes_at a.buffer.now a.at (replicate k a.byte)) e
-

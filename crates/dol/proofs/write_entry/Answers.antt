@@ -4,8 +4,6 @@ use mathlib.Core.Path.{◌≡◌, sym, ap, ◌∙◌}
 use mathlib.Core.List.{List}
 use Prim.Native.Nat.{ℕ, ◌<◌}
 use native.Mathlib.Omega.{arith}
-use borrow.Author.Rules.{rules}
-use borrow.Author.Tests.{not-true, not-false}
 use Rattle.dictionary.specs.declared.RowAttributes.{RowAttributes}
 use Rattle.dictionary.specs.declared.RowFound.TheVariants.{At}
 use Rattle.dictionary.specs.Rows.{dictionary_rows, row_count, find_row}
@@ -29,92 +27,82 @@ returns-then-is_template c =
     c.widen-n.ensures.0
     (of_template dictionary_rows a.store.now a.entry t)
 
-
 pub returns-in_default : goal.returns-in_default
 returns-in_default c =
-    let st = c.before.before.before.before.before.before.before.before.before.before.before.before.before
-    in
-    let a = st.args in
+    let a = c.args in
     let t = sym c.is_template.ensures ∙
     c.if-is_template.false in
     let f =
     sym
-    (lent_found a.entry.tag st.pre.1.tags
+    (lent_found a.entry.tag c.requires.are_dictionary_tables.tags
     c.search_tags-found.ensures.found) ∙
     c.in_default.is in
     zeros_of _ _ _ _ _ _ c.repeat-in_default.ensures
     c.widen-n.ensures.0
     (of_unknown dictionary_rows a.store.now a.entry t f)
 
-
 pub returns-then-not-is_present : goal.returns-then-not-is_present
 returns-then-not-is_present c =
-    let st =
-    c.before.before.before.before.before.before.before.before.before.before.before.before.before.before.before.before in
-    let a = st.args in
+    let a = c.args in
     let t =
     sym
     c.is_template.ensures ∙ c.if-is_template.false in
     let f =
     sym
-    (lent_found a.entry.tag st.pre.1.tags
+    (lent_found a.entry.tag c.requires.are_dictionary_tables.tags
     c.search_tags-found.ensures.found) ∙
     c.in-At.is in
     let i = sym c.is_present.ensures ∙ c.if-not-is_present.true in
     zeros_of _ _ _ _ _ _ c.repeat-then-not-is_present.ensures
     c.widen-n.ensures.0 (of_absent dictionary_rows a.store.now a.entry _ t f i)
 
-
 pub offset_bounds-codes-row : goal.offset_bounds-codes-row
 offset_bounds-codes-row c =
     let row-at : find_row dictionary_rows c.args.entry.tag ≡ At c.in-At.row =
-      sym
+    sym
     (lent_found
     c.args.entry.tag
     c.requires.are_dictionary_tables.tags
     c.search_tags-found.ensures.found) ∙
     c.in-At.is in
     let in_table : c.in-At.row < row_count =
-      row-found
+    row-found
     c.args.entry.tag (row-at) in
     let h = in_table in omega arith
 
 pub bounds-codes-row : goal.bounds-codes-row
 bounds-codes-row c =
     let row-at : find_row dictionary_rows c.args.entry.tag ≡ At c.in-At.row =
-      sym
+    sym
     (lent_found
     c.args.entry.tag
     c.requires.are_dictionary_tables.tags
     c.search_tags-found.ensures.found) ∙
     c.in-At.is in
     let in_table : c.in-At.row < row_count =
-      row-found
+    row-found
     c.args.entry.tag (row-at) in
     in_table
 
 pub returns : goal.returns
 returns c =
     let row-at : find_row dictionary_rows c.args.entry.tag ≡ At c.in-At.row =
-      sym
+    sym
     (lent_found
     c.args.entry.tag
     c.requires.are_dictionary_tables.tags
     c.search_tags-found.ensures.found) ∙
     c.in-At.is in
     let in_table : c.in-At.row < row_count =
-      row-found
+    row-found
     c.args.entry.tag (row-at) in
-    let st =
-    c.before.before.before.before.before.before.before.before.before.before.before.before.before.before.before.before.before.before.before in
-    let a = st.args in
-    
+    let a = c.args in
     let t =
     sym
     c.is_template.ensures ∙
     c.if-is_template.false in
     let i = sym c.is_present.ensures ∙ c.if-not-is_present.false in
-    let row = c.unpack_row_attributes-attributes.ensures ∙ lent_row st.pre.1.codes
+    let row = c.unpack_row_attributes-attributes.ensures ∙ lent_row c.requires.are_dictionary_tables.codes
     (in_table) in
     c.write_value.ensures
     ∙ ap (buffer_with_bytes_at a.buffer.now a.at)

@@ -5,7 +5,6 @@ use mathlib.Core.List.{◌++◌}
 use Prim.Native.Nat.{ℕ, ◌+◌, ◌-◌, ◌≤◌}
 use native.Mathlib.Omega.{arith}
 use lib.ListN.{length, replicate, length-replicate}
-use borrow.Author.Rules.{rules}
 use Rattle.dol.specs.Measure.{buffer_with_bytes_at}
 use Rattle.dol.proofs.Buffer.{over_then}
 use Rattle.dol.proofs.Fitting.{padded_n, padded_other}
@@ -13,7 +12,6 @@ use Rattle.dol.proofs.write_padded.Goals as goal
 
 pub returns-then-form-ne-FORM_N : goal.returns-then-form-ne-FORM_N
 returns-then-form-ne-FORM_N c =
-    
     let a = c.args in
     let v = a.v.now in
     let p = c.padding_byte in
@@ -26,10 +24,8 @@ returns-then-form-ne-FORM_N c =
     (padded_other a.form a.n v
     c.if-form-ne-FORM_N.true))
 
-
 pub returns : goal.returns
 returns c =
-    
     let a = c.args in
     let v = a.v.now in
     let g = a.n - length v in
@@ -40,4 +36,3 @@ returns c =
     c.repeat-2.ensures c.place-2.ensures
     ∙ ap (buffer_with_bytes_at a.buffer.now a.at)
     (sym (padded_n a.form a.n v c.if-form-ne-FORM_N.false))
-

@@ -3,7 +3,6 @@
 use mathlib.Core.Path.{sym, ap, ◌∙◌}
 use native.Mathlib.Omega.{arith}
 use lib.ListN.{length-take}
-use borrow.Author.Rules.{rules}
 use Rattle.tlv.proofs.Laws.{tail-is}
 use Rattle.dol.specs.Measure.{buffer_with_bytes_at}
 use Rattle.dol.proofs.Fitting.{cut_n, cut_other}
@@ -17,7 +16,6 @@ returns-then-form-eq-FORM_N c =
     (tail-is a.v.now _ ∙ sym
     (cut_n a.form a.n a.v.now c.if-form-eq-FORM_N.true))
 
-
 pub slice_bounds-place-end-2 : goal.slice_bounds-place-end-2
 slice_bounds-place-end-2 c = simp length-take (omega arith)
 
@@ -30,4 +28,3 @@ returns c =
     c.place-2.ensures
     ∙ ap (buffer_with_bytes_at a.buffer.now a.at)
     (sym (cut_other a.form a.n a.v.now c.if-form-eq-FORM_N.false))
-

@@ -1,7 +1,6 @@
 -- `find::find`: too many bytes are malformed, else it is what `walk` found; the tree says the same of both
 -- (`with_tree`).
 -- Assumes nothing.
-use borrow.Author.Rules.{rules}
 use Rattle.find.proofs.InTree.{find_long, find_walked, with_tree}
 use Rattle.find.proofs.find.Goals as goal
 

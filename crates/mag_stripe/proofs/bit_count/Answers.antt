@@ -7,7 +7,5 @@ use Rattle.mag_stripe.proofs.bit_count.Goals as goal
 pub overflow_cast-result : goal.overflow_cast-result
 overflow_cast-result c = omega (arith, bits_counted c.args.bitmap c.ranges.bitmap.fits)
 
-
 pub returns : goal.returns
 returns c = bits_counted c.args.bitmap c.ranges.bitmap.fits
-

@@ -1,6 +1,5 @@
 -- `mag_stripe::discretionary_of` meets its contract: the first D, and the first F after it.
 -- Assumes nothing.
-use borrow.Author.Rules.{rules}
 use native.Mathlib.Omega.{arith}
 use Rattle.basics.specs.Number.{nibbles}
 use Rattle.mag_stripe.specs.Track.{track_separator}
@@ -13,7 +12,6 @@ overflow_add-from c =
     let t = c.args.track.now in
     omega (arith, c.first-from.ensures, before_le track_separator (nibbles t), length_nibbles t)
 
-
 pub overflow_sub-n : goal.overflow_sub-n
 overflow_sub-n c = omega (arith, c.first-end.ensures)
 
@@ -22,9 +20,7 @@ returns-then-n-lt7 c =
     let t = c.args.track.now in
     data_none (nibbles t) _ _ c.first-from.ensures c.first-end.ensures c.if-n-lt7.true
 
-
 pub returns : goal.returns
 returns c =
     let t = c.args.track.now in
     data_by (nibbles t) _ _ c.first-from.ensures c.first-end.ensures
-

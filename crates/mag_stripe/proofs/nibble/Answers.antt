@@ -8,12 +8,9 @@ use Rattle.mag_stripe.proofs.nibble.Goals as goal
 pub bounds-track-i : goal.bounds-track-i
 bounds-track-i c = omega (arith, length_nibbles c.args.track.now)
 
-
 pub returns-then-i-eq0 : goal.returns-then-i-eq0
 returns-then-i-eq0 c = sym (high_nibble _ _ c.if-i-eq0.true)
-
 
 pub returns : goal.returns
 returns c = sym (low_nibble c.args.track.now c.args.i
     (omega (arith, c.if-i-eq0.false)))
-

@@ -1,6 +1,5 @@
 -- `mag_stripe::word_at` meets its contract: byte by byte.
 -- Assumes nothing.
-use borrow.Author.Rules.{rules}
 use mathlib.Core.Path.{◌≡◌, ◌∙◌}
 use mathlib.Core.List.{List}
 use Prim.Native.Nat.{ℕ, ◌+◌, ◌*◌}
@@ -19,4 +18,3 @@ returns c =
     two_bytes a.s.now a.i _ _
     (c.widen-high.ensures.0 ∙ c.byte_at.ensures)
     (c.widen-low.ensures.0 ∙ c.byte_at-2.ensures)
-

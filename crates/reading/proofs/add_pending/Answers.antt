@@ -1,6 +1,5 @@
 -- `reading::add_pending` meets its contract. The row is marked where the value has bytes.
 -- Assumes nothing.
-use borrow.Author.Rules.{rules}
 use mathlib.Core.Path.{sym, ap, ◌∙◌}
 use lib.ListN.{set}
 use borrow.Author.Tests.{eq-eqb, ne_eqb}

@@ -1,11 +1,9 @@
 -- `reading::judge_item` meets its contract: the number is taken apart, and there is a law for each way out
 -- (proofs/Pending).
 -- Assumes nothing.
-use borrow.Author.Rules.{rules}
 use mathlib.Core.Path.{◌≡◌, sym, ◌∙◌}
 use Prim.Native.Nat.{◌<◌}
 use native.Mathlib.Omega.{arith}
-use borrow.Author.Tests.{not-true, not-false}
 use Rattle.dictionary.specs.Rows.{row_at, row_count}
 use Rattle.dictionary.specs.Packing.{attributes_of}
 use Rattle.dictionary.proofs.Lent.{row-found, lent_row}
@@ -17,25 +15,24 @@ pub returns-in_default : goal.returns-in_default
 returns-in_default c = said_unknown _ _ _ c.tag_in-tag.ensures
     c.find_row-found.ensures.found c.in_default.is
 
-
 pub offset_bounds-codes-row : goal.offset_bounds-codes-row
 offset_bounds-codes-row c =
     let row-at : c.in-At.row < row_count =
-      row-found _ (sym c.find_row-found.ensures.found ∙ c.in-At.is) in
+    row-found _ (sym c.find_row-found.ensures.found ∙ c.in-At.is) in
     omega (arith, row-at)
 
 pub bounds-codes-row : goal.bounds-codes-row
 bounds-codes-row c =
     let row-at : c.in-At.row < row_count =
-      row-found _ (sym c.find_row-found.ensures.found ∙ c.in-At.is) in
+    row-found _ (sym c.find_row-found.ensures.found ∙ c.in-At.is) in
     row-at
 
 pub returns-then-is_skipped : goal.returns-then-is_skipped
 returns-then-is_skipped c =
     let row-at : c.in-At.row < row_count =
-      row-found _ (sym c.find_row-found.ensures.found ∙ c.in-At.is) in
+    row-found _ (sym c.find_row-found.ensures.found ∙ c.in-At.is) in
     let attributes-at : c.unpack_row_attributes-attributes.result ≡ attributes_of (row_at c.in-At.row) =
-      c.unpack_row_attributes-attributes.ensures
+    c.unpack_row_attributes-attributes.ensures
     ∙ lent_row c.requires.are_dictionary_tables.codes
     (row-at) in
     said_skipped _ _ _ c.tag_in-tag.ensures
@@ -46,13 +43,13 @@ returns-then-is_skipped c =
 pub returns-then-not-may_come : goal.returns-then-not-may_come
 returns-then-not-may_come c =
     let row-at : c.in-At.row < row_count =
-      row-found _ (sym c.find_row-found.ensures.found ∙ c.in-At.is) in
+    row-found _ (sym c.find_row-found.ensures.found ∙ c.in-At.is) in
     let attributes-at : c.unpack_row_attributes-attributes.result ≡ attributes_of (row_at c.in-At.row) =
-      c.unpack_row_attributes-attributes.ensures
+    c.unpack_row_attributes-attributes.ensures
     ∙ lent_row c.requires.are_dictionary_tables.codes
     (row-at) in
     let said_at : let a = c.args in Said a.answer a.bytes.now a.item c.in-At.row c.may_come.result =
-      said _ _ _ c.tag_in-tag.ensures
+    said _ _ _ c.tag_in-tag.ensures
     c.find_row-found.ensures.found _ c.in-At.is
     (attributes-at)
     c.is_skipped.ensures
@@ -64,13 +61,13 @@ returns-then-not-may_come c =
 pub returns : goal.returns
 returns c =
     let row-at : c.in-At.row < row_count =
-      row-found _ (sym c.find_row-found.ensures.found ∙ c.in-At.is) in
+    row-found _ (sym c.find_row-found.ensures.found ∙ c.in-At.is) in
     let attributes-at : c.unpack_row_attributes-attributes.result ≡ attributes_of (row_at c.in-At.row) =
-      c.unpack_row_attributes-attributes.ensures
+    c.unpack_row_attributes-attributes.ensures
     ∙ lent_row c.requires.are_dictionary_tables.codes
     (row-at) in
     let said_at : let a = c.args in Said a.answer a.bytes.now a.item c.in-At.row c.may_come.result =
-      said _ _ _ c.tag_in-tag.ensures
+    said _ _ _ c.tag_in-tag.ensures
     c.find_row-found.ensures.found _ c.in-At.is
     (attributes-at)
     c.is_skipped.ensures

@@ -1,7 +1,6 @@
 -- `reading::list_cryptogram` meets its contract: the CID, the ATC, the AC and, if any bytes are left, the IAD by their
 -- places (proofs/Stages).
 -- Assumes nothing.
-use borrow.Author.Rules.{rules}
 use mathlib.Core.Path.{◌≡◌, ap, ◌∙◌}
 use mathlib.Core.List.{List, [], ◌∷◌, ◌++◌}
 use mathlib.Core.Option.{some}
@@ -74,14 +73,20 @@ module _ (l : List ℕ) (start n : ℕ) (e : length l ≡ most_listed_items) (a 
   )
 
 pub returns-then-n-lt-LEAST_AC_BODY : goal.returns-then-n-lt-LEAST_AC_BODY
-returns-then-n-lt-LEAST_AC_BODY c = record { lists = parts_none Cryptogram cryptogram_items_under80 _ _ _
+returns-then-n-lt-LEAST_AC_BODY c = record {
+  lists = parts_none Cryptogram cryptogram_items_under80 _ _ _
       (λ v e. cryptogram_short v (omega (arith, c.if-n-lt-LEAST_AC_BODY.true)))
-      c.decided.ensures; room = c.requires.0 }
+      c.decided.ensures;
+  room = c.requires.0;
+}
 
 pub returns-then-n-gt-MOST_AC_BODY : goal.returns-then-n-gt-MOST_AC_BODY
-returns-then-n-gt-MOST_AC_BODY c = record { lists = parts_none Cryptogram cryptogram_items_under80 _ _ _
+returns-then-n-gt-MOST_AC_BODY c = record {
+  lists = parts_none Cryptogram cryptogram_items_under80 _ _ _
       (λ v e. cryptogram_long v (omega (arith, c.if-n-gt-MOST_AC_BODY.true)))
-      c.decided-then-n-gt-MOST_AC_BODY.ensures; room = c.requires.0 }
+      c.decided-then-n-gt-MOST_AC_BODY.ensures;
+  room = c.requires.0;
+}
 
 pub returns-then-n-eq-LEAST_AC_BODY : goal.returns-then-n-eq-LEAST_AC_BODY
 returns-then-n-eq-LEAST_AC_BODY c = let r = (let a = c.args in

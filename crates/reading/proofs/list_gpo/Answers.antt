@@ -1,6 +1,5 @@
 -- `reading::list_gpo` meets its contract: the AIP and the AFL by their places (proofs/Stages).
 -- Assumes nothing.
-use borrow.Author.Rules.{rules}
 use mathlib.Core.Path.{◌≡◌, sym, ap, ◌∙◌}
 use mathlib.Core.List.{List, [], ◌∷◌}
 use Prim.Native.Nat.{ℕ, ◌+◌, ◌-◌, ◌%◌, ◌≤◌}
@@ -34,17 +33,26 @@ listed l start n e a b {x} {y} p q m k u = (
 )
 
 pub returns-then-n-lt-LEAST_GPO_BODY : goal.returns-then-n-lt-LEAST_GPO_BODY
-returns-then-n-lt-LEAST_GPO_BODY c = record { lists = parts_none Gpo gpo_items_under80 _ _ _ (λ v e. gpo_short v (omega (arith, c.if-n-lt-LEAST_GPO_BODY.true)))
-      c.decided.ensures; room = c.requires.0 }
+returns-then-n-lt-LEAST_GPO_BODY c = record {
+  lists = parts_none Gpo gpo_items_under80 _ _ _ (λ v e. gpo_short v (omega (arith, c.if-n-lt-LEAST_GPO_BODY.true)))
+      c.decided.ensures;
+  room = c.requires.0;
+}
 
 pub returns-then-n-gt-MOST_GPO_BODY : goal.returns-then-n-gt-MOST_GPO_BODY
-returns-then-n-gt-MOST_GPO_BODY c = record { lists = parts_none Gpo gpo_items_under80 _ _ _ (λ v e. gpo_long v (omega (arith, c.if-n-gt-MOST_GPO_BODY.true)))
-      c.decided-then-n-gt-MOST_GPO_BODY.ensures; room = c.requires.0 }
+returns-then-n-gt-MOST_GPO_BODY c = record {
+  lists = parts_none Gpo gpo_items_under80 _ _ _ (λ v e. gpo_long v (omega (arith, c.if-n-gt-MOST_GPO_BODY.true)))
+      c.decided-then-n-gt-MOST_GPO_BODY.ensures;
+  room = c.requires.0;
+}
 
 pub returns-then-n-ne0 : goal.returns-then-n-ne0
-returns-then-n-ne0 c = record { lists = parts_none Gpo gpo_items_under80 _ _ _
+returns-then-n-ne0 c = record {
+  lists = parts_none Gpo gpo_items_under80 _ _ _
       (λ v e. gpo_uneven v (λ z. c.if-n-ne0.true (ap (λ (k : ℕ). (k - 2) % 4) (sym e) ∙ z)))
-      c.decided-then-n-ne0.ensures; room = c.requires.0 }
+      c.decided-then-n-ne0.ensures;
+  room = c.requires.0;
+}
 
 pub returns : goal.returns
 returns c = let r = (let a = c.args in

@@ -18,20 +18,16 @@ past x y ne e = e ∙ sym (if_no _ _ (ne_eqb _ _ ne))
 pub returns-then-around-eq112 : goal.returns-then-around-eq112
 returns-then-around-eq112 c = here _ _ c.if-around-eq112.true
 
-
 pub returns-then-around-eq119 : goal.returns-then-around-eq119
 returns-then-around-eq119 c = past _ _ c.if-around-eq112.false (here _ _ c.if-around-eq119.true)
 
-
 pub returns-then-around-eq165 : goal.returns-then-around-eq165
 returns-then-around-eq165 c = past _ _ c.if-around-eq112.false (past _ _ c.if-around-eq119.false (here _ _ c.if-around-eq165.true))
-
 
 pub returns-then-around-eq48908 : goal.returns-then-around-eq48908
 returns-then-around-eq48908 c =
     past _ _ c.if-around-eq112.false
     (past _ _ c.if-around-eq119.false (past _ _ c.if-around-eq165.false (here _ _ c.if-around-eq48908.true)))
-
 
 pub returns-then-around-eq111 : goal.returns-then-around-eq111
 returns-then-around-eq111 c =
@@ -39,10 +35,8 @@ returns-then-around-eq111 c =
     (past _ _ c.if-around-eq119.false
     (past _ _ c.if-around-eq165.false (past _ _ c.if-around-eq48908.false (here _ _ c.if-around-eq111.true))))
 
-
 pub returns : goal.returns
 returns c =
     past _ _ c.if-around-eq112.false
     (past _ _ c.if-around-eq119.false
     (past _ _ c.if-around-eq165.false (past _ _ c.if-around-eq48908.false (past _ _ c.if-around-eq111.false refl))))
-

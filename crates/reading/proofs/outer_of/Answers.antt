@@ -1,6 +1,5 @@
 -- `reading::outer_of` meets its contract: one object with no byte after it, and then its kind.
 -- Assumes nothing.
-use borrow.Author.Rules.{rules}
 use mathlib.Core.Path.{sym, ap, ◌∙◌}
 use native.Mathlib.Omega.{arith}
 use borrow.Author.Tests.{eq-eqb, ne_eqb}
@@ -13,19 +12,16 @@ pub returns-in_default : goal.returns-in_default
 unfolding outer_object
 returns-in_default c = sym (ap (outer_object_of_front _) (sym c.object_header-front.ensures ∙ c.in_default.is))
 
-
 pub overflow_add-h : goal.overflow_add-h
 overflow_add-h c =
     let f = header_fits _ _ (sym c.object_header-front.ensures
     ∙ c.in-Object.is) in omega arith
-
 
 pub returns-then-h-body : goal.returns-then-h-body
 unfolding outer_object
 returns-then-h-body c =
     sym (ap (outer_object_of_front _) (sym c.object_header-front.ensures
     ∙ c.in-Object.is) ∙ if_no _ _ (ne_eqb _ _ c.if-h-body.true))
-
 
 pub returns-then-h : goal.returns-then-h
 unfolding outer_object
@@ -35,7 +31,6 @@ returns-then-h c =
     ∙ c.in-Object.is)
     ∙ if_yes _ _ (eq-eqb _ _ c.if-h-body.false) ∙ if_yes _ _ c.if-h.true)
 
-
 pub returns : goal.returns
 unfolding outer_object
 returns c =
@@ -43,4 +38,3 @@ returns c =
     (ap (outer_object_of_front _) (sym c.object_header-front.ensures
     ∙ c.in-Object.is)
     ∙ if_yes _ _ (eq-eqb _ _ c.if-h-body.false) ∙ if_no _ _ c.if-h.false)
-

@@ -1,6 +1,5 @@
 -- `reading::take_listed` meets its contract: the objects are judged, and what is pending is put.
 -- Assumes nothing.
-use borrow.Author.Rules.{rules}
 use Rattle.reading.proofs.Parts.{restore}
 use Rattle.reading.proofs.take_listed.Goals as goal
 

@@ -5,7 +5,7 @@ use borrow.Author.Tests.{eq-eqb, ne_eqb}
 use mathlib.Core.Path.{◌≡◌, refl, sym, ap, ◌∙◌}
 use mathlib.Core.Logic.{inl, inr}
 use mathlib.Core.List.{List}
-use Prim.Native.Nat.{ℕ, ◌+◌, ◌-◌, ◌≤◌, ◌<◌}
+use Prim.Native.Nat.{ℕ, ◌+◌, ◌≤◌, ◌<◌}
 use native.Mathlib.Omega.{arith}
 use lib.Dec.{eqb}
 use lib.ListN.{length, get_or, drop}
@@ -34,20 +34,18 @@ loop-i-preserved c =
     let lp = c.loop-i in
     let v = c.args.v.now in
     elim c.if-most-b.branch [
-      | inl w ↦
-          let lt : lp.most < get_or v lp.i 0 = w.0.taken in
-          let is : c.if-most-b.most ≡ get_or v lp.i 0 = w.1 in
+      | goal.then-most-b w ↦
+          let lt : lp.most < get_or v lp.i 0 = w.if-most-b.true in
+          let is : c.if-most-b.most ≡ get_or v lp.i 0 = w.most-is in
           lp.invariant ∙ both_no_right _ _
           (every_no is_zero_byte v 0 lp.i (omega arith) (ne_eqb (get_or v lp.i 0) 0 (λ e. omega arith)))
           ∙ sym (both_no_left _ _ (ne_eqb c.if-most-b.most 0 (λ e. omega arith)))
-      | inr w ↦ lp.invariant ∙ no-greater v lp.i lp.most (omega arith) (omega arith)
-          ∙ ap (λ (n : ℕ). both (eqb n 0) (every is_zero_byte (drop (lp.i + 1) v))) (sym w.1)
+      | goal.else-most-b w ↦ lp.invariant ∙ no-greater v lp.i lp.most (omega arith) (omega arith)
+          ∙ ap (λ (n : ℕ). both (eqb n 0) (every is_zero_byte (drop (lp.i + 1) v))) (sym w.most-is)
     ]
-
 
 pub returns : goal.returns
 returns c =
     let lp = c.loop-i in
     let v = c.args.v.now in
     sym (lp.invariant ∙ both_right_true _ (every_done is_zero_byte v 0 lp.i (omega arith)))
-

@@ -10,13 +10,10 @@ pub returns-then-reason-lt-REASON_STATUS : goal.returns-then-reason-lt-REASON_ST
 unfolding reason_matches_outcome
 returns-then-reason-lt-REASON_STATUS c = sym (both_no_left _ _ (both_no_left _ _ (lt-leb _ _ c.if-reason-lt-REASON_STATUS.true)))
 
-
 pub returns-then-reason-gt-REASON_MODE : goal.returns-then-reason-gt-REASON_MODE
 unfolding reason_matches_outcome
 returns-then-reason-gt-REASON_MODE c = sym (both_no_left _ _ (both_no_right _ _ (lt-leb _ _ c.if-reason-gt-REASON_MODE.true)))
 
-
 pub returns : goal.returns
 unfolding reason_matches_outcome
 returns c = sym (both_true _ (both_yes _ _ (le-leb _ _ c.if-reason-lt-REASON_STATUS.false) (le-leb _ _ c.if-reason-gt-REASON_MODE.false)))
-

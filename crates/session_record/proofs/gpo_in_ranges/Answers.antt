@@ -1,7 +1,5 @@
 -- `session_record::gpo_in_ranges` meets its contract: where a clause holds, the later ones decide.
 -- Assumes nothing.
-use borrow.Author.Rules.{rules}
-use borrow.Author.Tests.{not-true, not-false}
 use mathlib.Core.Path.{◌≡◌, sym, ◌∙◌}
 use lib.Dec.{eqb}
 use Rattle.basics.specs.Choice.{both}
@@ -17,12 +15,11 @@ unfolding in_gpo_ranges
 returns-then-not-is_running c =
     sym (both_assoc _ _ _ ∙ both_no_left _ _ (sym c.is_running.ensures ∙ c.if-not-is_running.true))
 
-
 pub returns-then-is_present : goal.returns-then-is_present
 unfolding in_gpo_ranges
 returns-then-is_present c =
     let past-running : let a = c.args in let b = a.bytes.now in both (all_stored_objects_fit_rows b) (in_gpo_ranges a.count b) ≡ both (lacks_object b 0x82) (both (lacks_object b 0x94) (both (is_object_zero_or_absent b 0x95) (eqb a.count 1))) =
-      both_assoc _ _ _ ∙ both_true _ (sym c.is_running.ensures ∙ c.if-not-is_running.false) in
+    both_assoc _ _ _ ∙ both_true _ (sym c.is_running.ensures ∙ c.if-not-is_running.false) in
     sym (past-running ∙ both_no_left _ _ (lacks_is _ _ _ at_82 c.is_present.ensures
     c.if-is_present.true))
 
@@ -30,9 +27,9 @@ pub returns-then-is_present-2 : goal.returns-then-is_present-2
 unfolding in_gpo_ranges
 returns-then-is_present-2 c =
     let past-running : let a = c.args in let b = a.bytes.now in both (all_stored_objects_fit_rows b) (in_gpo_ranges a.count b) ≡ both (lacks_object b 0x82) (both (lacks_object b 0x94) (both (is_object_zero_or_absent b 0x95) (eqb a.count 1))) =
-      both_assoc _ _ _ ∙ both_true _ (sym c.is_running.ensures ∙ c.if-not-is_running.false) in
+    both_assoc _ _ _ ∙ both_true _ (sym c.is_running.ensures ∙ c.if-not-is_running.false) in
     let past-82 : let a = c.args in let b = a.bytes.now in both (all_stored_objects_fit_rows b) (in_gpo_ranges a.count b) ≡ both (lacks_object b 0x94) (both (is_object_zero_or_absent b 0x95) (eqb a.count 1)) =
-      past-running ∙ both_true _ (lacks_is _ _ _ at_82 c.is_present.ensures
+    past-running ∙ both_true _ (lacks_is _ _ _ at_82 c.is_present.ensures
     c.if-is_present.false) in
     sym
     (past-82 ∙ both_no_left _ _ (lacks_is _ _ _ at_94 c.is_present-2.ensures
@@ -42,12 +39,12 @@ pub returns-then-not-all_zero : goal.returns-then-not-all_zero
 unfolding in_gpo_ranges
 returns-then-not-all_zero c =
     let past-running : let a = c.args in let b = a.bytes.now in both (all_stored_objects_fit_rows b) (in_gpo_ranges a.count b) ≡ both (lacks_object b 0x82) (both (lacks_object b 0x94) (both (is_object_zero_or_absent b 0x95) (eqb a.count 1))) =
-      both_assoc _ _ _ ∙ both_true _ (sym c.is_running.ensures ∙ c.if-not-is_running.false) in
+    both_assoc _ _ _ ∙ both_true _ (sym c.is_running.ensures ∙ c.if-not-is_running.false) in
     let past-82 : let a = c.args in let b = a.bytes.now in both (all_stored_objects_fit_rows b) (in_gpo_ranges a.count b) ≡ both (lacks_object b 0x94) (both (is_object_zero_or_absent b 0x95) (eqb a.count 1)) =
-      past-running ∙ both_true _ (lacks_is _ _ _ at_82 c.is_present.ensures
+    past-running ∙ both_true _ (lacks_is _ _ _ at_82 c.is_present.ensures
     c.if-is_present.false) in
     let past-94 : let a = c.args in let b = a.bytes.now in both (all_stored_objects_fit_rows b) (in_gpo_ranges a.count b) ≡ both (is_object_zero_or_absent b 0x95) (eqb a.count 1) =
-      past-82 ∙ both_true _ (lacks_is _ _ _ at_94 c.is_present-2.ensures
+    past-82 ∙ both_true _ (lacks_is _ _ _ at_94 c.is_present-2.ensures
     c.if-is_present-2.false) in
     sym
     (past-94 ∙ both_no_left _ _
@@ -57,12 +54,12 @@ pub returns : goal.returns
 unfolding in_gpo_ranges
 returns c =
     let past-running : let a = c.args in let b = a.bytes.now in both (all_stored_objects_fit_rows b) (in_gpo_ranges a.count b) ≡ both (lacks_object b 0x82) (both (lacks_object b 0x94) (both (is_object_zero_or_absent b 0x95) (eqb a.count 1))) =
-      both_assoc _ _ _ ∙ both_true _ (sym c.is_running.ensures ∙ c.if-not-is_running.false) in
+    both_assoc _ _ _ ∙ both_true _ (sym c.is_running.ensures ∙ c.if-not-is_running.false) in
     let past-82 : let a = c.args in let b = a.bytes.now in both (all_stored_objects_fit_rows b) (in_gpo_ranges a.count b) ≡ both (lacks_object b 0x94) (both (is_object_zero_or_absent b 0x95) (eqb a.count 1)) =
-      past-running ∙ both_true _ (lacks_is _ _ _ at_82 c.is_present.ensures
+    past-running ∙ both_true _ (lacks_is _ _ _ at_82 c.is_present.ensures
     c.if-is_present.false) in
     let past-94 : let a = c.args in let b = a.bytes.now in both (all_stored_objects_fit_rows b) (in_gpo_ranges a.count b) ≡ both (is_object_zero_or_absent b 0x95) (eqb a.count 1) =
-      past-82 ∙ both_true _ (lacks_is _ _ _ at_94 c.is_present-2.ensures
+    past-82 ∙ both_true _ (lacks_is _ _ _ at_94 c.is_present-2.ensures
     c.if-is_present-2.false) in
     sym
     (past-94 ∙ both_true _ (zero_is _ _ _ at_95 c.value.ensures c.all_zero.ensures

@@ -8,7 +8,5 @@ use Rattle.session_record.proofs.is_enough.Goals as goal
 pub returns-then-asked : goal.returns-then-asked
 returns-then-asked c = sym (either_false _ (ap not c.if-asked.true))
 
-
 pub returns : goal.returns
 returns c = sym (either_left _ _ (ap not c.if-asked.false))
-

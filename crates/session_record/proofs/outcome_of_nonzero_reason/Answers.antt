@@ -10,8 +10,6 @@ pub returns-then-reason-eq-REASON_ABOVE_LIMIT : goal.returns-then-reason-eq-REAS
 unfolding outcome_of_nonzero_reason
 returns-then-reason-eq-REASON_ABOVE_LIMIT c = sym (if_yes _ _ (eq-eqb _ _ c.if-reason-eq-REASON_ABOVE_LIMIT.true))
 
-
 pub returns : goal.returns
 unfolding outcome_of_nonzero_reason
 returns c = sym (if_no _ _ (ne_eqb _ _ c.if-reason-eq-REASON_ABOVE_LIMIT.false))
-

@@ -1,9 +1,8 @@
 -- `store::clear` meets its contract. The loop's invariant: the length stays, and the bytes passed are zeros.
 -- Assumes nothing.
-use mathlib.Core.Path.{◌≡◌, refl}
-use Prim.Native.Nat.{◌≤◌, ◌-◌}
+use mathlib.Core.Path.{refl}
 use native.Mathlib.Omega.{arith}
-use lib.ListN.{length, take, replicate, length-set}
+use lib.ListN.{length-set}
 use Rattle.store.proofs.Cleared.{clear_next, clear_all}
 use Rattle.store.proofs.clear.Goals as goal
 
@@ -22,7 +21,6 @@ loop-i-preserved c =
           g.invariant.2,
     )
 
-
 pub shape_of-bytes : goal.shape_of-bytes
 shape_of-bytes c = c.loop-i.invariant.0
 
@@ -30,4 +28,3 @@ pub returns : goal.returns
 returns c =
     let g = c.loop-i in
     clear_all g.bytes g.i _ g.invariant.0 g.invariant.1 c.loop-i-test.false g.invariant.2
-

@@ -1,6 +1,5 @@
 -- `store::put` meets its contract. What is written lies in the row's place.
 -- Assumes nothing.
-use borrow.Author.Rules.{rules}
 use mathlib.Core.Path.{ap, ◌∙◌}
 use Prim.Native.Nat.{ℕ}
 use native.Mathlib.Omega.{arith}
@@ -13,11 +12,9 @@ use Rattle.store.proofs.put.Goals as goal
 
 pub write-requires : goal.write-requires
 write-requires c =
-    
     let at = c.start_of-at.ensures in
     let i = row_inside c.args.row c.requires.row_lt_row_count.0 in
     (omega arith, omega arith)
-
 
 pub returns : goal.returns
 unfolding put_row

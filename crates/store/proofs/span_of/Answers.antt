@@ -1,5 +1,4 @@
 -- `store::span_of` meets its contract: the row's number taken apart. Assumes nothing.
-use borrow.Author.Rules.{rules}
 use Rattle.store.proofs.Rows.{row_placed}
 use Rattle.store.proofs.span_of.Goals as goal
 

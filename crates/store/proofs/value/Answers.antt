@@ -1,6 +1,5 @@
 -- `store::value` meets its contract. The part after the length byte, as long as the stored length says.
 -- Assumes nothing.
-use borrow.Author.Rules.{rules}
 use mathlib.Core.Path.{◌≡◌, sym, ap, ◌∙◌}
 use mathlib.Core.List.{List}
 use Prim.Native.Nat.{ℕ, ◌+◌, ◌-◌, ◌≤◌, ◌<◌, min}
@@ -44,7 +43,6 @@ returns-then-e-bytes c =
     cut a.bytes.now a.row (o.result.at + 1) (o.result.at + 1 + n.result - (o.result.at + 1)) (omega arith)
     (omega arith) (omega arith)
 
-
 pub returns-then-first-bytes : goal.returns-then-first-bytes
 returns-then-first-bytes c =
     let a = c.args in
@@ -60,7 +58,6 @@ returns-then-first-bytes c =
     take_all _ _ s ∙ sym (take_all n _ t) ∙ cut b a.row (o.result.at + 1) n (omega arith) (omega arith)
     (omega arith)
 
-
 pub returns : goal.returns
 returns c =
     let a = c.args in
@@ -68,4 +65,3 @@ returns c =
     in
     let h : length a.bytes.now ≤ row_offset dictionary_rows a.row = omega arith in
     sym (ap bytes_or_empty_if_absent (no_place dictionary_rows a.bytes.now a.row h))
-

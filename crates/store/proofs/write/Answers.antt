@@ -2,11 +2,11 @@
 -- rest is as it was.
 -- Assumes nothing.
 use mathlib.Core.Path.{◌≡◌, refl, ◌∙◌}
-use Prim.Native.Nat.{◌+◌, ◌-◌, ◌≤◌, ◌<◌}
+use Prim.Native.Nat.{◌+◌, ◌<◌}
 use native.Mathlib.Numerals.{add-one}
 use native.Mathlib.Omega.{arith}
 use lib.ListN.{length, set, length-set}
-use lib.Seq.{paste, paste-zero, paste-suc}
+use lib.Seq.{paste-zero, paste-suc}
 use Rattle.store.proofs.Laws.{paste_written}
 use Rattle.store.proofs.write.Goals as goal
 
@@ -18,10 +18,8 @@ bounds-bytes-start c =
     let a = c.args in
     omega (arith, length-set a.bytes.now a.at (length a.v.now + 1))
 
-
 pub loop-i-preserved : goal.loop-i-preserved
 loop-i-preserved c =
-    
     let lp = c.loop-i in
     let d = set c.args.bytes.now c.args.at (length c.args.v.now + 1) in
     let l : length d ≡ length c.args.bytes.now = simp length-set in
@@ -35,14 +33,11 @@ loop-i-preserved c =
       ),
     )
 
-
 pub shape_of-bytes : goal.shape_of-bytes
 shape_of-bytes c = c.loop-i.invariant.1.0 ∙ simp length-set
 
 pub returns : goal.returns
 returns c =
-    
     let lp = c.loop-i in
     let e : lp.i ≡ length c.args.v.now = omega arith in
     lp.invariant.1.1 ∙ rw e (paste_written c.args.bytes.now c.args.at c.args.v.now c.requires.0)
-

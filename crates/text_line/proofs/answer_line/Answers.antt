@@ -10,8 +10,6 @@ pub returns-then-d-eq0 : goal.returns-then-d-eq0
 unfolding line_if_hex_decoded
 returns-then-d-eq0 c = sym (if_yes _ _ (eq-eqb _ _ c.if-d-eq0.true))
 
-
 pub returns : goal.returns
 unfolding line_if_hex_decoded
 returns c = sym (if_no _ _ (ne_eqb _ _ c.if-d-eq0.false))
-

@@ -1,6 +1,5 @@
 -- `text_line::digit` meets its contract. By the three runs of digits.
 -- Assumes nothing.
-use borrow.Author.Rules.{rules}
 use mathlib.Core.Path.{◌≡◌, sym, ◌∙◌}
 use mathlib.Core.Bool.{Bool, true}
 use Prim.Native.Nat.{ℕ, ◌≤◌}
@@ -24,7 +23,6 @@ returns-then-is_between c =
     let k = ends _ 48 c.args.c 57 c.is_between.ensures c.if-is_between.true in
     (sym (if_yes _ _ (sym c.is_between.ensures ∙ c.if-is_between.true)), omega arith)
 
-
 pub overflow_sub-result-then-is_between-2 : goal.overflow_sub-result-then-is_between-2
 overflow_sub-result-then-is_between-2 c = let k = ends _ 65 c.args.c 70 c.is_between-2.ensures c.if-is_between-2.true in omega arith
 
@@ -37,7 +35,6 @@ returns-then-is_between-2 c =
           ∙ if_yes _ _ (sym c.is_between-2.ensures ∙ c.if-is_between-2.true)),
       omega arith,
     )
-
 
 pub overflow_sub-result-then-is_between-3 : goal.overflow_sub-result-then-is_between-3
 overflow_sub-result-then-is_between-3 c = let k = ends _ 97 c.args.c 102 c.is_between-3.ensures c.if-is_between-3.true in omega arith
@@ -55,7 +52,6 @@ returns-then-is_between-3 c =
       omega arith,
     )
 
-
 pub returns : goal.returns
 unfolding hex_digit_value_or16
 returns c = (
@@ -66,4 +62,3 @@ returns c = (
       ∙ if_no _ _ (sym c.is_between-3.ensures ∙ c.if-is_between-3.false)),
   omega arith,
 )
-

@@ -1,6 +1,5 @@
 -- `text_line::first_word` meets its contract. The front part without blanks of what follows the blanks.
 -- Assumes nothing.
-use borrow.Author.Rules.{rules}
 use mathlib.Core.Path.{ap, ◌∙◌}
 use native.Mathlib.Omega.{arith}
 use lib.ListN.{length-take}
@@ -16,4 +15,3 @@ pub returns : goal.returns
 returns c =
     front_is _ _ _ c.front_length-n.ensures.0 ∙ ap (longest_prefix (is_character_of_kind CharacterKind.NotBlank))
     c.past_blanks-t.ensures
-

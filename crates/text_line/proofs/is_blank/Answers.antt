@@ -10,13 +10,10 @@ pub returns-then-c-eq32 : goal.returns-then-c-eq32
 unfolding is_blank
 returns-then-c-eq32 c = sym (either_left _ _ (eq-eqb _ _ c.if-c-eq32.true))
 
-
 pub returns-then-c-eq9 : goal.returns-then-c-eq9
 unfolding is_blank
 returns-then-c-eq9 c = sym (either_false _ (ne_eqb _ _ c.if-c-eq32.false) ∙ either_left _ _ (eq-eqb _ _ c.if-c-eq9.true))
 
-
 pub returns : goal.returns
 unfolding is_blank
 returns c = sym (either_false _ (ne_eqb _ _ c.if-c-eq32.false) ∙ either_false _ (ne_eqb _ _ c.if-c-eq9.false))
-

@@ -1,6 +1,5 @@
 -- `text_line::parse_line` meets its contract. Past the length the first word decides.
 -- Assumes nothing.
-use borrow.Author.Rules.{rules}
 use mathlib.Core.Path.{◌≡◌, refl, ap, ◌∙◌}
 use borrow.Author.Tests.{lt-ltb}
 use Rattle.basics.proofs.Laws.{if_yes}
@@ -14,12 +13,11 @@ pub returns-then-line-gt-MOST : goal.returns-then-line-gt-MOST
 unfolding line_meaning
 returns-then-line-gt-MOST c = says_as (if_yes _ _ (lt-ltb _ _ c.if-line-gt-MOST.true)) (record { line = refl; buffer = refl })
 
-
 pub returns-in-Absent : goal.returns-in-Absent
 unfolding meaning_by_word
 returns-in-Absent c =
     let by_word : (v : LineWord) → c.word_named-word.result ≡ v → line_meaning c.args.line.now c.args.out.now ≡ meaning_by_word v c.after_first_word-rest.result.now c.args.out.now =
-      λ v e. meaning_by _ _ _ _ _ _ v c.if-line-gt-MOST.false
+    λ v e. meaning_by _ _ _ _ _ _ v c.if-line-gt-MOST.false
     c.uncommented-text.ensures c.after_first_word-rest.ensures
     c.first_word.ensures c.word_named-word.ensures e in
     says_as (by_word _ c.in-Absent.is) (record { line = refl; buffer = refl })
@@ -28,7 +26,7 @@ pub returns-in-Start : goal.returns-in-Start
 unfolding meaning_by_word
 returns-in-Start c =
     let by_word : (v : LineWord) → c.word_named-word.result ≡ v → line_meaning c.args.line.now c.args.out.now ≡ meaning_by_word v c.after_first_word-rest.result.now c.args.out.now =
-      λ v e. meaning_by _ _ _ _ _ _ v c.if-line-gt-MOST.false
+    λ v e. meaning_by _ _ _ _ _ _ v c.if-line-gt-MOST.false
     c.uncommented-text.ensures c.after_first_word-rest.ensures
     c.first_word.ensures c.word_named-word.ensures e in
     says_as (by_word _
@@ -44,7 +42,7 @@ pub returns-in-Answer : goal.returns-in-Answer
 unfolding meaning_by_word
 returns-in-Answer c =
     let by_word : (v : LineWord) → c.word_named-word.result ≡ v → line_meaning c.args.line.now c.args.out.now ≡ meaning_by_word v c.after_first_word-rest.result.now c.args.out.now =
-      λ v e. meaning_by _ _ _ _ _ _ v c.if-line-gt-MOST.false
+    λ v e. meaning_by _ _ _ _ _ _ v c.if-line-gt-MOST.false
     c.uncommented-text.ensures c.after_first_word-rest.ensures
     c.first_word.ensures c.word_named-word.ensures e in
     says_as (by_word _
@@ -60,7 +58,7 @@ pub returns-in-LinkFailed : goal.returns-in-LinkFailed
 unfolding meaning_by_word
 returns-in-LinkFailed c =
     let by_word : (v : LineWord) → c.word_named-word.result ≡ v → line_meaning c.args.line.now c.args.out.now ≡ meaning_by_word v c.after_first_word-rest.result.now c.args.out.now =
-      λ v e. meaning_by _ _ _ _ _ _ v c.if-line-gt-MOST.false
+    λ v e. meaning_by _ _ _ _ _ _ v c.if-line-gt-MOST.false
     c.uncommented-text.ensures c.after_first_word-rest.ensures
     c.first_word.ensures c.word_named-word.ensures e in
     says_as (by_word _ c.in-LinkFailed.is)
@@ -70,7 +68,7 @@ pub returns-in-Stop : goal.returns-in-Stop
 unfolding meaning_by_word
 returns-in-Stop c =
     let by_word : (v : LineWord) → c.word_named-word.result ≡ v → line_meaning c.args.line.now c.args.out.now ≡ meaning_by_word v c.after_first_word-rest.result.now c.args.out.now =
-      λ v e. meaning_by _ _ _ _ _ _ v c.if-line-gt-MOST.false
+    λ v e. meaning_by _ _ _ _ _ _ v c.if-line-gt-MOST.false
     c.uncommented-text.ensures c.after_first_word-rest.ensures
     c.first_word.ensures c.word_named-word.ensures e in
     says_as (by_word _ c.in-Stop.is)
@@ -80,7 +78,7 @@ pub returns-in-Buffer : goal.returns-in-Buffer
 unfolding meaning_by_word
 returns-in-Buffer c =
     let by_word : (v : LineWord) → c.word_named-word.result ≡ v → line_meaning c.args.line.now c.args.out.now ≡ meaning_by_word v c.after_first_word-rest.result.now c.args.out.now =
-      λ v e. meaning_by _ _ _ _ _ _ v c.if-line-gt-MOST.false
+    λ v e. meaning_by _ _ _ _ _ _ v c.if-line-gt-MOST.false
     c.uncommented-text.ensures c.after_first_word-rest.ensures
     c.first_word.ensures c.word_named-word.ensures e in
     let e = c.size_line.ensures in
@@ -94,7 +92,7 @@ pub returns-in-Session : goal.returns-in-Session
 unfolding meaning_by_word
 returns-in-Session c =
     let by_word : (v : LineWord) → c.word_named-word.result ≡ v → line_meaning c.args.line.now c.args.out.now ≡ meaning_by_word v c.after_first_word-rest.result.now c.args.out.now =
-      λ v e. meaning_by _ _ _ _ _ _ v c.if-line-gt-MOST.false
+    λ v e. meaning_by _ _ _ _ _ _ v c.if-line-gt-MOST.false
     c.uncommented-text.ensures c.after_first_word-rest.ensures
     c.first_word.ensures c.word_named-word.ensures e in
     says_as (by_word _ c.in-Session.is)
@@ -104,7 +102,7 @@ pub returns-in-Unknown : goal.returns-in-Unknown
 unfolding meaning_by_word
 returns-in-Unknown c =
     let by_word : (v : LineWord) → c.word_named-word.result ≡ v → line_meaning c.args.line.now c.args.out.now ≡ meaning_by_word v c.after_first_word-rest.result.now c.args.out.now =
-      λ v e. meaning_by _ _ _ _ _ _ v c.if-line-gt-MOST.false
+    λ v e. meaning_by _ _ _ _ _ _ v c.if-line-gt-MOST.false
     c.uncommented-text.ensures c.after_first_word-rest.ensures
     c.first_word.ensures c.word_named-word.ensures e in
     says_as (by_word _ c.in-Unknown.is) (record { line = refl; buffer = refl })

@@ -8,11 +8,8 @@ use Rattle.tlv.proofs.first_byte.Goals as goal
 pub returns-then-tag-lt256 : goal.returns-then-tag-lt256
 returns-then-tag-lt256 c = sym (first_one _ (omega arith))
 
-
 pub returns-then-tag-lt65536 : goal.returns-then-tag-lt65536
 returns-then-tag-lt65536 c = sym (first_two _ (omega arith) (omega arith))
 
-
 pub returns : goal.returns
 returns c = sym (first_three _ (omega arith))
-

@@ -1,7 +1,6 @@
 -- `tlv::next_in_template` meets its contract: what follows the padding. That padding changes no tree holds of all
 -- bytes.
 -- Assumes nothing.
-use borrow.Author.Rules.{rules}
 use Rattle.tlv.proofs.Encoding.{passes_over}
 use Rattle.tlv.proofs.next_in_template.Goals as goal
 

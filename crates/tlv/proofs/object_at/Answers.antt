@@ -1,7 +1,6 @@
 -- `tlv::object_at` meets its contract: what `object_header` reported of the bytes from the place on, which end where
 -- all bytes end.
 -- Assumes nothing.
-use borrow.Author.Rules.{rules}
 use mathlib.Core.Path.{◌≡◌, sym, ap, ◌∙◌}
 use native.Mathlib.Omega.{arith}
 use lib.ListN.{drop, length-drop}
@@ -9,8 +8,6 @@ use Rattle.tlv.specs.declared.ObjectFront.TheVariants.{Object}
 use Rattle.tlv.specs.Object.{header_of}
 use Rattle.tlv.specs.Tree.{next_in_template_of_front, next_in_template_shifted}
 use Rattle.tlv.proofs.Laws.{header_fits, tail-is}
-use Rattle.tlv.proofs.object_at.Reads as reads
-use Rattle.tlv.proofs.object_header.Reads as head-reads
 use Rattle.tlv.proofs.object_at.Goals as goal
 
 pub returns-in_default : goal.returns-in_default
@@ -20,11 +17,10 @@ returns-in_default c =
     (ap header_of (sym (tail-is a.s.now a.at)) ∙ sym c.object_header-front.ensures ∙
     c.in_default.is))
 
-
 pub overflow_add-start : goal.overflow_add-start
 overflow_add-start c =
     let head_at : let a = c.args in header_of (drop a.at a.s.now) ≡ Object c.in-Object.h =
-      let a = c.args in
+    let a = c.args in
     ap header_of (sym (tail-is a.s.now a.at)) ∙ sym c.object_header-front.ensures ∙
     c.in-Object.is in
     let f = header_fits _ _ (head_at) in
@@ -34,7 +30,7 @@ overflow_add-start c =
 pub returns : goal.returns
 returns c =
     let head_at : let a = c.args in header_of (drop a.at a.s.now) ≡ Object c.in-Object.h =
-      let a = c.args in
+    let a = c.args in
     ap header_of (sym (tail-is a.s.now a.at)) ∙ sym c.object_header-front.ensures ∙
     c.in-Object.is in
     sym

@@ -1,6 +1,5 @@
 -- `tlv::padding_in_front` meets its contract: nothing is left, no padding is there, or it is counted.
 -- Assumes nothing.
-use borrow.Author.Rules.{rules}
 use mathlib.Core.Path.{sym}
 use native.Mathlib.Omega.{arith}
 use Rattle.tlv.proofs.NextObject.{moved_zero}

@@ -2,7 +2,6 @@
 use mathlib.Core.List.{List}
 use mathlib.Core.Path.{◌≡◌, sym, ap, ap₂, ◌∙◌}
 use Prim.Native.Nat.{ℕ}
-use borrow.Author.Rules.{rules}
 use Rattle.dictionary.specs.Rows.{dictionary_rows, find_row}
 use Rattle.dictionary.specs.declared.RowFound.TheVariants.{At}
 use Rattle.dictionary.proofs.Named.{at_9f0d, at_9f0e, at_9f0f, at_df8120, at_df8121, at_df8122}
@@ -30,4 +29,3 @@ returns c =
       pair b online_stage 0x9F0F 0xDF8122 at_9f0f at_df8122 c.action_codes_in-2.ensures,
       pair b default_stage 0x9F0D 0xDF8120 at_9f0d at_df8120 c.action_codes_in-3.ensures,
     )
-

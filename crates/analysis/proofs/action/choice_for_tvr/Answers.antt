@@ -1,7 +1,6 @@
 -- `action::choice_for_tvr` meets its contract: what `terminal_action_analysis` gives on the store's type and codes.
 -- Assumes nothing.
 use mathlib.Core.Path.{ap₂, ◌∙◌}
-use borrow.Author.Rules.{rules}
 use Rattle.analysis.specs.Action.{choice_for_tvr}
 use Rattle.analysis.specs.Choice.{terminal_action_analysis, generate_ac_p1_for}
 use Rattle.analysis.proofs.action.choice_for_tvr.Goals as goal

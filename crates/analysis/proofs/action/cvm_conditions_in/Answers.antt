@@ -9,14 +9,11 @@ use Rattle.analysis.specs.Action.{cvm_conditions_in}
 use Rattle.analysis.specs.Digits.{is_one_of, amount_of}
 use Rattle.analysis.specs.Cvm.{cvm_amount_x, cvm_amount_y}
 use Rattle.analysis.proofs.ByRow.{bytes_by_row, byte_by_row}
-use borrow.Author.Rules.{rules}
 use Rattle.analysis.proofs.action.cvm_conditions_in.Goals as goal
 
 pub returns : goal.returns
 unfolding cvm_conditions_in
 returns c =
-    
-    
     let list = bytes_by_row _ 0x8E at_8e c.value-list.ensures in
     let transaction = byte_by_row _ 0x9C at_9c c.byte_in-transaction.ensures in
     simp (
@@ -30,4 +27,3 @@ returns c =
       c.four_byte_number_at-x.ensures ∙ ap cvm_amount_x list,
       c.four_byte_number_at-y.ensures ∙ ap cvm_amount_y list,
     )
-

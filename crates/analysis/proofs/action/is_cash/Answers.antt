@@ -5,4 +5,3 @@ use Rattle.analysis.proofs.action.is_cash.Goals as goal
 
 pub returns : goal.returns
 returns c = or_either _ _ _ _ refl refl
-

@@ -6,7 +6,6 @@ use mathlib.Core.Path.{◌≡◌, ap, ap₂}
 use Prim.Native.Nat.{ℕ, ◌+◌, ◌≤◌}
 use native.Mathlib.Omega.{arith}
 use lib.ListN.{get_or}
-use borrow.Author.Rules.{rules}
 use Rattle.basics.proofs.Laws.{if_ind}
 use Rattle.store.specs.Held.{stored_bytes}
 use Rattle.analysis.specs.Action.{restrictions_tvr_byte2, tvr_before_cvm, cvm_result_in, tvr_with_cvm}
@@ -63,13 +62,10 @@ overflow_add-result c =
     let b = c.args.bytes.now in
     record { fits = omega (arith, first-is b _ c.tvr_before_cvm-result.ensures, first-added b, c.requires.0) }
 
-
 pub overflow_add-result-2 : goal.overflow_add-result-2
 overflow_add-result-2 c =
     let b = c.args.bytes.now in
     record { fits = omega (arith, third-is b _ c.tvr_before_cvm-result.ensures, third-added b, c.requires.1) }
 
-
 pub returns : goal.returns
 returns c = full _ _ _ _ c.tvr_before_cvm-result.ensures c.requires.0 c.requires.1
-

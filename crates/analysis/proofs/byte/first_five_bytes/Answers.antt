@@ -1,7 +1,6 @@
 -- `byte::first_five_bytes` meets its contract: the first five bytes one by one (`front_five`).
 -- Assumes nothing.
 use mathlib.Core.Path.{sym}
-use borrow.Author.Rules.{rules}
 use Rattle.analysis.proofs.Value.{front_five}
 use Rattle.analysis.proofs.byte.first_five_bytes.Goals as goal
 
@@ -15,4 +14,3 @@ returns c =
       c.byte_at-5.ensures,
     )
     (sym (front_five c.args.s.now))
-

@@ -1,7 +1,6 @@
 -- `byte::four_byte_number_at` meets its contract: the four bytes one by one (`number_four`). Assumes nothing.
 use native.Mathlib.Omega.{arith}
 use Rattle.analysis.proofs.Value.{number_four}
-use borrow.Author.Rules.{rules}
 use Rattle.analysis.proofs.byte.four_byte_number_at.Goals as goal
 
 pub returns : goal.returns
@@ -19,4 +18,3 @@ returns c =
       c.widen32-a.ensures,
       c.byte_at.ensures,
     )
-

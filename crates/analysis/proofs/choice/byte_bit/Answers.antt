@@ -1,9 +1,8 @@
 -- `choice::byte_bit` meets its contract. The loop's invariant: no bit before k is held; so the first that is held
 -- is the lowest.
 -- Assumes nothing.
-use mathlib.Core.Bool.{false}
-use mathlib.Core.Path.{◌≡◌, sym, ap, ◌∙◌}
-use Prim.Native.Nat.{ℕ, ◌-◌, ◌≤◌, ◌<◌}
+use mathlib.Core.Path.{sym, ap, ◌∙◌}
+use Prim.Native.Nat.{ℕ}
 use native.Mathlib.Omega.{arith}
 use borrow.Author.Count.{below_more}
 use Rattle.analysis.specs.Choice.{lowest_bit_from_start_within_count}
@@ -17,10 +16,8 @@ returns-then-res-eq0 c =
     sym (ap (λ (x : ℕ). lowest_bit_from_start_within_count (tvr_byte_bit_in_codes x c.args.card c.args.terminal) 0 8)
     c.if-res-eq0.true ∙ zero_byte c.args.card c.args.terminal)
 
-
 pub loop-k-init : goal.loop-k-init
 loop-k-init c = (omega arith, λ m h. absurd (omega arith))
-
 
 pub returns-then-holds_bit : goal.returns-then-holds_bit
 returns-then-holds_bit c =
@@ -34,7 +31,6 @@ returns-then-holds_bit c =
       below = λ m u v. lp.invariant.1 m v;
     }))
 
-
 pub loop-k-preserved : goal.loop-k-preserved
 loop-k-preserved c = (
   omega arith,
@@ -42,9 +38,7 @@ loop-k-preserved c = (
       (sym c.holds_bit.ensures ∙ c.if-holds_bit.false),
 )
 
-
 pub returns : goal.returns
 returns c =
     let lp = c.loop-k in
     sym (lowest_none (tvr_byte_bit_in_codes _ _ _) 8 0 (λ m u v. lp.invariant.1 m (omega arith)))
-

@@ -9,7 +9,5 @@ use Rattle.analysis.proofs.choice.forced.Goals as goal
 pub returns-then-stage-eq-ONLINE : goal.returns-then-stage-eq-ONLINE
 returns-then-stage-eq-ONLINE c = sym (if_yes Online Decline (eq-eqb _ _ c.if-stage-eq-ONLINE.true))
 
-
 pub returns-else-stage-eq-ONLINE : goal.returns-else-stage-eq-ONLINE
 returns-else-stage-eq-ONLINE c = sym (if_no Online Decline (ne_eqb _ _ c.if-stage-eq-ONLINE.false))
-

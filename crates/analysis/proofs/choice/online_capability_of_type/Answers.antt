@@ -18,7 +18,6 @@ returns-in-1 c = elim c.in-1.is [
       sym (ap online_capability_by_digit e)
 ]
 
-
 pub returns-in-2 : goal.returns-in-2
 unfolding online_capability_by_digit if either
 returns-in-2 c = elim c.in-2.is [
@@ -26,7 +25,6 @@ returns-in-2 c = elim c.in-2.is [
   | inr e ↦
       sym (ap online_capability_by_digit e)
 ]
-
 
 pub returns-in-3 : goal.returns-in-3
 unfolding online_capability_by_digit if either
@@ -36,11 +34,8 @@ returns-in-3 c = elim c.in-3.is [
       sym (ap online_capability_by_digit e)
 ]
 
-
 pub returns-in_default : goal.returns-in_default
 unfolding online_capability_by_digit
 returns-in_default c =
-    
     sym
     (if_no _ _ (is_none _ 1 4 c.in_default.in_default-own.rest.0.0.1) ∙ (if_no _ _ (is_none _ 2 5 c.in_default.in_default-own.rest.0.1) ∙ if_no _ _ (is_none _ 3 6 c.in_default.in_default-own.rest.1)))
-

@@ -8,21 +8,17 @@ pub returns-in-6 : goal.returns-in-6
 unfolding if
 returns-in-6 c = simp c.in-6.is
 
-
 pub returns-in-7 : goal.returns-in-7
 unfolding if
 returns-in-7 c = simp c.in-7.is
-
 
 pub returns-in-8 : goal.returns-in-8
 unfolding if
 returns-in-8 c = simp c.in-8.is
 
-
 pub returns-in-9 : goal.returns-in-9
 unfolding if
 returns-in-9 c = simp c.in-9.is
-
 
 pub returns-in_default : goal.returns-in_default
 unfolding if
@@ -32,4 +28,3 @@ returns-in_default c = simp (
   ne_eqb _ _ c.in_default.in_default-own.rest.0.1,
   ne_eqb _ _ c.in_default.in_default-own.rest.1,
 )
-

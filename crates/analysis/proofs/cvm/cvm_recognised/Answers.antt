@@ -8,4 +8,3 @@ use Rattle.analysis.proofs.cvm.cvm_recognised.Goals as goal
 pub returns : goal.returns
 unfolding cvm_recognised
 returns c = or_either _ _ _ _ refl (or_either _ _ _ _ refl refl)
-

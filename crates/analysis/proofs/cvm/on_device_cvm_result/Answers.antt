@@ -8,8 +8,6 @@ pub returns-then-above : goal.returns-then-above
 unfolding on_device_cvm_result_by_above_limit
 returns-then-above c = sym (if_yes _ _ c.if-above.true)
 
-
 pub returns : goal.returns
 unfolding on_device_cvm_result_by_above_limit
 returns c = sym (if_no _ _ c.if-above.false)
-

@@ -5,7 +5,6 @@ use mathlib.Core.Path.{◌≡◌, sym, ap, ◌∙◌}
 use Prim.Native.Nat.{◌+◌, ◌*◌}
 use native.Mathlib.Omega.{arith}
 use lib.ListN.{get_or}
-use borrow.Author.Rules.{rules}
 use Rattle.analysis.specs.Digits.{bcd_number, amount_of}
 use Rattle.analysis.proofs.Decimal.{decimal_six}
 use Rattle.analysis.proofs.Value.{front_six}
@@ -19,4 +18,3 @@ returns c =
     ≡ bcd_number (get_or s 0 0 ∷ get_or s 1 0 ∷ get_or s 2 0 ∷ get_or s 3 0 ∷ get_or s 4 0 ∷ get_or s 5 0 ∷ []) =
     omega (arith, decimal_six (get_or s 0 0) (get_or s 1 0) (get_or s 2 0) (get_or s 3 0) (get_or s 4 0) (get_or s 5 0)) in
     e ∙ sym (ap bcd_number (front_six s))
-

@@ -1,11 +1,7 @@
 -- `digits::date_of` meets its contract: the year's digits and those of month and day (`year_digits`, `month_and_day`).
 -- Assumes nothing.
-use mathlib.Core.List.{List}
-use mathlib.Core.Path.{◌≡◌, sym, ap, ◌∙◌}
-use Prim.Native.Nat.{ℕ, ◌+◌, ◌*◌}
+use mathlib.Core.Path.{sym, ap, ◌∙◌}
 use native.Mathlib.Omega.{arith}
-use lib.ListN.{get_or}
-use borrow.Author.Rules.{rules}
 use Rattle.analysis.specs.Digits.{four_digit_year, date_as_number}
 use Rattle.analysis.specs.Inner.{bcd_byte}
 use Rattle.analysis.proofs.Decimal.{year_digits, month_and_day}
@@ -24,4 +20,3 @@ returns c =
     let m = c.two_digits-month.ensures.0 ∙ ap bcd_byte c.byte_at-2.ensures in
     let d = c.two_digits-day.ensures.0 ∙ ap bcd_byte c.byte_at-3.ensures in
     omega (arith, y, m, d, month_and_day s)
-

@@ -1,7 +1,6 @@
 -- `restrictions::auc_goods_met` meets its contract: the types of the arm are the definition's (`is_one`, `is_none`).
 -- Assumes nothing.
 use mathlib.Core.Path.{sym, ap₂, ◌∙◌}
-use borrow.Author.Rules.{rules}
 use Rattle.basics.proofs.Laws.{if_yes, if_no}
 use Rattle.analysis.specs.Restrictions.{requirement_by_country, auc_allows_goods_or_services}
 use Rattle.analysis.proofs.Listed.{is_one, is_none}
@@ -14,8 +13,6 @@ returns-in-0 c =
     c.by_country.ensures ∙ ap₂ (requirement_by_country a.country) c.one_of.ensures
     c.one_of-in-0.ensures ∙ sym (if_yes _ _ (is_one _ _ _ c.in-0.is))
 
-
 pub returns-in_default : goal.returns-in_default
 unfolding auc_allows_goods_or_services
 returns-in_default c = sym (if_no _ _ (is_none _ _ _ c.in_default.in_default-own.rest.1))
-

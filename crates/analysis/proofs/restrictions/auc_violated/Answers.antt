@@ -4,8 +4,6 @@ use mathlib.Core.Bool.{Bool, true, false, not}
 use mathlib.Core.List.{List}
 use mathlib.Core.Path.{◌≡◌, sym, ap, ◌∙◌}
 use Prim.Native.Nat.{ℕ}
-use borrow.Author.Rules.{rules}
-use borrow.Author.Tests.{not-true, not-false}
 use Rattle.basics.proofs.Laws.{both_no_left, both_no_right, both_true}
 use Rattle.basics.specs.Choice.{both}
 use Rattle.analysis.specs.Restrictions.{auc_allows_atm_or_non_atm, auc_allows_cash, auc_allows_goods_or_services}
@@ -31,14 +29,12 @@ returns-then-not-there c =
     sym (ap (λ (v : StoredValue). auc_violated v a.atm a.country a.transaction a.cashback)
     (given_absent a.there a.usage.now c.if-not-there.true))
 
-
 pub returns-then-not-auc_terminal_met : goal.returns-then-not-auc_terminal_met
 returns-then-not-auc_terminal_met c =
     let a = c.args in
     there a.there a.usage.now a.atm a.country a.transaction a.cashback false
     c.if-not-there.false
     (both_no_left _ _ (sym c.auc_terminal_met.ensures ∙ c.if-not-auc_terminal_met.true))
-
 
 pub returns-then-not-auc_cash_met : goal.returns-then-not-auc_cash_met
 returns-then-not-auc_cash_met c =
@@ -47,7 +43,6 @@ returns-then-not-auc_cash_met c =
     c.if-not-there.false
     (both_no_right _ _ (both_no_left _ _ (sym c.auc_cash_met.ensures ∙ c.if-not-auc_cash_met.true)))
 
-
 pub returns-then-not-auc_goods_met : goal.returns-then-not-auc_goods_met
 returns-then-not-auc_goods_met c =
     let a = c.args in
@@ -55,7 +50,6 @@ returns-then-not-auc_goods_met c =
     c.if-not-there.false
     (both_no_right _ _
     (both_no_right _ _ (both_no_left _ _ (sym c.auc_goods_met.ensures ∙ c.if-not-auc_goods_met.true))))
-
 
 pub returns : goal.returns
 returns c =
@@ -66,4 +60,3 @@ returns c =
     ∙ both_true _ (sym c.auc_cash_met.ensures ∙ c.if-not-auc_cash_met.false)
     ∙ both_true _ (sym c.auc_goods_met.ensures ∙ c.if-not-auc_goods_met.false)
     ∙ sym c.auc_cashback_met.ensures)
-

@@ -2,7 +2,6 @@
 -- Assumes nothing.
 use mathlib.Core.Path.{sym, ap, ◌∙◌}
 use lib.Dec.{ltb}
-use borrow.Author.Rules.{rules}
 use Rattle.analysis.specs.Restrictions.{cashback_requested}
 use Rattle.analysis.proofs.Value.{given_there, given_absent}
 use Rattle.analysis.proofs.restrictions.cashback_requested.Goals as goal
@@ -14,10 +13,8 @@ returns-then-there c =
     ap (ltb 0) c.amount_of.ensures ∙ sym
     (ap cashback_requested (given_there a.there a.other.now c.if-there.true))
 
-
 pub returns : goal.returns
 unfolding cashback_requested
 returns c =
     let a = c.args in
     sym (ap cashback_requested (given_absent a.there a.other.now c.if-there.false))
-

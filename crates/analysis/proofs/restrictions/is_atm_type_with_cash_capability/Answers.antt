@@ -4,8 +4,6 @@
 use mathlib.Core.Logic.{inl, inr}
 use mathlib.Core.Path.{sym, ap, ◌∙◌}
 use native.Mathlib.Omega.{arith}
-use borrow.Author.Rules.{rules}
-use borrow.Author.Tests.{not-true, not-false}
 use Rattle.basics.proofs.Laws.{both_no_left, both_true}
 use Rattle.analysis.specs.Restrictions.{is_atm_type_with_cash_capability}
 use Rattle.analysis.proofs.Listed.{atm_type, no_atm_type}
@@ -20,7 +18,6 @@ returns-then-not-there c =
     (ap (is_atm_type_with_cash_capability a.kind)
     (given_absent a.there a.capabilities.now c.if-not-there.true))
 
-
 pub returns-in-20 : goal.returns-in-20
 unfolding is_atm_type_with_cash_capability
 returns-in-20 c =
@@ -31,7 +28,6 @@ returns-in-20 c =
     (given_there a.there a.capabilities.now c.if-not-there.false)
     ∙ both_true _ (atm_type a.kind (omega arith) (omega arith)))
 
-
 pub returns-in_default : goal.returns-in_default
 unfolding is_atm_type_with_cash_capability
 returns-in_default c =
@@ -41,7 +37,6 @@ returns-in_default c =
     (given_there a.there a.capabilities.now c.if-not-there.false)
     ∙ both_no_left _ _ (no_atm_type a.kind (inl (omega arith))))
 
-
 pub returns-in_default-2 : goal.returns-in_default-2
 unfolding is_atm_type_with_cash_capability
 returns-in_default-2 c =
@@ -50,4 +45,3 @@ returns-in_default-2 c =
     (ap (is_atm_type_with_cash_capability a.kind)
     (given_there a.there a.capabilities.now c.if-not-there.false)
     ∙ both_no_left _ _ (no_atm_type a.kind (inr (omega arith))))
-

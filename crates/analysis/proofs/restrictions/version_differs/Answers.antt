@@ -2,7 +2,6 @@
 -- Assumes nothing.
 use mathlib.Core.Bool.{not}
 use mathlib.Core.Path.{sym, ap, ◌∙◌}
-use borrow.Author.Rules.{rules}
 use Rattle.analysis.specs.Restrictions.{card_version_present_and_differs}
 use Rattle.store.specs.Place.{StoredValue}
 use Rattle.analysis.proofs.Value.{given_there, given_absent}
@@ -15,11 +14,9 @@ returns-then-there c =
     ap not c.bytes_equal.ensures ∙ sym (ap (λ (v : StoredValue). card_version_present_and_differs v a.reader.now)
     (given_there a.there a.card.now c.if-there.true))
 
-
 pub returns : goal.returns
 unfolding card_version_present_and_differs
 returns c =
     let a = c.args in
     sym (ap (λ (v : StoredValue). card_version_present_and_differs v a.reader.now)
     (given_absent a.there a.card.now c.if-there.false))
-

@@ -1,6 +1,5 @@
 -- `reading::flat::judge_answer` meets its contract: its objects are listed and judged (`answer_given`).
 -- Assumes nothing.
-use borrow.Author.Rules.{rules}
 use Rattle.reading.proofs.Stages.{answer_given}
 use Rattle.reading.proofs.flat.judge_answer.Goals as goal
 
@@ -10,4 +9,3 @@ judge_listed-judged-requires c = record { store_len = (c.requires, c.list_object
 pub returns : goal.returns
 returns c = (answer_given _ _ _ c.list_objects-listing.ensures.lists
     c.judge_listed-judged.ensures.given).reason
-

@@ -1,7 +1,6 @@
 -- `reading::flat::list_objects` meets its contract: what opens the answer, and the law of a template's objects
 -- (proofs/Stages).
 -- Assumes nothing.
-use borrow.Author.Rules.{rules}
 use native.Mathlib.Omega.{arith}
 use Rattle.reading.specs.InnerItems.{unpacked_items}
 use Rattle.reading.proofs.Stages.{template_listed}
@@ -12,7 +11,8 @@ overflow_add-end c = let i = rw c.in-Template.is at c.open-opened.ensures.opens 
 
 pub walk-walked-requires : goal.walk-walked-requires
 walk-walked-requires c = let o = c.open-opened.ensures in
-    let i = rw c.in-Template.is at o.opens in record { template_walk_has_room = record {
+    let i = rw c.in-Template.is at o.opens in record {
+      template_walk_has_room = record {
         begins = omega arith;
         ends = i.ends;
         short = i.short;
@@ -20,7 +20,9 @@ walk-walked-requires c = let o = c.open-opened.ensures in
         half = omega (arith, i.two, i.short);
         room = o.room;
         inside = tt;
-      }; tag_bound = i.tag }
+      };
+      tag_bound = i.tag;
+    }
 
 pub returns-in-Listed : goal.returns-in-Listed
 returns-in-Listed c = let o = c.open-opened.ensures in record { lists = rw c.in-Listed.is at o.opens; room = o.room }

@@ -1,6 +1,5 @@
 -- `reading::flat::read_answer` meets its contract: its objects are listed, judged and stored (`whole`).
 -- Assumes nothing.
-use borrow.Author.Rules.{rules}
 use Rattle.reading.proofs.Stages.{whole}
 use Rattle.reading.proofs.flat.read_answer.Goals as goal
 

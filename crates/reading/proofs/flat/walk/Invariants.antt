@@ -2,16 +2,11 @@
 -- that of `Run` (proofs/Runs); an end closes it, a template is pushed. The measure counts what is left of the bytes
 -- twice and each open level once.
 -- Assumes nothing.
-use borrow.Author.Rules.{rules}
-use mathlib.Core.Path.{sym, ◌∙◌}
-use Prim.Native.Nat.{◌<◌}
-use native.Mathlib.Omega.{arith}
 use lib.ListN.{get_or}
 use Rattle.tlv.specs.Tree.{parse_tree}
 use Rattle.reading.specs.InnerItems.{WalkListsTree}
 use Rattle.reading.proofs.Items.{part}
-use Rattle.reading.proofs.Runs.{Next, stops, padding, failed, bounds, list_length, number_fits, room, listed}
-use Rattle.reading.proofs.Frames.{Reached, ahead, begin, inside, run, step, more, done, close, too_deep, push}
+use Rattle.reading.proofs.Frames.{Reached, ahead}
 use Rattle.reading.proofs.flat.walk.Given as goal
 
 abbrev pub invariant-loop-at : goal.invariant-loop-at
@@ -20,7 +15,5 @@ invariant-loop-at l =
     l.ends
     l.around l.depth l.at l.n l.k l.items
 
-
 abbrev pub decreases-loop-at : goal.decreases-loop-at
 decreases-loop-at l = ahead (get_or l.initial.ends 0 0) l.depth l.at
-
