@@ -57,7 +57,7 @@ def main():
                 elif name.endswith(".rt"):
                     new = old.replace("if◌then◌else◌", "when◌then◌else◌")
                 elif re.search(r"^file: .*\.antt$", old, re.M):
-                    new = re.sub(r"(?m)^(old|new): .*$", lambda m: turned(m.group(0)), old)
+                    new = re.sub(r"(?m)^(old|new): .*$", lambda m: IF.sub("when", m.group(0)), old)
                 else:
                     new = old
                 if new != old:

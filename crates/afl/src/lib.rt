@@ -4,8 +4,8 @@
 
 ghost use Rattle.std.specs.Prelude.{◌≡◌, ◌≤◌, length};
 ghost use Rattle.basics.specs.Reason.{reason_afl_invalid, reason_unless};
-ghost use Rattle.afl.specs.Entry.{first_afl_entry, entry_record_count, valid_entry as keepsRules};
-ghost use Rattle.afl.specs.Records.{afl_records as recordsIn, accepts_afl, afl_checked, afl_reason, record_at_index, kth_record_of_accepted_afl};
+ghost use Rattle.afl.specs.Entry.{first_afl_entry, entry_record_count, valid_entry as keeps_rules};
+ghost use Rattle.afl.specs.Records.{afl_records as records_in, accepts_afl, afl_checked, afl_reason, record_at_index, kth_record_of_accepted_afl};
 
 // A record of a card: the file that it is in and its number there.
 #[derive(Drop)]
@@ -110,7 +110,7 @@ fn count(e: AflEntry) -> usize
 
 // Whether an entry satisfies the rules.
 fn is_valid_entry(e: AflEntry) -> bool
-    ensures { result ≡ keepsRules e }
+    ensures { result ≡ keeps_rules e }
 {
     if e.lead % 8 != 0 {
         return false;
@@ -136,7 +136,7 @@ fn is_valid_entry(e: AflEntry) -> bool
 
 // The record at a place among those that the bytes name, places counted from 0.
 fn seek(afl: &[u8], place: usize) -> RecordFound
-    ensures { result ≡ record_at_index place (recordsIn afl.now) }
+    ensures { result ≡ record_at_index place (records_in afl.now) }
 {
     let mut rest = afl;
     let mut left = place;

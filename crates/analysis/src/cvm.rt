@@ -2,9 +2,9 @@
 // bits that it adds to 95.
 ghost use Rattle.std.specs.Prelude.{◌≡◌, false};
 ghost use Rattle.analysis.specs.Value.{stored_value_if};
-ghost use Rattle.analysis.specs.Cvm.{cvm_number, cvm_recognised as isRecognised, cvm_supported as isSupported, cvm_supported_not_fail, cvm_condition_met as isMet};
+ghost use Rattle.analysis.specs.Cvm.{cvm_number, cvm_recognised as is_recognised, cvm_supported as is_supported, cvm_supported_not_fail, cvm_condition_met as is_met};
 ghost use Rattle.analysis.specs.Inner.{cvm_amount_condition_met};
-ghost use Rattle.analysis.specs.Cvm.{cvm_rules_from_pairs, cvm_result_of_supported as taken_by, cvm_result_no_rule_succeeded, cvm_result_of_unsuccessful as unsuccessfulBy, next_cvm_rule_applies, cvm_result_not_performed, cvm_result_by_rules, cvm_processing};
+ghost use Rattle.analysis.specs.Cvm.{cvm_rules_from_pairs, cvm_result_of_supported as taken_by, cvm_result_no_rule_succeeded, cvm_result_of_unsuccessful as unsuccessful_by, next_cvm_rule_applies, cvm_result_not_performed, cvm_result_by_rules, cvm_processing};
 ghost use Rattle.analysis.specs.Cvm.{aip_and_configuration_support_on_device_cvm, on_device_cvm_result_by_above_limit};
 
 use crate::byte;
@@ -208,7 +208,7 @@ fn next_cvm_applies(code: u8, rest: &[u8]) -> bool
 
 // The condition of a rule is understood, has its data, and is true.
 fn cvm_condition_met(terms: CvmConditions, code: u8, condition: u8) -> bool
-    ensures { result ≡ isMet terms code condition }
+    ensures { result ≡ is_met terms code condition }
 {
     match condition {
         ALWAYS => true,
@@ -236,7 +236,7 @@ fn cvm_amount_met(terms: CvmConditions, condition: u8) -> bool
 
 // The terminal can perform what a code requires.
 fn cvm_supported(capabilities: u8, code: u8) -> bool
-    ensures { result ≡ isSupported capabilities code }
+    ensures { result ≡ is_supported capabilities code }
 {
     let cvm = code % 64;
     match cvm {
@@ -263,7 +263,7 @@ fn cvm_performed(capabilities: u8, code: u8) -> bool
 
 // A CVM of the Books' table.
 fn cvm_recognised(code: u8) -> bool
-    ensures { result ≡ isRecognised code }
+    ensures { result ≡ is_recognised code }
 {
     let cvm = code % 64;
     (cvm <= CVM_ENCIPHERED_PIN_AND_SIGNATURE) | ((cvm == CVM_SIGNATURE) | (cvm == CVM_NO_CVM))
@@ -313,7 +313,7 @@ fn cvm_successful(code: u8, condition: u8, unrecognised: bool) -> CvmResult
 
 // A rule is unsuccessful, and none follows.
 fn cvm_unsuccessful(code: u8, condition: u8, unrecognised: bool) -> CvmResult
-    ensures { result ≡ unsuccessfulBy code condition unrecognised }
+    ensures { result ≡ unsuccessful_by code condition unrecognised }
 {
     if code % 64 == CVM_FAIL {
         let tvr3 = 0x80 + byte::weight_if_set(unrecognised, 0x40);

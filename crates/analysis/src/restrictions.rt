@@ -3,7 +3,7 @@ ghost use Rattle.std.specs.Prelude.{◌≡◌, ◌<◌, ◌≤◌};
 ghost use Rattle.basics.specs.Choice.{either};
 ghost use Rattle.analysis.specs.Bits.{value_has_bit as bit_of};
 ghost use Rattle.analysis.specs.Value.{stored_value_if};
-ghost use Rattle.analysis.specs.Restrictions.{card_version_present_and_differs, not_yet_effective, is_atm_type_with_cash_capability, issuer_country_match, cashback_requested as asksCashback, requirement_by_country, auc_allows_atm_or_non_atm, auc_allows_cash, auc_allows_goods_or_services, auc_allows_cashback, auc_violated, tvr_byte2_version_expired_early_usage};
+ghost use Rattle.analysis.specs.Restrictions.{card_version_present_and_differs, not_yet_effective, is_atm_type_with_cash_capability, issuer_country_match, cashback_requested as asks_cashback, requirement_by_country, auc_allows_atm_or_non_atm, auc_allows_cash, auc_allows_goods_or_services, auc_allows_cashback, auc_violated, tvr_byte2_version_expired_early_usage};
 
 use crate::{byte, digits};
 
@@ -100,7 +100,7 @@ pub fn issuer_country_match(there: bool, issuer: &[u8], terminal: &[u8]) -> Issu
 
 // Cashback is requested: another amount is present and not zero.
 pub fn cashback_requested(there: bool, other: &[u8]) -> bool
-    ensures { result ≡ asksCashback (stored_value_if there other.now) }
+    ensures { result ≡ asks_cashback (stored_value_if there other.now) }
 {
     if there {
         return 0 < digits::amount_of(other);

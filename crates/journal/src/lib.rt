@@ -44,10 +44,10 @@ ghost use Rattle.std.proofs.Math.Option.{some, none};
 ghost use Rattle.basics.specs.Choice.{every};
 ghost use Rattle.store.specs.Held.{is_zero_byte};
 ghost use Rattle.session_record.specs.Numbers.{outcome_number};
-ghost use Rattle.journal.specs.Record.{journal_record_size, length_in_two_bytes, journal_record_length_field, journal_length_and_zero_padding_valid as fitsIn, is_too_long_answer_record, start_call_from_record, answer_call_from_record, call_from_journal_record};
+ghost use Rattle.journal.specs.Record.{journal_record_size, length_in_two_bytes, journal_record_length_field, journal_length_and_zero_padding_valid as fits_in, is_too_long_answer_record, start_call_from_record, answer_call_from_record, call_from_journal_record};
 ghost use Rattle.journal.specs.Record.{journal_command_buffer};
-ghost use Rattle.session.specs.Calls.{link-failed as linkFailedCall, stop as stopCall};
-ghost use Rattle.journal.specs.Verdict.{expected_next_of_session_and_due_reply, expect_reply_unless_empty as repliedOf, judge_call as calledOf, judge_record, journal_verdict_of, expected_reply_at_first_mismatch};
+ghost use Rattle.session.specs.Calls.{link_failed as link_failed_call, stop as stop_call};
+ghost use Rattle.journal.specs.Verdict.{expected_next_of_session_and_due_reply, expect_reply_unless_empty as replied_of, judge_call as called_of, judge_record, journal_verdict_of, expected_reply_at_first_mismatch};
 ghost use Rattle.journal.specs.ConformingRecords.{AllEntriesBelow256, VerdictIsExact, ConformingBytesFromByteCalls, ConformingJournalsAccepted, AcceptedHasAtMost262Records, ExpectedReplyOnlyConforming, ExpectedReplyAtEvenRecords};
 ghost use Rattle.journal.specs.Inner.{reply_record_with_whole_buffer, expected_next_in_state, check_state_of, check_state_after_record};
 ghost use Rattle.journal.specs.Inner.{new_checker, checker_after_byte, checker_after_bytes, checker_verdict, checker_expected_reply, CheckerWasFed};
@@ -275,7 +275,7 @@ fn wrong(standing: JournalCheckState) -> JournalCheckState
 // Where a call is expected: the call is made, and its reply is expected.
 fn called(standing: JournalCheckState, whole: &[u8]) -> JournalCheckState
     requires { length whole.now ≡ journal_record_size (get_or whole.now 0 0) }
-    ensures { result ≡ check_state_after_record standing (calledOf standing.session (call_from_journal_record whole.now)) }
+    ensures { result ≡ check_state_after_record standing (called_of standing.session (call_from_journal_record whole.now)) }
 {
     let kind = basics::byte_at(whole, 0);
     if kind == KIND_START {
@@ -296,7 +296,7 @@ fn called(standing: JournalCheckState, whole: &[u8]) -> JournalCheckState
 // A start.
 fn started(standing: JournalCheckState, whole: &[u8]) -> JournalCheckState
     requires { length whole.now ≡ 1027 }
-    ensures { result ≡ check_state_after_record standing (calledOf standing.session (start_call_from_record whole.now)) }
+    ensures { result ≡ check_state_after_record standing (called_of standing.session (start_call_from_record whole.now)) }
 {
     let session = standing.session;
     if !fits(whole, MOST_START) {
@@ -311,7 +311,7 @@ fn started(standing: JournalCheckState, whole: &[u8]) -> JournalCheckState
 // A card answer.
 fn answered(standing: JournalCheckState, whole: &[u8]) -> JournalCheckState
     requires { length whole.now ≡ 261 }
-    ensures { result ≡ check_state_after_record standing (calledOf standing.session (answer_call_from_record whole.now)) }
+    ensures { result ≡ check_state_after_record standing (called_of standing.session (answer_call_from_record whole.now)) }
 {
     let session = standing.session;
     let mut buffer = [0u8; MOST_COMMAND];
@@ -330,7 +330,7 @@ fn answered(standing: JournalCheckState, whole: &[u8]) -> JournalCheckState
 
 // The link failed.
 fn link_failed(standing: JournalCheckState) -> JournalCheckState
-    ensures { result ≡ check_state_after_record standing (calledOf standing.session (some (linkFailedCall journal_command_buffer))) }
+    ensures { result ≡ check_state_after_record standing (called_of standing.session (some (link_failed_call journal_command_buffer))) }
 {
     let session = standing.session;
     let mut buffer = [0u8; MOST_COMMAND];
@@ -340,7 +340,7 @@ fn link_failed(standing: JournalCheckState) -> JournalCheckState
 
 // A stop.
 fn stopped(standing: JournalCheckState) -> JournalCheckState
-    ensures { result ≡ check_state_after_record standing (calledOf standing.session (some (stopCall journal_command_buffer))) }
+    ensures { result ≡ check_state_after_record standing (called_of standing.session (some (stop_call journal_command_buffer))) }
 {
     let session = standing.session;
     let mut buffer = [0u8; MOST_COMMAND];
@@ -351,7 +351,7 @@ fn stopped(standing: JournalCheckState) -> JournalCheckState
 // The length is at most `most`, and the bytes after those that it counts are zero.
 fn fits(whole: &[u8], most: usize) -> bool
     requires { length whole.now ≡ most + 3 }
-    ensures { result ≡ fitsIn most whole.now }
+    ensures { result ≡ fits_in most whole.now }
 {
     let n = length_in(whole);
     if most < n {
@@ -401,7 +401,7 @@ fn due_of(
     reply: Reply,
     buffer: [u8; MOST_COMMAND],
 ) -> JournalCheckState
-    ensures { result ≡ check_state_after_record standing (repliedOf reply.session (reply_record_with_whole_buffer reply.answer buffer)) }
+    ensures { result ≡ check_state_after_record standing (replied_of reply.session (reply_record_with_whole_buffer reply.answer buffer)) }
 {
     let session = reply.session;
     let answer = reply.answer;

@@ -4,7 +4,7 @@
 // `journal`, which checks them.
 ghost use Rattle.std.specs.Prelude.{◌≡◌, [], ◌+◌, ◌≤◌, length};
 ghost use Rattle.session_record.specs.declared.CallResult.{CallResult};
-ghost use Rattle.session.specs.Calls.{answer as anAnswer, link-failed as aFailure, stop as aStop};
+ghost use Rattle.session.specs.Calls.{answer as an_answer, link_failed as a_failure, stop as a_stop};
 ghost use Rattle.journal.specs.Record.{journal_call_record, journal_reply_record};
 ghost use Rattle.journal.specs.Writer.{start_record_or_zeros, command_record_or_zeros};
 ghost use Rattle.journal.specs.Inner.{journal_record_written_over_front};
@@ -29,7 +29,7 @@ pub fn start_record(bytes: &[u8]) -> [u8; START_RECORD]
 
 // A card answer; one of more than 258 bytes has length FF FF and a zero body.
 pub fn answer_record(card: &[u8]) -> [u8; ANSWER_RECORD]
-    ensures { result ≡ journal_call_record (anAnswer card.now []) }
+    ensures { result ≡ journal_call_record (an_answer card.now []) }
 {
     let mut out = [0u8; ANSWER_RECORD];
     if MOST_ANSWER < card.len() {
@@ -44,14 +44,14 @@ pub fn answer_record(card: &[u8]) -> [u8; ANSWER_RECORD]
 
 // The link failed.
 pub fn link_failed_record() -> [u8; 1]
-    ensures { result ≡ journal_call_record (aFailure []) }
+    ensures { result ≡ journal_call_record (a_failure []) }
 {
     [KIND_LINK_FAILED]
 }
 
 // A stop.
 pub fn stop_record() -> [u8; 1]
-    ensures { result ≡ journal_call_record (aStop []) }
+    ensures { result ≡ journal_call_record (a_stop []) }
 {
     [KIND_STOP]
 }

@@ -1,8 +1,8 @@
 // The entries of the AFL as it is proposed: each against the rules and those before it.
 ghost use Rattle.std.specs.Prelude.{◌≡◌, ◌≤◌, ◌%◌, length};
 ghost use Rattle.afl.specs.Entry.{first_afl_entry, entry_record_count};
-ghost use Rattle.afl.specs.Records.{afl_entries as entriesIn, afl_record_count};
-ghost use Rattle.personalise.specs.Entries.{valid_entry_sfi1_to10_no_offline_auth, overlaps_none_before, entries_overlap as meetsBoth, valid_entry_after_within_count_limits, first_bad_entry};
+ghost use Rattle.afl.specs.Records.{afl_entries as entries_in, afl_record_count};
+ghost use Rattle.personalise.specs.Entries.{valid_entry_sfi1_to10_no_offline_auth, overlaps_none_before, entries_overlap as meets_both, valid_entry_after_within_count_limits, first_bad_entry};
 
 use crate::FirstBadItemNumber;
 use afl::AflEntry;
@@ -53,7 +53,7 @@ pub(crate) fn count_records(entries: &[u8]) -> usize
 // Whether an entry satisfies the rules after those before it.
 fn keeps_behind(before: &[u8], e: AflEntry) -> bool
     requires { length before.now % 4 ≡ 0 }
-    ensures { result ≡ valid_entry_after_within_count_limits (entriesIn before.now) e }
+    ensures { result ≡ valid_entry_after_within_count_limits (entries_in before.now) e }
 {
     if MOST_ENTRIES <= before.len() / 4 {
         return false;
@@ -69,7 +69,7 @@ fn keeps_behind(before: &[u8], e: AflEntry) -> bool
 
 // Whether an entry names no record that one before it names.
 fn is_apart(before: &[u8], e: AflEntry) -> bool
-    ensures { result ≡ overlaps_none_before (entriesIn before.now) e }
+    ensures { result ≡ overlaps_none_before (entries_in before.now) e }
 {
     let mut rest = before;
     while 4 <= rest.len() {
@@ -103,7 +103,7 @@ fn keeps_alone(e: AflEntry) -> bool
 
 // Whether two entries name a record both.
 fn meets(e: AflEntry, f: AflEntry) -> bool
-    ensures { result ≡ meetsBoth e f }
+    ensures { result ≡ meets_both e f }
 {
     if e.lead / 8 != f.lead / 8 {
         return false;

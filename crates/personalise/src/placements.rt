@@ -1,7 +1,7 @@
 // The placements of a layout: two bytes each, the record's number and the object's.
 ghost use Rattle.std.specs.Prelude.{◌≡◌, min, get_or};
 ghost use Rattle.personalise.specs.Placements.{placement, placements_in, count_placements_where, any_placement, places_object_number, puts_object_into};
-ghost use Rattle.personalise.specs.Records.{is_out_of_range_placement_into as straysFrom};
+ghost use Rattle.personalise.specs.Records.{is_out_of_range_placement_into as strays_from};
 ghost use Rattle.personalise.specs.Inner.{record_has_out_of_range_placement};
 
 use crate::Placement;
@@ -87,7 +87,7 @@ fn is_of(p: Placement, into: usize, object: usize) -> bool
 
 // Whether a placement names a record, and either that is none of `records` or its object none of `objects`.
 fn strays(p: Placement, into: usize, records: usize, objects: usize) -> bool
-    ensures { result ≡ straysFrom records objects into p }
+    ensures { result ≡ strays_from records objects into p }
 {
     let named = basics::widen(p.into);
     let object = basics::widen(p.object);

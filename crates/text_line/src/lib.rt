@@ -11,10 +11,10 @@
 #![tactic(auto)]
 
 ghost use Rattle.std.specs.Prelude.{◌≡◌, ◌≤◌, length};
-ghost use Rattle.text_line.specs.Text.{is_character_of_kind, longest_prefix, after_longest_prefix, uncommented as uncommentedOf};
+ghost use Rattle.text_line.specs.Text.{is_character_of_kind, longest_prefix, after_longest_prefix, uncommented as uncommented_of};
 ghost use Rattle.text_line.specs.Text.{first_word, behind_first_word};
 ghost use Rattle.text_line.specs.Digits.{hex_digit_value_or16, hex_decoding_of, hex_decoding_within_room, DecodesHex, buffer_line_if_up_to4096};
-ghost use Rattle.text_line.specs.Line.{line_word_of, line_if_only_blanks_follow as aloneAs, line_if_hex_decoded, line_meaning, ReturnsLineMeaning};
+ghost use Rattle.text_line.specs.Line.{line_word_of, line_if_only_blanks_follow as alone_as, line_if_hex_decoded, line_meaning, ReturnsLineMeaning};
 ghost use Rattle.text_line.specs.Inner.{hex_pair_at_front};
 
 // How many bytes a call brings: the front of the caller's slice.
@@ -170,7 +170,7 @@ fn front_length(s: &[u8], kind: CharacterKind) -> usize
 
 // The line up to its comment.
 pub fn uncommented(s: &[u8]) -> &[u8]
-    ensures { result.now ≡ uncommentedOf s.now }
+    ensures { result.now ≡ uncommented_of s.now }
 {
     let n = front_length(s, CharacterKind::NotHash);
     &s[..n]
@@ -234,7 +234,7 @@ fn word_named(w: &[u8]) -> LineWord
 
 // A line with only blanks after its words.
 fn alone(rest: &[u8], line: Line) -> Line
-    ensures { result ≡ aloneAs rest.now line }
+    ensures { result ≡ alone_as rest.now line }
 {
     if past_blanks(rest).len() == 0 {
         return line;
