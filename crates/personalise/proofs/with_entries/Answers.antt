@@ -31,9 +31,11 @@ returns-in-At c = let a = c.args in record { said = sym (record_stage (card_plan
             a.entries.now a.afl.now }
 
 pub returns-in-Nothing : goal.returns-in-Nothing
-returns-in-Nothing c = let r = (let a = c.args in
-    let q = c.write_all.ensures in (
-      q.said ∙ sym (record_stage (card_plan a.objects.now a.entries.now a.placements.now)
-          c.count_records-count.result c.count_records-count.ensures.0 c.bad_record-fault.ensures c.in-Nothing.is),
-      q.1,
-    )) in record { said = r.0; wrote = r.1.0; located = r.1.1 }
+returns-in-Nothing c =
+    let a = c.args in
+    let q = c.write_all.ensures in record {
+      said = q.said ∙ sym (record_stage (card_plan a.objects.now a.entries.now a.placements.now)
+          c.count_records-count.result c.count_records-count.ensures.0 c.bad_record-fault.ensures c.in-Nothing.is);
+      wrote = q.wrote;
+      located = q.located;
+    }

@@ -15,10 +15,12 @@ returns-in-At c = let a = c.args in record { said = sym (entry_stage (card_plan 
             a.entries.now a.afl.now }
 
 pub returns-in-Nothing : goal.returns-in-Nothing
-returns-in-Nothing c = let r = (let a = c.args in
-    let q = c.with_entries.ensures in (
-      q.said ∙ sym (entry_stage (card_plan a.objects.now a.entries.now a.placements.now)
+returns-in-Nothing c =
+    let a = c.args in
+    let q = c.with_entries.ensures in record {
+      said = q.said ∙ sym (entry_stage (card_plan a.objects.now a.entries.now a.placements.now)
           c.bad_entry-fault.ensures
-          c.in-Nothing.is),
-      q.1,
-    )) in record { said = r.0; wrote = r.1.0; located = r.1.1 }
+          c.in-Nothing.is);
+      wrote = q.wrote;
+      located = q.located;
+    }

@@ -14,9 +14,6 @@ use Rattle.personalise.proofs.Filled.{records_left, records_done, records_all, t
 use Rattle.personalise.proofs.Filled.{transition_length, transition_most}
 use Rattle.personalise.proofs.writing.put_records.Goals as goal
 
-abbrev left : List ℕ → List ℕ → ℕ → ℕ → List ℕ
-left objects placements n k = records_left (parsed_objects_or_empty objects) (placements_in placements) n k
-
 pub loop-k-init : goal.loop-k-init
 loop-k-init c = (refl, refl, refl, omega arith, omega arith, omega arith)
 

@@ -14,6 +14,9 @@ use Rattle.personalise.proofs.Filled.{records_left, records_done, records_all, t
 use Rattle.personalise.proofs.Filled.{transition_length, transition_most}
 use Rattle.personalise.proofs.writing.put_records.Given as goal
 
+abbrev left : List ℕ → List ℕ → ℕ → ℕ → List ℕ
+left objects placements n k = records_left (parsed_objects_or_empty objects) (placements_in placements) n k
+
 abbrev pub invariant-loop-k : goal.invariant-loop-k
 invariant-loop-k l =
     (bytes_written_over l.initial.out l.initial.at (left l.objects l.placements l.records l.initial.k) ≡ bytes_written_over l.out l.at
