@@ -1,11 +1,9 @@
 -- `placements::count_named` meets its contract. The invariant: the count so far and that of what is left are that of
 -- the whole. The measure is the length of what is left. Assumes nothing.
-use borrow.Author.Rules.{rules}
 use borrow.Author.Tests.{eq-eqb, ne_eqb}
-use mathlib.Core.Path.{◌≡◌, refl, sym, ap, ◌∙◌}
-use Prim.Native.Nat.{ℕ, ◌+◌, ◌≤◌}
+use mathlib.Core.Path.{refl, sym, ap, ◌∙◌}
+use Prim.Native.Nat.{ℕ, ◌+◌}
 use native.Mathlib.Omega.{arith}
-use lib.ListN.{length}
 use Rattle.tlv.proofs.Laws.{tail}
 use Rattle.personalise.specs.Placements.{placements_in, count_placements_where, places_object_number}
 use Rattle.personalise.proofs.Placed.{count_end, count_yes, count_no, tail_less}
@@ -17,11 +15,8 @@ loop-rest-init c = (refl, omega arith)
 
 pub loop-rest-smaller : goal.loop-rest-smaller
 loop-rest-smaller c =
-    
-    
     tail_less c.loop-rest.rest.now c.loop-rest-test.true _ c.front-p.ensures _
     c.width-n.ensures
-
 
 pub loop-rest-preserved : goal.loop-rest-preserved
 loop-rest-preserved c =
@@ -45,4 +40,4 @@ loop-rest-preserved c =
     ]
 
 pub returns : goal.returns
-returns c = omega ( arith, c.loop-rest.invariant.0, count_end (places_object_number c.args.object) c.loop-rest.rest.now c.loop-rest-test.false, )
+returns c = omega (arith, c.loop-rest.invariant.0, count_end (places_object_number c.args.object) c.loop-rest.rest.now c.loop-rest-test.false)
