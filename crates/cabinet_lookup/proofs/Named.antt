@@ -89,7 +89,7 @@ module _ (tag : ℕ) (site defaults part : Bor (List ℕ)) (b : Bytes site.now) 
   Part = Handed tag site.now defaults.now part.now
 
   -- a part with the bytes and the address of the tag's value is the one that the word names
-  named : Part → part.ptr ≡ address_of_value tag site defaults → LookupWordDescribesPart tag site defaults part
+  named : Part → part.ref_ptr ≡ address_of_value tag site defaults → LookupWordDescribesPart tag site defaults part
   named h a short =
       let start = word_start tag site.now defaults.now b d short in
       let source = word_source tag site.now defaults.now b d short in
@@ -102,7 +102,7 @@ module _ (tag : ℕ) (site defaults part : Bor (List ℕ)) (b : Bytes site.now) 
         address =
             a
             ∙ address_both site.now defaults.now _ _ _ _ _ _ (stands tag site.now) (stands tag defaults.now)
-            ∙ sym (ap₂ (address_by (length site.now) site.ref_ptr defaults.ptr) source start);
+            ∙ sym (ap₂ (address_by (length site.now) site.ref_ptr defaults.ref_ptr) source start);
         len =
             ap length h.1
             ∙ part_length (site.now ++ defaults.now) (span_in_site_then_defaults tag site.now defaults.now)
@@ -112,8 +112,8 @@ module _ (tag : ℕ) (site defaults part : Bor (List ℕ)) (b : Bytes site.now) 
       }
 
   -- the promises of a lookup, by the bytes and the address that it returns
-  pub returned : Part → part.ptr ≡ address_of_value tag site defaults
+  pub returned : Part → part.ref_ptr ≡ address_of_value tag site defaults
       → (part.now ≡ lookup_value tag site.now defaults.now)
       × ((part.now ≡ span_bytes (site.now ++ defaults.now) (span_in_site_then_defaults tag site.now defaults.now))
-      × ((part.ptr ≡ address_of_value tag site defaults) × LookupWordDescribesPart tag site defaults part))
+      × ((part.ref_ptr ≡ address_of_value tag site defaults) × LookupWordDescribesPart tag site defaults part))
   returned h a = (h.0, (h.1, (a, named h a)))

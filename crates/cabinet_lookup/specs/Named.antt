@@ -12,8 +12,8 @@ use Rattle.cabinet_lookup.specs.Word.{lookup_word_length}
 -- where the part begins: in the site's list at the start; else in the defaults, the site's bytes not counted
 abbrev pub address_from_word : ℕ → Bor StartBytes → Bor StartBytes → ℕ × ℕ
 address_from_word w site defaults =
-    if lookup_word_source w =? source_site then address_after (lookup_word_start w) site.ptr
-    else address_after (lookup_word_start w - length site.now) defaults.ptr
+    if lookup_word_source w =? source_site then address_after (lookup_word_start w) site.ref_ptr
+    else address_after (lookup_word_start w - length site.now) defaults.ref_ptr
 
 -- source, start and length of a word are those of a part of the two lists
 pub record WordDescribesPart (lookup_word_given : ℕ) (tag : Tag) (site defaults : Bor StartBytes) (part : Bor Value) :

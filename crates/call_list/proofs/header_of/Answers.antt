@@ -1,0 +1,8 @@
+-- `header_of`: the kind, and the two lengths by `eight`.
+-- Assumes nothing.
+use borrow.Author.Rules.{rules}
+use Rattle.call_list.proofs.header_of.Goals as goal
+
+pub returns : goal.returns
+returns c = cc
+

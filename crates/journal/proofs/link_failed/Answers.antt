@@ -1,0 +1,11 @@
+-- `journal::link_failed` meets its contract: the call's promise is the step's.
+-- Assumes nothing.
+use Rattle.step_laws.proofs.EveryCall.{link_came}
+use Rattle.journal.specs.Record.{journal_command_buffer}
+use Rattle.journal.proofs.Due.{did_due}
+use borrow.Author.Rules.{rules}
+use Rattle.journal.proofs.link_failed.Goals as goal
+
+pub returns : goal.returns
+returns c = did_due _ (link_came _ journal_command_buffer) c.link_failed-reply.ensures c.due_of.ensures
+

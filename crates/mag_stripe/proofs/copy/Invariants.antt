@@ -1,0 +1,24 @@
+-- `mag_stripe::copy` meets its contract. The invariant, `Copying`: the digits that are left, written into the track as
+-- it is, give the track of all digits.
+-- Assumes nothing.
+use mathlib.Core.Path.{◌≡◌, refl, ◌∙◌}
+use Prim.Native.Nat.{ℕ, ◌-◌, ◌%◌, ◌≤◌, ◌<◌}
+use native.Mathlib.Omega.{arith}
+use native.Mathlib.Nat.{mod-lt}
+use lib.ListN.{length}
+use Rattle.basics.specs.Number.{nibbles}
+use Rattle.mag_stripe.specs.Bitmap.{bitmap_places_from_one}
+use Rattle.mag_stripe.proofs.Nibbles.{length_nibbles}
+use Rattle.mag_stripe.proofs.Writing.{Copying, copying_start, copying_one, copying_some, copying_place}
+use Rattle.mag_stripe.proofs.Writing.{copying_end}
+use Rattle.mag_stripe.proofs.copy.Given as goal
+
+abbrev pub invariant-loop-copied : goal.invariant-loop-copied
+invariant-loop-copied l =
+    (length l.track ≡ length l.initial.track) × Copying l.end l.base l.number l.count (bitmap_places_from_one l.bitmap) (nibbles l.initial.track) l.copied
+    l.left (bitmap_places_from_one l.rest) (nibbles l.track)
+
+
+abbrev pub decreases-loop-copied : goal.decreases-loop-copied
+decreases-loop-copied l = l.count - l.copied
+
