@@ -157,14 +157,14 @@ empty_wrong rs rest k x =
     (right_walked (rs ++ (take (first_record_size rest) rest ∷ [])) x).walks in
     absurd (omega arith)
 
-behind : {u : ExpectedNext} {v : JournalVerdict} {rest : List ℕ} (n : ℕ) (rs : List (List ℕ)) → n ≡ 0 + length rs
+behind : {u : ExpectedNext} (n : ℕ) {v : JournalVerdict} {rest : List ℕ} (rs : List (List ℕ)) → n ≡ 0 + length rs
     → Walks expected_at_start rs u → Stops u n rest v
     → VerdictMatchesRest rs rest v
 behind n rs c w Stops.ended = (omega arith, refl)
-behind {rest = rest} n rs c w (Stops.strange h k) =
+behind n {rest = rest} rs c w (Stops.strange h k) =
     (omega arith, record { some = h; whole = omega arith; wrong = empty_wrong rs rest k })
 behind n rs c w (Stops.short h) = (omega arith, h)
-behind {rest = rest} n rs c w (Stops.mismatch h k j) = (
+behind n {rest = rest} rs c w (Stops.mismatch h k j) = (
   omega arith,
   record {
     some = omega arith;

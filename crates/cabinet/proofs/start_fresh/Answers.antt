@@ -33,11 +33,9 @@ returns-in-Refused c =
 
 pub returns-then-remaining-amount : goal.returns-then-remaining-amount
 returns-then-remaining-amount c =
-    let st = c.before.before.before.before.before.before.before.before.before.before.before.before.before
-    in
     let q = c.amount_in-amount.ensures in
-    fresh_left st.args.terminal.now st.args.state.now _ st.args.command.now st.args.remaining own
-    st.pre.1.0 _ _ _
+    fresh_left c.args.terminal.now c.args.state.now _ c.args.command.now c.args.remaining own
+    c.requires.least_buffer_in_bounds _ _ _
     c.start_on_parts-transition.ensures
     (not_refused c.start_on_parts-transition.result.answer
     c.in_default.in_default-own.keys2) _ c.refusal_word-then-remaining-amount.ensures
@@ -46,45 +44,41 @@ returns-then-remaining-amount c =
 
 pub hand_over-requires : goal.hand_over-requires
 hand_over-requires c =
-    let st =
-    c.before.before.before.before.before.before.before.before.before.before.before.before.before.before in
     let d = c.start_on_parts-transition.ensures in
-    let s = fresh_size st.args.terminal.now st.args.state.now _ st.args.command.now st.args.remaining
-    own st.pre.1.0 _ _ _ d in
-    let m = fresh_length st.args.terminal.now st.args.state.now _ st.args.command.now
-    st.args.remaining own st.pre.1.0 _ _ _ d in
-    (omega (arith, s, m), omega (arith, s, length-replicate {A = ℕ} least_buffer 0, st.pre.1.0))
+    let s = fresh_size c.args.terminal.now c.args.state.now _ c.args.command.now c.args.remaining
+    own c.requires.least_buffer_in_bounds _ _ _ d in
+    let m = fresh_length c.args.terminal.now c.args.state.now _ c.args.command.now
+    c.args.remaining own c.requires.least_buffer_in_bounds _ _ _ d in
+    (omega (arith, s, m), omega (arith, s, length-replicate {A = ℕ} least_buffer 0, c.requires.least_buffer_in_bounds))
 
 
 pub returns : goal.returns
 returns c =
-    let st =
-    c.before.before.before.before.before.before.before.before.before.before.before.before.before.before.before.before.before.before.before.before.before.before.before.before.before.before in
-    let l = st.args.state.now in
+    let l = c.args.state.now in
     let d =
     c.start_on_parts-transition.ensures in
     let b =
     c.start_on_parts-transition.new.store in
     let a =
     c.amount_in-amount.ensures in
-    let z = fresh_store st.args.terminal.now l _ st.args.command.now st.args.remaining own st.pre.1.0
+    let z = fresh_store c.args.terminal.now l _ c.args.command.now c.args.remaining own c.requires.least_buffer_in_bounds
     _ _ _ d in
-    let k = copied b _ _ (z ∙ sym (store_long l (omega (arith, st.pre.0))))
+    let k = copied b _ _ (z ∙ sym (store_long l (omega (arith, c.requires.cabinet_state_size_in_bounds))))
     c.copy.ensures.1 in
     let f = c.finish.ensures in
     let n =
     c.amount_in-amount.result in
-    let amounts : Amounts = record { remaining = st.args.remaining - n; reserved = n } in
-    fresh_taken st.args.terminal.now l _ st.args.command.now st.args.remaining own st.pre.1.0 _ _ _
+    let amounts : Amounts = record { remaining = c.args.remaining - n; reserved = n } in
+    fresh_taken c.args.terminal.now l _ c.args.command.now c.args.remaining own c.requires.least_buffer_in_bounds _ _ _
     d
     (not_refused
     c.start_on_parts-transition.result.answer
-    c.in_default.in_default-own.keys2) st.pre.0
+    c.in_default.in_default-own.keys2) c.requires.cabinet_state_size_in_bounds
     (omega (
       arith,
       c.if-remaining-amount.false,
       a,
-    )) _ _ _ amounts (ap (λ (x : ℕ). st.args.remaining - x) a) a (
+    )) _ _ _ amounts (ap (λ (x : ℕ). c.args.remaining - x) a) a (
       f.0,
       f.1 ∙ ap
           (λ (x : List ℕ). state_after_transition

@@ -15,7 +15,7 @@ started-requires c = c.requires ∙ size_start _
 
 pub returns-then-kind-eq-KIND_START : goal.returns-then-kind-eq-KIND_START
 returns-then-kind-eq-KIND_START c =
-    stands_as _
+    stands_as c.args.standing
     (ap (judge_call _) (sym (kind_start _ (sym c.byte_at-kind.ensures ∙ c.if-kind-eq-KIND_START.true))))
     c.started.ensures
 
@@ -27,14 +27,14 @@ answered-requires c = c.requires ∙ size_answer _
 
 pub returns-then-kind-eq-KIND_ANSWER : goal.returns-then-kind-eq-KIND_ANSWER
 returns-then-kind-eq-KIND_ANSWER c =
-    stands_as _
+    stands_as c.args.standing
     (ap (judge_call _) (sym (kind_answer _ (sym c.byte_at-kind.ensures ∙ c.if-kind-eq-KIND_ANSWER.true))))
     c.answered.ensures
 
 
 pub returns-then-kind-eq-KIND_LINK_FAILED : goal.returns-then-kind-eq-KIND_LINK_FAILED
 returns-then-kind-eq-KIND_LINK_FAILED c =
-    stands_as _
+    stands_as c.args.standing
     (ap (judge_call _)
     (sym (kind_link _ (sym c.byte_at-kind.ensures ∙ c.if-kind-eq-KIND_LINK_FAILED.true))))
     c.link_failed.ensures
@@ -42,7 +42,7 @@ returns-then-kind-eq-KIND_LINK_FAILED c =
 
 pub returns-then-kind-eq-KIND_STOP : goal.returns-then-kind-eq-KIND_STOP
 returns-then-kind-eq-KIND_STOP c =
-    stands_as _
+    stands_as c.args.standing
     (ap (judge_call _)
     (sym (kind_stop _ (sym c.byte_at-kind.ensures ∙ c.if-kind-eq-KIND_STOP.true))))
     c.stopped.ensures
@@ -50,7 +50,7 @@ returns-then-kind-eq-KIND_STOP c =
 
 pub returns : goal.returns
 returns c = let k = c.byte_at-kind.ensures in
-    stands_as _
+    stands_as c.args.standing
     (ap (judge_call _)
     (sym (kind_none _ (λ z. c.if-kind-eq-KIND_START.false (k ∙ z))
     (λ z. c.if-kind-eq-KIND_ANSWER.false (k ∙ z)) (λ z. c.if-kind-eq-KIND_LINK_FAILED.false (k ∙ z))

@@ -9,7 +9,7 @@ use Rattle.journal.proofs.command_due.Goals as goal
 
 pub returns : goal.returns
 returns c = let a = c.args in
-    let l : length a.t3 ≡ 261 = search rules in
-    let e = copied a.t3 (replicate 261 0) c.copy.new.dst l c.copy.ensures.1 in
-    command_whole a.session _ _ _ a.t3 e l
+    let l : length a.buffer ≡ 261 = search rules in
+    let e = copied a.buffer (replicate 261 0) c.copy.new.dst l c.copy.ensures.1 in
+    command_whole a.session _ _ _ a.buffer e l
 

@@ -10,21 +10,21 @@ use Rattle.journal.proofs.due_of.Goals as goal
 
 pub returns-in-Command : goal.returns-in-Command
 returns-in-Command c = let a = c.args in
-    stands_as _
+    stands_as a.standing
     (ap (λ (x : CallResult). expect_reply_unless_empty a.reply.session (reply_record_with_whole_buffer x a.buffer))
     (sym c.in-Command.is)) c.command_due.ensures
 
 
 pub returns-in-Outcome : goal.returns-in-Outcome
 returns-in-Outcome c = let a = c.args in
-    stands_as _
+    stands_as a.standing
     (ap (λ (x : CallResult). expect_reply_unless_empty a.reply.session (reply_record_with_whole_buffer x a.buffer))
     (sym c.in-Outcome.is)) c.outcome_due.ensures
 
 
 pub returns-in-Refused : goal.returns-in-Refused
 returns-in-Refused c = let a = c.args in
-    stands_as _
+    stands_as a.standing
     (ap (λ (x : CallResult). expect_reply_unless_empty a.reply.session (reply_record_with_whole_buffer x a.buffer))
     (sym c.in-Refused.is)) c.wrong.ensures
 

@@ -17,5 +17,5 @@ returns-then-standing c = let r = (wanted_told _ _
 
 pub returns : goal.returns
 returns c = let r = (let k = c.args.checker in
-    let l = ltb-false 264 k.standing.size c.if-size-gt-COMMAND_RECORD.false in
+    let l = c.if-size-gt-COMMAND_RECORD.false in
     wanted_told k _ (wants_due k c.if-standing.false l) l) in record { wanted = r.0; size = r.1.0; follows = r.1.1.0; only = r.1.1.1.0; even = r.1.1.1.1 }

@@ -14,7 +14,7 @@ use Rattle.journal.proofs.feed.Goals as goal
 
 pub returns-then-not-standing : goal.returns-then-not-standing
 returns-then-not-standing c = let r = (let v = c.args.part.now in
-    fed _ _ v v (stays_all _ v c.if-not-standing.true) refl) in record { checker = r.0; follows = r.1 }
+    fed _ _ v v (stays_all _ v (not-true _ c.if-not-standing.true)) refl) in record { checker = r.0; follows = r.1 }
 
 pub loop-i-init : goal.loop-i-init
 loop-i-init c = let a = c.args in pushed_none a.checker a.part.now

@@ -13,7 +13,7 @@ use Rattle.journal.proofs.judge.Goals as goal
 
 pub returns-then-size-eq0 : goal.returns-then-size-eq0
 returns-then-size-eq0 c = let a = c.args in
-    stands_as _
+    stands_as a.standing
     (ap (λ (k : ℕ). judge_record (expected_next_of_session_and_due_reply a.standing.session (take k a.standing.due)) a.whole.now)
     (sym c.if-size-eq0.true)) c.called.ensures
 
@@ -35,7 +35,7 @@ returns-then-bytes_equal c = let a = c.args in
     let l : length a.standing.due ≡ 264 = search rules in
     let n = length-take-le a.standing.size a.standing.due
     (omega (arith, c.requires.1)) in
-    stands_as _
+    stands_as a.standing
     (sym (reply_due _ (take a.standing.size a.standing.due) a.whole.now
     (omega (arith, c.if-size-eq0.false)) ∙ if_yes _ _
     (sym c.bytes_equal.ensures ∙ c.if-bytes_equal.true))) c.waiting.ensures
@@ -46,7 +46,7 @@ returns c = let a = c.args in
     let l : length a.standing.due ≡ 264 = search rules in
     let n = length-take-le a.standing.size a.standing.due
     (omega (arith, c.requires.1)) in
-    stands_as _
+    stands_as a.standing
     (sym (reply_due _ (take a.standing.size a.standing.due) a.whole.now
     (omega (arith, c.if-size-eq0.false)) ∙ if_no _ _
     (sym c.bytes_equal.ensures ∙ c.if-bytes_equal.false))) c.wrong.ensures

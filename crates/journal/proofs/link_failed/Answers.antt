@@ -7,5 +7,5 @@ use borrow.Author.Rules.{rules}
 use Rattle.journal.proofs.link_failed.Goals as goal
 
 pub returns : goal.returns
-returns c = did_due _ (link_came _ journal_command_buffer) c.link_failed-reply.ensures c.due_of.ensures
+returns c = did_due c.args.standing (link_came _ journal_command_buffer) c.link_failed-reply.ensures c.due_of.ensures
 

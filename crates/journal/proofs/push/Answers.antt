@@ -12,7 +12,7 @@ use borrow.Author.Rules.{rules}
 use Rattle.journal.proofs.push.Goals as goal
 
 pub returns-then-not-standing : goal.returns-then-not-standing
-returns-then-not-standing c = stays_wrong _ _ c.if-not-standing.true
+returns-then-not-standing c = stays_wrong _ _ (not-true _ c.if-not-standing.true)
 
 
 pub returns-then-length-ge-START_RECORD : goal.returns-then-length-ge-START_RECORD
@@ -30,7 +30,7 @@ returns-then-checker-ge-MOST_RECORDS c = stays_records _ _ (omega (arith, c.if-c
 pub returns-then-length-size : goal.returns-then-length-size
 returns-then-length-size c = let k = c.args in
     holds_more k.checker k.byte
-    c.if-not-standing.false (search rules)
+    (not-false _ c.if-not-standing.false) (search rules)
     (search rules) (search rules) c.journal_record_size-size.result c.journal_record_size-size.ensures
     c.if-length-size.true
 
@@ -90,7 +90,7 @@ returns c = let k =
     c.args in
     let s = c.journal_record_size-size in
     judges k.checker k.byte
-    c.if-not-standing.false
+    (not-false _ c.if-not-standing.false)
     (search rules) (search rules) (search rules) s.result c.judge-judged.result s.ensures
     (omega (arith, c.if-length-size.false)) c.judge-judged.ensures
 

@@ -7,5 +7,5 @@ use borrow.Author.Rules.{rules}
 use Rattle.journal.proofs.stopped.Goals as goal
 
 pub returns : goal.returns
-returns c = did_due _ (stop_came _ journal_command_buffer) c.stop-reply.ensures c.due_of.ensures
+returns c = did_due c.args.standing (stop_came _ journal_command_buffer) c.stop-reply.ensures c.due_of.ensures
 
