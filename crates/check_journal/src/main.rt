@@ -8,12 +8,13 @@
 #![tactic(auto)]
 
 use journal::{JournalChecker, JournalVerdict};
-use libc::{STDERR_FILENO, STDIN_FILENO};
+use program::LONGEST_ARGUMENT;
 use session_record::{CallResult, CommandLength, Outcome};
+use std::io::Read;
 
 // The words that the program is called with: whether the exit status is reported, which argument names the file (0:
 // none does), and whether there is one name too many or an unknown option.
-#[derive(Drop)]
+#[derive(Clone, Copy)]
 struct CheckJournalArguments {
     tell: bool,
     file: usize,
@@ -35,50 +36,44 @@ const NOT_RIGHT: u8 = 1;
 
 const NO_VERDICT: u8 = 2;
 
-// The descriptor on which the exit status is reported.
-const TELLING: i32 = 3;
-
-fn main() {
-    let asked = asked_for();
-    let status = judged(asked);
+fn main(rt: HostRuntime) {
+    let asked = asked_for(&rt);
+    let status = judged(&rt, asked);
     if asked.tell {
-        tell(status);
+        tell(&rt, status);
     }
 }
 
-fn tell(status: u8) {
+fn tell(rt: &HostRuntime, status: u8) {
     match status {
-        ACCEPTED => send(TELLING, b"0"),
-        NOT_RIGHT => send(TELLING, b"1"),
-        _ => send(TELLING, b"2"),
+        ACCEPTED => send(rt, b"0"),
+        NOT_RIGHT => send(rt, b"1"),
+        _ => send(rt, b"2"),
     }
 }
 
-fn send(fd: i32, words: &[u8]) {
-    io::write_all(fd, words);
+fn send(rt: &HostRuntime, words: &[u8]) {
+    program::tell_status(rt, words);
 }
 
 // ---- the arguments
 
-fn asked_for() -> CheckJournalArguments {
+fn asked_for(rt: &HostRuntime) -> CheckJournalArguments {
     let mut out = CheckJournalArguments {
         tell: false,
         file: 0,
         wrong: false,
     };
-    let n = os::arg_count();
-    let mut i = 1;
-    while i < n {
-        out = with_argument(out, i);
-        i += 1;
+    for i in 1..program::argument_count(rt) {
+        out = with_argument(rt, out, i);
     }
     out
 }
 
 // One more argument.
-fn with_argument(arguments: CheckJournalArguments, i: usize) -> CheckJournalArguments {
-    let mut space = io::buffer();
-    let n = os::arg(i, &mut space);
+fn with_argument(rt: &HostRuntime, arguments: CheckJournalArguments, i: usize) -> CheckJournalArguments {
+    let mut space = [0u8; LONGEST_ARGUMENT];
+    let n = program::argument(rt, i, &mut space);
     let word = &space[..n];
     let mut out = arguments;
     if basics::bytes_equal(word, b"--tell") {
@@ -86,19 +81,20 @@ fn with_argument(arguments: CheckJournalArguments, i: usize) -> CheckJournalArgu
         return out;
     }
     if basics::byte_at(word, 0) == b'-' {
-        return not_understood(arguments, b"unknown option");
+        return not_understood(rt, arguments, b"unknown option");
     }
     if arguments.file != 0 {
-        return not_understood(arguments, b"more than one file");
+        return not_understood(rt, arguments, b"more than one file");
     }
     out.file = i;
     out
 }
 
-fn not_understood(arguments: CheckJournalArguments, words: &[u8]) -> CheckJournalArguments {
-    send(STDERR_FILENO, b"journal: ");
-    send(STDERR_FILENO, words);
-    send(STDERR_FILENO, b"\n");
+fn not_understood(rt: &HostRuntime, arguments: CheckJournalArguments, words: &[u8]) -> CheckJournalArguments {
+    let err = rt.stderr();
+    print::print_text(&err, b"journal: ");
+    print::print_text(&err, words);
+    print::print_text(&err, b"\n");
     let mut out = arguments;
     out.wrong = true;
     out
@@ -107,58 +103,65 @@ fn not_understood(arguments: CheckJournalArguments, words: &[u8]) -> CheckJourna
 // ---- the file
 
 // Shows the verdict on the file, and returns the exit status.
-fn judged(asked: CheckJournalArguments) -> u8 {
+fn judged(rt: &HostRuntime, asked: CheckJournalArguments) -> u8 {
     if asked.wrong {
         return NO_VERDICT;
     }
     if asked.file == 0 {
-        return shown(read(STDIN_FILENO));
+        return shown(rt, read(rt, &mut rt.stdin()));
     }
-    let mut path = io::buffer();
-    let n = os::arg(asked.file, &mut path);
-    let fd = os::open_read(&path[..n]);
-    if fd < 0 {
-        os::fail(&path[..n]);
-        return NO_VERDICT;
+    let mut path = [0u8; LONGEST_ARGUMENT];
+    let n = program::argument(rt, asked.file, &mut path);
+    match program::open_read(rt, &path[..n]) {
+        Ok(mut file) => shown(rt, read(rt, &mut file)),
+        Err(error) => {
+            program::print_failure(rt, &rt.stderr(), &path[..n], error);
+            NO_VERDICT
+        }
     }
-    let state = read(fd);
-    libc::close(fd);
-    shown(state)
 }
 
-// Feeds a file to a checker, up to a record that is a mismatch. A proved loop has to end, so it counts its iterations
-// from a number that no file uses up.
-fn read(fd: i32) -> CheckProgress {
+// Feeds a file to a checker, up to a record that is a mismatch. A proved loop has to end, so it has a number of
+// iterations that no file uses up.
+fn read(rt: &HostRuntime, source: &mut impl Read) -> CheckProgress {
     let checker = journal::begin();
     let mut state = CheckProgress {
         checker,
         going: true,
         failed: false,
     };
-    let mut turns = u64::MAX;
-    while turns > 0 && state.going {
-        state = read_part(state, fd);
-        turns -= 1;
+    for _ in 0..u64::MAX {
+        if !state.going {
+            return state;
+        }
+        state = read_part(rt, state, source);
     }
     state
 }
 
 // One more part.
-fn read_part(state: CheckProgress, fd: i32) -> CheckProgress {
+fn read_part(rt: &HostRuntime, state: CheckProgress, source: &mut impl Read) -> CheckProgress {
     let mut part = [0u8; 4096];
-    let got = libc::read(fd, &mut part);
-    if got < 0 {
-        os::fail(b"journal: the file cannot be read");
-        return ended(state, true);
+    match source.read(&mut part) {
+        Ok(0) => ended(state, false),
+        Ok(n) => fed(journal::feed(state.checker, &part[..n])),
+        Err(error) => {
+            program::print_failure(
+                rt,
+                &rt.stderr(),
+                b"journal: the file cannot be read",
+                error,
+            );
+            ended(state, true)
+        }
     }
-    if got == 0 {
-        return ended(state, false);
-    }
-    let n = io::count(got, &part);
-    let checker = journal::feed(state.checker, &part[..n]);
+}
+
+fn fed(checker: JournalChecker) -> CheckProgress {
+    let going = !is_mismatch(&checker);
     CheckProgress {
         checker,
-        going: !is_mismatch(checker),
+        going,
         failed: false,
     }
 }
@@ -171,69 +174,79 @@ fn ended(state: CheckProgress, failed: bool) -> CheckProgress {
 }
 
 // Whether a record was a mismatch; then nothing after it is examined.
-fn is_mismatch(checker: JournalChecker) -> bool {
-    let verdict = journal::finish(checker);
+fn is_mismatch(checker: &JournalChecker) -> bool {
+    let verdict = journal::finish(same(checker));
     match verdict {
         JournalVerdict::Mismatch(_) => true,
         _ => false,
     }
 }
 
+// A checker that stands where this one does.
+fn same(checker: &JournalChecker) -> JournalChecker {
+    JournalChecker {
+        standing: checker.standing,
+        held: checker.held,
+        length: checker.length,
+        records: checker.records,
+    }
+}
+
 // ---- the verdict
 
 // Shows the verdict where the whole file was read.
-fn shown(state: CheckProgress) -> u8 {
+fn shown(rt: &HostRuntime, state: CheckProgress) -> u8 {
     if state.failed {
         return NO_VERDICT;
     }
     let checker = state.checker;
-    let verdict = journal::finish(checker);
+    let verdict = journal::finish(same(&checker));
     match verdict {
         JournalVerdict::Accepted(n) => {
-            print::print_text(b"accepted, ");
-            print::print_number(n);
-            print::print_text(b" records\n");
+            print::print_text(rt, b"accepted, ");
+            print::print_number(rt, n);
+            print::print_text(rt, b" records\n");
             ACCEPTED
         }
         JournalVerdict::Mismatch(n) => {
-            named(n, b" is unlike what document 01 gives\n");
-            right_record(checker);
+            named(rt, n, b" is unlike what document 01 gives\n");
+            right_record(rt, checker);
             NOT_RIGHT
         }
         JournalVerdict::Truncated(n) => {
-            named(n, b" is cut\n");
+            named(rt, n, b" is cut\n");
             NOT_RIGHT
         }
     }
 }
 
 // A record by its number, and what it is.
-fn named(n: usize, words: &[u8]) {
-    print::print_text(b"record ");
-    print::print_number(n);
-    print::print_text(words);
+fn named(rt: &HostRuntime, n: usize, words: &[u8]) {
+    print::print_text(rt, b"record ");
+    print::print_number(rt, n);
+    print::print_text(rt, words);
 }
 
 // ---- the conforming record in place of a mismatching one
 
 // A line with the reply that was expected, where one was.
-fn right_record(checker: JournalChecker) {
+fn right_record(rt: &HostRuntime, checker: JournalChecker) {
     let wanted = journal::expected_reply_record(checker);
     if wanted.size == 0 {
         return;
     }
     let bytes = wanted.bytes;
-    print::print_text(b"a right kernel has there: ");
+    print::print_text(rt, b"a right kernel has there: ");
     if is_command(&bytes) {
-        print::print_result_in_words(command_in(&bytes), body_in(&bytes));
-        print::print_text(b", zeros behind");
+        print::print_result_in_words(rt, command_in(&bytes), body_in(&bytes));
+        print::print_text(rt, b", zeros behind");
     } else {
-        print::print_outcome_in_words(
+        print::print_outcome_in_words(rt, 
             outcome_of(basics::byte_at(&bytes, 1)),
             basics::byte_at(&bytes, 2),
         );
     }
-    print::print_text(b"\n");
+    print::print_text(rt, b"\n");
 }
 
 // The bytes of a record after its kind and length.

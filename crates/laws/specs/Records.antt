@@ -1,7 +1,7 @@
 -- Two records read one after the other, in either order (document 02, Item 12; document 01, "Reading an answer"): the
 -- contents of a record's template by themselves, and whole record answers.
 -- Assumes nothing.
-use Rattle.std.specs.Prelude.{◌≡◌, Bool, true, false, List, [], ◌∷◌, ◌++◌, ◌+◌, ◌-◌, ◌≤◌, length, take}
+use Rattle.std.specs.Prelude.{◌≡◌, Bool, true, false, [], ◌∷◌, ◌++◌, ◌+◌, ◌-◌, ◌≤◌, length, take}
 use Rattle.std.proofs.Math.Option.{Option, some, none}
 use Rattle.basics.specs.Types.{Bytes, StoreBytes, Response, Tag}
 use Rattle.basics.specs.Choice.{◌and◌, ◌or◌, ◌=?◌}

@@ -57,12 +57,12 @@ swap b o x s t d l = put_put dictionary_rows b (row_number_of_tag_or_zero x.tag)
 
 -- ---- the order does not matter
 
-insert_put : (b : List ℕ) {o : Object} {l m : List Object} → Insert o l m → tag_and_value_allowed_in_record o ≡ true
+insert_put : {o : Object} (b : List ℕ) {l m : List Object} → Insert o l m → tag_and_value_allowed_in_record o ≡ true
     → every tag_and_value_allowed_in_record l ≡ true → lacks_tag o.tag l ≡ true → length b ≡ store_size
     → put_objects b m ≡ put_objects (put b o) l
 unfolding put_objects every lacks_tag
 insert_put b here s e t z = refl
-insert_put b {o} (there {x} {l} i) s e t z =
+insert_put {o} b (there {x} {l} i) s e t z =
     insert_put (put b x) i s (both_right _ _ e) (both_right _ _ t) (put_size b x (both_left _ _ e) z)
     ∙ ap (λ (c : List ℕ). put_objects c l) (swap b o x s (both_left _ _ e) (both_left _ _ t) z)
 

@@ -13,10 +13,11 @@ mod shown;
 mod text;
 
 use arguments::PersonaliseArguments;
-use libc::{STDERR_FILENO, STDIN_FILENO};
+use program::LONGEST_ARGUMENT;
+use std::io::Read;
 
 // How much of a file is there, whether to read on, and whether a part could not be read.
-#[derive(Drop)]
+#[derive(Clone, Copy)]
 struct FileReadProgress {
     size: usize,
     going: bool,
@@ -43,31 +44,28 @@ const RECORDS: usize = 32768;
 
 const AFL: usize = 248;
 
-// The descriptor on which the exit status is reported.
-const TELLING: i32 = 3;
-
-fn main() {
-    let asked = arguments::personalise_arguments();
-    let status = answered(asked);
+fn main(rt: HostRuntime) {
+    let asked = arguments::personalise_arguments(&rt);
+    let status = answered(&rt, asked);
     if asked.tell {
-        tell(status);
+        tell(&rt, status);
     }
 }
 
-fn tell(status: u8) {
+fn tell(rt: &HostRuntime, status: u8) {
     match status {
-        WRITTEN => send(TELLING, b"0"),
-        REFUSED => send(TELLING, b"1"),
-        _ => send(TELLING, b"2"),
+        WRITTEN => send(rt, b"0"),
+        REFUSED => send(rt, b"1"),
+        _ => send(rt, b"2"),
     }
 }
 
-fn send(fd: i32, words: &[u8]) {
-    io::write_all(fd, words);
+fn send(rt: &HostRuntime, words: &[u8]) {
+    program::tell_status(rt, words);
 }
 
-fn complain(words: &[u8]) {
-    send(STDERR_FILENO, words);
+fn complain(rt: &HostRuntime, words: &[u8]) {
+    print::print_text(&rt.stderr(), words);
 }
 
 // The front of some bytes.
@@ -81,74 +79,81 @@ fn front(s: &[u8], n: usize) -> &[u8] {
 // ---- the file
 
 // Reads the file and shows the answer to it; returns the exit status.
-fn answered(asked: PersonaliseArguments) -> u8 {
+fn answered(rt: &HostRuntime, asked: PersonaliseArguments) -> u8 {
     if asked.wrong {
         return NEITHER;
     }
     if asked.file == 0 {
-        return answered_of(STDIN_FILENO);
+        return answered_of(rt, &mut rt.stdin());
     }
-    let mut path = io::buffer();
-    let n = os::arg(asked.file, &mut path);
-    let fd = os::open_read(&path[..n]);
-    if fd < 0 {
-        os::fail(&path[..n]);
-        return NEITHER;
+    let mut path = [0u8; LONGEST_ARGUMENT];
+    let n = program::argument(rt, asked.file, &mut path);
+    match program::open_read(rt, &path[..n]) {
+        Ok(mut file) => answered_of(rt, &mut file),
+        Err(error) => {
+            program::print_failure(rt, &rt.stderr(), &path[..n], error);
+            NEITHER
+        }
     }
-    let status = answered_of(fd);
-    libc::close(fd);
-    status
 }
 
 // The same for an open file.
-fn answered_of(fd: i32) -> u8 {
+fn answered_of(rt: &HostRuntime, source: &mut impl Read) -> u8 {
     let mut space = [0u8; ROOM];
-    let filled = read(fd, &mut space);
+    let filled = read(rt, source, &mut space);
     if filled.failed {
         return NEITHER;
     }
     if MOST < filled.size {
-        complain(b"personalise: expected a file of at most 65,536 characters\n");
+        complain(rt, b"personalise: expected a file of at most 65,536 characters\n");
         return NEITHER;
     }
-    laid_out(front(&space, filled.size))
+    laid_out(rt, front(&space, filled.size))
 }
 
 // Fills the space from a file. Each part has a character or more, so there are no more iterations than characters.
-fn read(fd: i32, space: &mut [u8]) -> FileReadProgress {
+fn read(rt: &HostRuntime, source: &mut impl Read, space: &mut [u8]) -> FileReadProgress {
     let mut state = FileReadProgress {
         size: 0,
         going: true,
         failed: false,
     };
-    let mut turns = ROOM;
-    while turns > 0 && state.going {
-        state = read_part(state, fd, space);
-        turns -= 1;
+    for _ in 0..ROOM {
+        if !state.going {
+            return state;
+        }
+        state = read_part(rt, state, source, space);
     }
     state
 }
 
 // One more part, after those that are present.
-fn read_part(state: FileReadProgress, fd: i32, space: &mut [u8]) -> FileReadProgress {
+fn read_part(
+    rt: &HostRuntime,
+    state: FileReadProgress,
+    source: &mut impl Read,
+    space: &mut [u8],
+) -> FileReadProgress {
     let filled = state.size;
     if space.len() <= filled {
         return ended(filled, false);
     }
-    let rest = &mut space[filled..];
-    let got = libc::read(fd, rest);
-    if got < 0 {
-        os::fail(b"personalise: the file cannot be read");
-        return ended(filled, true);
-    }
-    if got == 0 {
-        return ended(filled, false);
-    }
-    let n = io::count(got, rest);
-    FileReadProgress {
-        size: filled + n,
-        going: true,
-        failed: false,
+    match source.read(&mut space[filled..]) {
+        Ok(0) => ended(filled, false),
+        Ok(n) => FileReadProgress {
+            size: filled + n,
+            going: true,
+            failed: false,
+        },
+        Err(error) => {
+            program::print_failure(
+                rt,
+                &rt.stderr(),
+                b"personalise: the file cannot be read",
+                error,
+            );
+            ended(filled, true)
+        }
     }
 }
 
@@ -163,26 +168,26 @@ fn ended(size: usize, failed: bool) -> FileReadProgress {
 // ---- the answer
 
 // Shows the answer to a file's lines where they are valid.
-fn laid_out(chars: &[u8]) -> u8 {
+fn laid_out(rt: &HostRuntime, chars: &[u8]) -> u8 {
     let mut objects = [0u8; BYTES];
     let mut entries = [0u8; BYTES];
     let mut placements = [0u8; BYTES];
-    let given = text::parse_personalise_lines(chars, &mut objects, &mut entries, &mut placements);
-    if !text::check_request_and_print_missing(given) {
+    let given = text::parse_personalise_lines(rt, chars, &mut objects, &mut entries, &mut placements);
+    if !text::check_request_and_print_missing(rt, given) {
         return NEITHER;
     }
     let listed = front(&objects, given.objects.size);
     let proposed = front(&entries, given.entries.size);
     let placed = front(&placements, given.placements.size);
-    written(listed, proposed, placed)
+    written(rt, listed, proposed, placed)
 }
 
 // Provides the buffers and shows the answer.
-fn written(objects: &[u8], entries: &[u8], placements: &[u8]) -> u8 {
+fn written(rt: &HostRuntime, objects: &[u8], entries: &[u8], placements: &[u8]) -> u8 {
     let mut records = [0u8; RECORDS];
     let mut afl = [0u8; AFL];
     let answer = personalise::personalise(objects, entries, placements, &mut records, &mut afl);
-    if shown::print_personalise_result(answer, &records, &afl) {
+    if shown::print_personalise_result(rt, answer, &records, &afl) {
         return WRITTEN;
     }
     REFUSED

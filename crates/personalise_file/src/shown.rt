@@ -7,23 +7,23 @@ use personalise::PersonaliseResult;
 use tlv::ObjectFront;
 
 // Shows an answer with what is written at the front of the buffers: whether anything is.
-pub fn print_personalise_result(answer: PersonaliseResult, records: &[u8], afl: &[u8]) -> bool {
+pub fn print_personalise_result(rt: &impl Print, answer: PersonaliseResult, records: &[u8], afl: &[u8]) -> bool {
     match answer {
         PersonaliseResult::Written(sizes) => {
-            print::print_text(b"locator");
-            print::print_bytes(front(afl, sizes.afl));
-            print::print_text(b"\n");
-            all_records(front(records, sizes.records));
+            print::print_text(rt, b"locator");
+            print::print_bytes(rt, front(afl, sizes.afl));
+            print::print_text(rt, b"\n");
+            all_records(rt, front(records, sizes.records));
             true
         }
-        _ => refused(answer),
+        _ => refused(rt, answer),
     }
 }
 
 // ---- the records
 
 // The records, one after another, each on a line with its number.
-fn all_records(records: &[u8]) {
+fn all_records(rt: &impl Print, records: &[u8]) {
     let mut rest = records;
     let mut number: usize = 1;
     while rest.len() != 0 {
@@ -31,7 +31,7 @@ fn all_records(records: &[u8]) {
         if size == 0 {
             return;
         }
-        record_line(number, &rest[..size]);
+        record_line(rt, number, &rest[..size]);
         rest = &rest[size..];
         number = increment_saturating(number);
     }
@@ -48,52 +48,52 @@ fn first_size(s: &[u8]) -> usize
     h.start + h.len
 }
 
-fn record_line(number: usize, bytes: &[u8]) {
-    print::print_text(b"record ");
-    print::print_number(number);
-    print::print_text(b":");
-    print::print_bytes(bytes);
-    print::print_text(b"\n");
+fn record_line(rt: &impl Print, number: usize, bytes: &[u8]) {
+    print::print_text(rt, b"record ");
+    print::print_number(rt, number);
+    print::print_text(rt, b":");
+    print::print_bytes(rt, bytes);
+    print::print_text(rt, b"\n");
 }
 
 // ---- refusals
 
 // A refusal in words.
-fn refused(answer: PersonaliseResult) -> bool {
-    print::print_text(b"refused: ");
+fn refused(rt: &impl Print, answer: PersonaliseResult) -> bool {
+    print::print_text(rt, b"refused: ");
     match answer {
-        PersonaliseResult::Written(_) => print::print_text(b"nothing"),
-        PersonaliseResult::ShortRecords => print::print_text(
+        PersonaliseResult::Written(_) => print::print_text(rt, b"nothing"),
+        PersonaliseResult::ShortRecords => print::print_text(rt, 
             b"records buffer shorter than 32,768 bytes",
         ),
-        PersonaliseResult::ShortAfl => print::print_text(b"locator buffer shorter than 248 bytes"),
-        PersonaliseResult::BadList => list_words(),
-        PersonaliseResult::BadEntry(i) => entry_words(i),
-        PersonaliseResult::BadRecord(k) => record_words(k),
+        PersonaliseResult::ShortAfl => print::print_text(rt, b"locator buffer shorter than 248 bytes"),
+        PersonaliseResult::BadList => list_words(rt),
+        PersonaliseResult::BadEntry(i) => entry_words(rt, i),
+        PersonaliseResult::BadRecord(k) => record_words(rt, k),
     }
-    print::print_text(b"\n");
+    print::print_text(rt, b"\n");
     false
 }
 
-fn list_words() {
-    print::print_text(b"list: every object must be whole, of a tag for template 70, ");
-    print::print_text(b"of a length and digits that fit, there once and placed once");
+fn list_words(rt: &impl Print) {
+    print::print_text(rt, b"list: every object must be whole, of a tag for template 70, ");
+    print::print_text(rt, b"of a length and digits that fit, there once and placed once");
 }
 
-fn entry_words(number: usize) {
-    print::print_text(b"entry ");
-    print::print_number(number);
-    print::print_text(
+fn entry_words(rt: &impl Print, number: usize) {
+    print::print_text(rt, b"entry ");
+    print::print_number(rt, number);
+    print::print_text(rt, 
         b": must be there, whole and among the first 62, byte 1 eight times a file 1 to 10, ",
     );
-    print::print_text(
+    print::print_text(rt, 
         b"first record not 0, last not below it, byte 4 zero, no record named before, at most 128 in all",
     );
 }
 
-fn record_words(number: usize) {
-    print::print_text(b"record ");
-    print::print_number(number);
-    print::print_text(b": must be one of the locator's, hold objects of the list only, ");
-    print::print_text(b"with at most 253 bytes of content");
+fn record_words(rt: &impl Print, number: usize) {
+    print::print_text(rt, b"record ");
+    print::print_number(rt, number);
+    print::print_text(rt, b": must be one of the locator's, hold objects of the list only, ");
+    print::print_text(rt, b"with at most 253 bytes of content");
 }

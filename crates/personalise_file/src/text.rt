@@ -2,18 +2,17 @@
 ghost use Rattle.std.specs.Prelude.{◌≤◌, length};
 
 use crate::complain;
-use libc::STDERR_FILENO;
 use text_line::HexDecoded;
 
 // What a line brought: whether it was present, and how many bytes it has.
-#[derive(Drop)]
+#[derive(Clone, Copy)]
 pub struct RequestPartGiven {
     pub there: bool,
     pub size: usize,
 }
 
 // What the lines brought so far, the number of the line that is read, and whether one was wrong.
-#[derive(Drop)]
+#[derive(Clone, Copy)]
 pub struct PersonaliseRequestText {
     pub objects: RequestPartGiven,
     pub entries: RequestPartGiven,
@@ -23,7 +22,7 @@ pub struct PersonaliseRequestText {
 }
 
 // The first word of a line.
-#[derive(Drop)]
+#[derive(Clone, Copy)]
 enum PartKeyword {
     Absent,
     Objects,
@@ -33,7 +32,7 @@ enum PartKeyword {
 }
 
 // Reads all lines, up to one that is wrong, which is reported by its number.
-pub fn parse_personalise_lines(
+pub fn parse_personalise_lines(rt: &HostRuntime, 
     chars: &[u8],
     objects: &mut [u8],
     entries: &mut [u8],
@@ -43,7 +42,7 @@ pub fn parse_personalise_lines(
     let mut rest = chars;
     while rest.len() != 0 {
         let e = line_end(rest);
-        given = with_line(given, &rest[..e], objects, entries, placements);
+        given = with_line(rt, given, &rest[..e], objects, entries, placements);
         if rest.len() <= e {
             return given;
         }
@@ -71,11 +70,16 @@ fn nothing() -> PersonaliseRequestText {
 fn line_end(s: &[u8]) -> usize
     ensures { result ≤ length s.now }
 {
-    bytes::scan::find(s, 0, s.len(), b'\n')
+    for i in 0..s.len() {
+        if s[i] == b'\n' {
+            return i;
+        }
+    }
+    s.len()
 }
 
 // One more line; nothing after a wrong one is examined.
-fn with_line(
+fn with_line(rt: &HostRuntime, 
     given: PersonaliseRequestText,
     line: &[u8],
     objects: &mut [u8],
@@ -90,10 +94,10 @@ fn with_line(
     let word = word_named(text_line::first_word(text));
     match word {
         PartKeyword::Absent => next_line(given),
-        PartKeyword::Objects => with_objects(given, text_line::decode_hex(rest, objects)),
-        PartKeyword::Entries => with_entries(given, text_line::decode_hex(rest, entries)),
-        PartKeyword::Placements => with_placements(given, text_line::decode_hex(rest, placements)),
-        PartKeyword::Unknown => wrong(
+        PartKeyword::Objects => with_objects(rt, given, text_line::decode_hex(rest, objects)),
+        PartKeyword::Entries => with_entries(rt, given, text_line::decode_hex(rest, entries)),
+        PartKeyword::Placements => with_placements(rt, given, text_line::decode_hex(rest, placements)),
+        PartKeyword::Unknown => wrong(rt, 
             given,
             b"unknown word; expected objects HEX, entries HEX or placements HEX",
         ),
@@ -119,25 +123,25 @@ fn word_named(w: &[u8]) -> PartKeyword {
 
 // ---- one more line of each kind
 
-fn with_objects(given: PersonaliseRequestText, d: HexDecoded) -> PersonaliseRequestText {
-    let mut out = checked(given, given.objects.there, d);
-    out.objects = brought(d);
+fn with_objects(rt: &HostRuntime, given: PersonaliseRequestText, d: HexDecoded) -> PersonaliseRequestText {
+    let mut out = checked(rt, given, given.objects.there, &d);
+    out.objects = brought(&d);
     out
 }
 
-fn with_entries(given: PersonaliseRequestText, d: HexDecoded) -> PersonaliseRequestText {
-    let mut out = checked(given, given.entries.there, d);
-    out.entries = brought(d);
+fn with_entries(rt: &HostRuntime, given: PersonaliseRequestText, d: HexDecoded) -> PersonaliseRequestText {
+    let mut out = checked(rt, given, given.entries.there, &d);
+    out.entries = brought(&d);
     out
 }
 
-fn with_placements(given: PersonaliseRequestText, d: HexDecoded) -> PersonaliseRequestText {
-    let mut out = checked(given, given.placements.there, d);
-    out.placements = brought(d);
+fn with_placements(rt: &HostRuntime, given: PersonaliseRequestText, d: HexDecoded) -> PersonaliseRequestText {
+    let mut out = checked(rt, given, given.placements.there, &d);
+    out.placements = brought(&d);
     out
 }
 
-fn brought(d: HexDecoded) -> RequestPartGiven {
+fn brought(d: &HexDecoded) -> RequestPartGiven {
     RequestPartGiven {
         there: true,
         size: d.size,
@@ -145,18 +149,18 @@ fn brought(d: HexDecoded) -> RequestPartGiven {
 }
 
 // The next line, unless this one comes twice or what follows its word spells no bytes.
-fn checked(given: PersonaliseRequestText, twice: bool, d: HexDecoded) -> PersonaliseRequestText {
+fn checked(rt: &HostRuntime, given: PersonaliseRequestText, twice: bool, d: &HexDecoded) -> PersonaliseRequestText {
     if twice {
-        return wrong(given, b"this word for the second time; expected it once");
+        return wrong(rt, given, b"this word for the second time; expected it once");
     }
     let problem = d.problem;
     match problem {
         0 => next_line(given),
-        text_line::HEX => wrong(
+        text_line::HEX => wrong(rt, 
             given,
             b"expected bytes, each two hexadecimal digits side by side",
         ),
-        _ => wrong(given, b"expected at most 32,768 bytes"),
+        _ => wrong(rt, given, b"expected at most 32,768 bytes"),
     }
 }
 
@@ -174,34 +178,34 @@ pub fn increment_saturating(n: usize) -> usize {
 // ---- what is wrong
 
 // A line that is wrong, by its number, with what was expected.
-fn wrong(given: PersonaliseRequestText, words: &[u8]) -> PersonaliseRequestText {
-    complain(b"personalise: line ");
-    io::print_decimal(STDERR_FILENO, given.number as u64);
-    complain(b": ");
-    complain(words);
-    complain(b"\n");
+fn wrong(rt: &HostRuntime, given: PersonaliseRequestText, words: &[u8]) -> PersonaliseRequestText {
+    complain(rt, b"personalise: line ");
+    print::print_number(&rt.stderr(), given.number);
+    complain(rt, b": ");
+    complain(rt, words);
+    complain(rt, b"\n");
     let mut out = given;
     out.wrong = true;
     out
 }
 
 // Whether no line was wrong and each was there; the first that is absent is reported at the line after the last.
-pub fn check_request_and_print_missing(given: PersonaliseRequestText) -> bool {
+pub fn check_request_and_print_missing(rt: &HostRuntime, given: PersonaliseRequestText) -> bool {
     if given.wrong {
         return false;
     }
-    is_there(given, given.objects, b"expected objects HEX; the file ends")
-        && is_there(given, given.entries, b"expected entries HEX; the file ends")
-        && is_there(
+    is_there(rt, given, given.objects, b"expected objects HEX; the file ends")
+        && is_there(rt, given, given.entries, b"expected entries HEX; the file ends")
+        && is_there(rt, 
             given,
             given.placements,
             b"expected placements HEX; the file ends",
         )
 }
 
-fn is_there(given: PersonaliseRequestText, part: RequestPartGiven, words: &[u8]) -> bool {
+fn is_there(rt: &HostRuntime, given: PersonaliseRequestText, part: RequestPartGiven, words: &[u8]) -> bool {
     if !part.there {
-        wrong(given, words);
+        wrong(rt, given, words);
     }
     part.there
 }

@@ -4,64 +4,64 @@ use crate::table::print_words_of_number;
 use crate::{print_indentation, print_number, print_text};
 
 // The bits of an object that has words for them; of any other object nothing.
-pub fn print_bit_lines(tag: u32, value: &[u8], levels: usize) {
+pub fn print_bit_lines(rt: &impl Print, tag: u32, value: &[u8], levels: usize) {
     match tag {
-        0x82 => bytes_of(tag, value, levels),
-        0x95 => bytes_of(tag, value, levels),
-        0x9F07 => bytes_of(tag, value, levels),
-        0xDF811B => bytes_of(tag, value, levels),
-        _ => print_text(b""),
+        0x82 => bytes_of(rt, tag, value, levels),
+        0x95 => bytes_of(rt, tag, value, levels),
+        0x9F07 => bytes_of(rt, tag, value, levels),
+        0xDF811B => bytes_of(rt, tag, value, levels),
+        _ => print_text(rt, b""),
     }
 }
 
 // Byte by byte, counted from 1. No object here has more than five; an absent byte has no bit.
-fn bytes_of(tag: u32, value: &[u8], levels: usize) {
-    bits_of(tag, 1, basics::byte_at(value, 0), levels);
-    bits_of(tag, 2, basics::byte_at(value, 1), levels);
-    bits_of(tag, 3, basics::byte_at(value, 2), levels);
-    bits_of(tag, 4, basics::byte_at(value, 3), levels);
-    bits_of(tag, 5, basics::byte_at(value, 4), levels);
+fn bytes_of(rt: &impl Print, tag: u32, value: &[u8], levels: usize) {
+    bits_of(rt, tag, 1, basics::byte_at(value, 0), levels);
+    bits_of(rt, tag, 2, basics::byte_at(value, 1), levels);
+    bits_of(rt, tag, 3, basics::byte_at(value, 2), levels);
+    bits_of(rt, tag, 4, basics::byte_at(value, 3), levels);
+    bits_of(rt, tag, 5, basics::byte_at(value, 4), levels);
 }
 
 // The bits of one byte, from b8 down to b1.
-fn bits_of(tag: u32, byte: usize, value: u8, levels: usize) {
-    bit_of(tag, byte, 8, value / 128 % 2, levels);
-    bit_of(tag, byte, 7, value / 64 % 2, levels);
-    bit_of(tag, byte, 6, value / 32 % 2, levels);
-    bit_of(tag, byte, 5, value / 16 % 2, levels);
-    bit_of(tag, byte, 4, value / 8 % 2, levels);
-    bit_of(tag, byte, 3, value / 4 % 2, levels);
-    bit_of(tag, byte, 2, value / 2 % 2, levels);
-    bit_of(tag, byte, 1, value % 2, levels);
+fn bits_of(rt: &impl Print, tag: u32, byte: usize, value: u8, levels: usize) {
+    bit_of(rt, tag, byte, 8, value / 128 % 2, levels);
+    bit_of(rt, tag, byte, 7, value / 64 % 2, levels);
+    bit_of(rt, tag, byte, 6, value / 32 % 2, levels);
+    bit_of(rt, tag, byte, 5, value / 16 % 2, levels);
+    bit_of(rt, tag, byte, 4, value / 8 % 2, levels);
+    bit_of(rt, tag, byte, 3, value / 4 % 2, levels);
+    bit_of(rt, tag, byte, 2, value / 2 % 2, levels);
+    bit_of(rt, tag, byte, 1, value % 2, levels);
 }
 
 // A line for a bit that is set.
-fn bit_of(tag: u32, byte: usize, bit: usize, set: u8, levels: usize) {
+fn bit_of(rt: &impl Print, tag: u32, byte: usize, bit: usize, set: u8, levels: usize) {
     if set == 0 {
         return;
     }
-    print_indentation(levels);
-    print_text(b"byte ");
-    print_number(byte);
-    print_text(b" b");
-    print_number(bit);
-    print_text(b": ");
-    meaning(tag, byte, bit);
-    print_text(b"\n");
+    print_indentation(rt, levels);
+    print_text(rt, b"byte ");
+    print_number(rt, byte);
+    print_text(rt, b" b");
+    print_number(rt, bit);
+    print_text(rt, b": ");
+    meaning(rt, tag, byte, bit);
+    print_text(rt, b"\n");
 }
 
-fn meaning(tag: u32, byte: usize, bit: usize) {
+fn meaning(rt: &impl Print, tag: u32, byte: usize, bit: usize) {
     match tag {
-        0x82 => aip(byte, bit),
-        0x95 => result(byte, bit),
-        0x9F07 => usage(byte, bit),
-        _ => configuration(bit),
+        0x82 => aip(rt, byte, bit),
+        0x95 => result(rt, byte, bit),
+        0x9F07 => usage(rt, byte, bit),
+        _ => configuration(rt, bit),
     }
 }
 
 // The words of a bit, from a table whose numbers have the byte for the first digit and the bit for the second.
-fn bit_words(byte: usize, bit: usize, table: &[u8]) {
-    print_words_of_number(two_digits(byte, bit), table, b"RFU");
+fn bit_words(rt: &impl Print, byte: usize, bit: usize, table: &[u8]) {
+    print_words_of_number(rt, two_digits(byte, bit), table, b"RFU");
 }
 
 // The number of two hexadecimal digits; 0 where one of them is none.
@@ -76,8 +76,8 @@ fn two_digits(high: usize, low: usize) -> u32 {
 }
 
 // Application Interchange Profile.
-fn aip(byte: usize, bit: usize) {
-    bit_words(
+fn aip(rt: &impl Print, byte: usize, bit: usize) {
+    bit_words(rt, 
         byte,
         bit,
         b"
@@ -94,13 +94,13 @@ fn aip(byte: usize, bit: usize) {
 }
 
 // The name of a bit of the Terminal Verification Results, by its number: 0 is byte 1 b8, 39 is byte 5 b1.
-pub fn print_tvr_bit_name(bit: usize) {
-    result(bit / 8 + 1, 8 - bit % 8);
+pub fn print_tvr_bit_name(rt: &impl Print, bit: usize) {
+    result(rt, bit / 8 + 1, 8 - bit % 8);
 }
 
 // Terminal Verification Results, by the Book's names.
-fn result(byte: usize, bit: usize) {
-    bit_words(
+fn result(rt: &impl Print, byte: usize, bit: usize) {
+    bit_words(rt, 
         byte,
         bit,
         b"
@@ -138,8 +138,8 @@ fn result(byte: usize, bit: usize) {
 }
 
 // Application Usage Control.
-fn usage(byte: usize, bit: usize) {
-    bit_words(
+fn usage(rt: &impl Print, byte: usize, bit: usize) {
+    bit_words(rt, 
         byte,
         bit,
         b"
@@ -157,8 +157,8 @@ fn usage(byte: usize, bit: usize) {
 }
 
 // Kernel Configuration, of one byte.
-fn configuration(bit: usize) {
-    bit_words(
+fn configuration(rt: &impl Print, bit: usize) {
+    bit_words(rt, 
         1,
         bit,
         b"

@@ -1,4 +1,5 @@
-// Writes what the programs show to standard output: bytes in hexadecimal, numbers, replies and data objects.
+// Writes what the programs show to standard output: bytes in hexadecimal, numbers, replies and data objects. Each
+// function takes the runtime, whose output that is.
 //
 // `tree` shows the objects of a card's answer, `bits` the bits of an object in words; `names` has the names of data
 // objects, and `table` finds words in a table.
@@ -12,9 +13,10 @@ pub mod tree;
 use crate::table::print_words_of_decimal;
 use session_record::{AwaitedResponse, CallResult, Outcome, OutcomeParameters, Phase, Reply};
 
-// Text, as it is.
-pub fn print_text(s: &[u8]) {
-    io::write_all(1, s);
+// Text, as it is. What cannot be written is left out, here and in every function above it: the program goes on, and the
+// command that runs it sees that its output is not whole.
+pub fn print_text(rt: &impl Print, s: &[u8]) {
+    let _ = rt.write_all(s);
 }
 
 // The bytes from one place to another; none where there is no such part.
@@ -29,64 +31,62 @@ fn part(s: &[u8], from: usize, to: usize) -> &[u8] {
 }
 
 // A number in decimal digits.
-pub fn print_number(n: usize) {
-    io::print_decimal(1, n as u64);
+pub fn print_number(rt: &impl Print, n: usize) {
+    let _ = rt.print(n);
 }
 
 // Bytes, two digits each, a space before each.
-pub fn print_bytes(s: &[u8]) {
-    let mut i = 0;
-    while i < s.len() {
-        io::write_all(1, b" ");
-        io::write_all(1, &pair(s[i]));
-        i += 1;
+pub fn print_bytes(rt: &impl Print, s: &[u8]) {
+    for b in s {
+        print_text(rt, b" ");
+        print_text(rt, &pair(*b));
     }
 }
 
 // A reply, and a new line: a command with its bytes, an outcome with its reason, or a refusal.
-pub fn print_reply(reply: Reply, buffer: &[u8]) {
+pub fn print_reply(rt: &impl Print, reply: Reply, buffer: &[u8]) {
     let answer = reply.answer;
-    answered(answer, buffer);
-    print_text(b"\n");
+    answered(rt, answer, buffer);
+    print_text(rt, b"\n");
 }
 
 // The same, and after an outcome the CVM in words.
-pub fn print_reply_with_cvm(reply: Reply, buffer: &[u8]) {
+pub fn print_reply_with_cvm(rt: &impl Print, reply: Reply, buffer: &[u8]) {
     let answer = reply.answer;
-    answered(answer, buffer);
+    answered(rt, answer, buffer);
     if let CallResult::Outcome(end) = answer {
-        print_text(b" method ");
-        numbered(end.cvm);
-        cvm_words(end.cvm);
+        print_text(rt, b" method ");
+        numbered(rt, end.cvm);
+        cvm_words(rt, end.cvm);
     }
-    print_text(b"\n");
+    print_text(rt, b"\n");
 }
 
 // What a call returns, by its numbers.
-fn answered(answer: CallResult, buffer: &[u8]) {
+fn answered(rt: &impl Print, answer: CallResult, buffer: &[u8]) {
     match answer {
         CallResult::Command(issued) => {
-            command(issued.size, buffer);
+            command(rt, issued.size, buffer);
         }
         CallResult::Outcome(end) => {
             let outcome = end.outcome;
-            print_text(b"outcome ");
-            print_number(basics::widen(session_record::outcome_number(outcome)));
-            print_text(b" reason ");
-            print_number(basics::widen(end.reason));
+            print_text(rt, b"outcome ");
+            print_number(rt, basics::widen(session_record::outcome_number(outcome)));
+            print_text(rt, b" reason ");
+            print_number(rt, basics::widen(end.reason));
         }
         CallResult::Refused(refusal) => {
-            print_text(b"refused ");
-            print_number(basics::widen(refusal.number));
+            print_text(rt, b"refused ");
+            print_number(rt, basics::widen(refusal.number));
         }
     }
 }
 
 // A command: the front of the buffer.
-fn command(size: usize, buffer: &[u8]) {
-    print_text(b"command");
+fn command(rt: &impl Print, size: usize, buffer: &[u8]) {
+    print_text(rt, b"command");
     if size <= buffer.len() {
-        print_bytes(&buffer[..size]);
+        print_bytes(rt, &buffer[..size]);
     }
 }
 
@@ -109,123 +109,123 @@ fn digit(n: u8) -> u8 {
 // ---- in words
 
 // A reply in words, with the count of commands handed out and the transaction limit, and a new line.
-pub fn print_reply_in_words(reply: Reply, buffer: &[u8]) {
+pub fn print_reply_in_words(rt: &impl Print, reply: Reply, buffer: &[u8]) {
     let answer = reply.answer;
-    print_result_in_words(answer, buffer);
+    print_result_in_words(rt, answer, buffer);
     let session = reply.session;
-    print_text(b", count ");
-    print_number(basics::widen(session_record::command_count(session)));
+    print_text(rt, b", count ");
+    print_number(rt, basics::widen(session_record::command_count(session)));
     let phase = session.phase;
-    print_transaction_limit_of_phase(phase);
-    print_text(b"\n");
+    print_transaction_limit_of_phase(rt, phase);
+    print_text(rt, b"\n");
 }
 
 // The transaction limit after a comma, where a phase holds one: an amount's twelve digits as a number.
-pub fn print_transaction_limit_of_phase(phase: Phase) {
+pub fn print_transaction_limit_of_phase(rt: &impl Print, phase: Phase) {
     if let Phase::Waiting(awaited) = phase {
-        awaited_limit(awaited);
+        awaited_limit(rt, awaited);
     }
 }
 
-fn awaited_limit(awaited: AwaitedResponse) {
+fn awaited_limit(rt: &impl Print, awaited: AwaitedResponse) {
     match awaited {
-        AwaitedResponse::Gpo => print_text(b""),
-        AwaitedResponse::Record(place) => limit(place.limit),
-        AwaitedResponse::Cryptogram(asked) => limit(asked.limit),
-        AwaitedResponse::Checksum(checksum) => limit(checksum.limit),
+        AwaitedResponse::Gpo => print_text(rt, b""),
+        AwaitedResponse::Record(place) => limit(rt, place.limit),
+        AwaitedResponse::Cryptogram(asked) => limit(rt, asked.limit),
+        AwaitedResponse::Checksum(checksum) => limit(rt, checksum.limit),
     }
 }
 
-fn limit(amount: u64) {
-    print_text(b", limit ");
-    io::print_decimal(1, amount);
+fn limit(rt: &impl Print, amount: u64) {
+    print_text(rt, b", limit ");
+    let _ = rt.print(amount);
 }
 
 // What a call returns, in words: a command by its name with its bytes, an outcome with its reason and the CVM,
 // or a refusal.
-pub fn print_result_in_words(answer: CallResult, buffer: &[u8]) {
+pub fn print_result_in_words(rt: &impl Print, answer: CallResult, buffer: &[u8]) {
     match answer {
         CallResult::Command(issued) => {
-            named_command(issued.size, buffer);
+            named_command(rt, issued.size, buffer);
         }
         CallResult::Outcome(end) => {
-            ending(end);
+            ending(rt, end);
         }
         CallResult::Refused(refusal) => {
-            print_text(b"refused ");
-            numbered(refusal.number);
-            refusal_words(refusal.number);
+            print_text(rt, b"refused ");
+            numbered(rt, refusal.number);
+            refusal_words(rt, refusal.number);
         }
     }
 }
 
 // A command by its name, with its bytes: the front of the buffer.
-fn named_command(size: usize, buffer: &[u8]) {
-    print_text(b"command ");
+fn named_command(rt: &impl Print, size: usize, buffer: &[u8]) {
+    print_text(rt, b"command ");
     if size <= buffer.len() {
         let sent = &buffer[..size];
-        command_name(sent);
-        print_text(b":");
-        print_bytes(sent);
+        command_name(rt, sent);
+        print_text(rt, b":");
+        print_bytes(rt, sent);
     }
 }
 
 // The name of a command, by its instruction byte (Book C-2, chapter 5).
-fn command_name(sent: &[u8]) {
+fn command_name(rt: &impl Print, sent: &[u8]) {
     match basics::byte_at(sent, 1) {
-        0xA8 => print_text(b"GET PROCESSING OPTIONS"),
-        0xB2 => record_name(basics::byte_at(sent, 2), basics::byte_at(sent, 3)),
-        0xAE => cryptogram_name(basics::byte_at(sent, 2)),
-        0x2A => print_text(b"COMPUTE CRYPTOGRAPHIC CHECKSUM"),
-        _ => print_text(b"unknown"),
+        0xA8 => print_text(rt, b"GET PROCESSING OPTIONS"),
+        0xB2 => record_name(rt, basics::byte_at(sent, 2), basics::byte_at(sent, 3)),
+        0xAE => cryptogram_name(rt, basics::byte_at(sent, 2)),
+        0x2A => print_text(rt, b"COMPUTE CRYPTOGRAPHIC CHECKSUM"),
+        _ => print_text(rt, b"unknown"),
     }
 }
 
 // A record by its number, P1, and its file, the top five bits of P2.
-fn record_name(p1: u8, p2: u8) {
-    print_text(b"READ RECORD file ");
-    print_number(basics::widen(p2 / 8));
-    print_text(b" record ");
-    print_number(basics::widen(p1));
+fn record_name(rt: &impl Print, p1: u8, p2: u8) {
+    print_text(rt, b"READ RECORD file ");
+    print_number(rt, basics::widen(p2 / 8));
+    print_text(rt, b" record ");
+    print_number(rt, basics::widen(p1));
 }
 
 // A cryptogram by what P1 requests.
-fn cryptogram_name(p1: u8) {
+fn cryptogram_name(rt: &impl Print, p1: u8) {
     match p1 {
-        0x00 => print_text(b"GENERATE AC decline"),
-        0x40 => print_text(b"GENERATE AC offline"),
-        0x80 => print_text(b"GENERATE AC online"),
-        _ => print_text(b"GENERATE AC"),
+        0x00 => print_text(rt, b"GENERATE AC decline"),
+        0x40 => print_text(rt, b"GENERATE AC offline"),
+        0x80 => print_text(rt, b"GENERATE AC online"),
+        _ => print_text(rt, b"GENERATE AC"),
     }
 }
 
 // An outcome, its reason and the CVM, each by its number and in words.
-fn ending(end: OutcomeParameters) {
+fn ending(rt: &impl Print, end: OutcomeParameters) {
     let outcome = end.outcome;
-    print_outcome_in_words(outcome, end.reason);
-    print_text(b", method ");
-    numbered(end.cvm);
-    cvm_words(end.cvm);
+    print_outcome_in_words(rt, outcome, end.reason);
+    print_text(rt, b", method ");
+    numbered(rt, end.cvm);
+    cvm_words(rt, end.cvm);
 }
 
 // An outcome and its reason, each by its number and in words.
-pub fn print_outcome_in_words(outcome: Outcome, reason: u8) {
-    print_text(b"outcome ");
-    numbered(session_record::outcome_number(outcome));
-    outcome_words(outcome);
-    print_text(b", reason ");
-    numbered(reason);
-    print_reason_words(reason);
+pub fn print_outcome_in_words(rt: &impl Print, outcome: Outcome, reason: u8) {
+    print_text(rt, b"outcome ");
+    numbered(rt, session_record::outcome_number(outcome));
+    outcome_words(rt, outcome);
+    print_text(rt, b", reason ");
+    numbered(rt, reason);
+    print_reason_words(rt, reason);
 }
 
 // A number and a space.
-fn numbered(n: u8) {
-    print_number(basics::widen(n));
-    print_text(b" ");
+fn numbered(rt: &impl Print, n: u8) {
+    print_number(rt, basics::widen(n));
+    print_text(rt, b" ");
 }
 
-fn outcome_words(outcome: Outcome) {
-    print_words_of_decimal(
+fn outcome_words(rt: &impl Print, outcome: Outcome) {
+    print_words_of_decimal(rt, 
         session_record::outcome_number(outcome),
         b"
      0 approved
@@ -237,8 +237,8 @@ fn outcome_words(outcome: Outcome) {
 }
 
 // A reason in words.
-pub fn print_reason_words(reason: u8) {
-    print_words_of_decimal(
+pub fn print_reason_words(rt: &impl Print, reason: u8) {
+    print_words_of_decimal(rt, 
         reason,
         b"
      0 none
@@ -257,8 +257,8 @@ pub fn print_reason_words(reason: u8) {
 }
 
 // The CVMs by their numbers (Book C-2, A.1.117; 4 is the kernel's own).
-fn cvm_words(number: u8) {
-    print_words_of_decimal(
+fn cvm_words(rt: &impl Print, number: u8) {
+    print_words_of_decimal(rt, 
         number,
         b"
      0 no CVM
@@ -270,8 +270,8 @@ fn cvm_words(number: u8) {
     );
 }
 
-fn refusal_words(number: u8) {
-    print_words_of_decimal(
+fn refusal_words(rt: &impl Print, number: u8) {
+    print_words_of_decimal(rt, 
         number,
         b"
     20 more than 1,024 start bytes, or other than whole primitive objects
@@ -286,65 +286,63 @@ fn refusal_words(number: u8) {
 // ---- objects
 
 // The objects that a store holds: tag, name and value, a line each.
-pub fn print_objects_without_bits(store: &[u8]) {
-    print_stored_objects(store, false);
+pub fn print_objects_without_bits(rt: &impl Print, store: &[u8]) {
+    print_stored_objects(rt, store, false);
 }
 
 // The same, with the bits in words where they are requested.
-pub fn print_stored_objects(store: &[u8], in_bits: bool) {
-    let mut row: usize = 0;
-    while row < dictionary::ROWS {
+pub fn print_stored_objects(rt: &impl Print, store: &[u8], in_bits: bool) {
+    for row in 0..dictionary::ROWS {
         if store::is_present(store, row) {
-            held_object(dictionary::row_tag(row), store::value(store, row), in_bits);
+            held_object(rt, dictionary::row_tag(row), store::value(store, row), in_bits);
         }
-        row += 1;
     }
 }
 
-fn held_object(number: u32, value: &[u8], in_bits: bool) {
-    print_object_line(number, value);
+fn held_object(rt: &impl Print, number: u32, value: &[u8], in_bits: bool) {
+    print_object_line(rt, number, value);
     if in_bits {
-        bits::print_bit_lines(number, value, 0);
+        bits::print_bit_lines(rt, number, value, 0);
     }
 }
 
 // A margin of four spaces and two more for each level, at most five.
-pub fn print_indentation(levels: usize) {
+pub fn print_indentation(rt: &impl Print, levels: usize) {
     match levels {
-        0 => print_text(b"    "),
-        1 => print_text(b"      "),
-        2 => print_text(b"        "),
-        3 => print_text(b"          "),
-        4 => print_text(b"            "),
-        _ => print_text(b"              "),
+        0 => print_text(rt, b"    "),
+        1 => print_text(rt, b"      "),
+        2 => print_text(rt, b"        "),
+        3 => print_text(rt, b"          "),
+        4 => print_text(rt, b"            "),
+        _ => print_text(rt, b"              "),
     }
 }
 
 // A tag and its name.
-pub fn print_tag_and_name(number: u32) {
-    print_tag(number);
-    print_text(b" ");
-    names::print_tag_name(number);
+pub fn print_tag_and_name(rt: &impl Print, number: u32) {
+    print_tag(rt, number);
+    print_text(rt, b" ");
+    names::print_tag_name(rt, number);
 }
 
 // One object, and a new line.
-pub fn print_object_line(number: u32, value: &[u8]) {
-    print_tag_and_name(number);
-    print_text(b":");
-    print_bytes(value);
+pub fn print_object_line(rt: &impl Print, number: u32, value: &[u8]) {
+    print_tag_and_name(rt, number);
+    print_text(rt, b":");
+    print_bytes(rt, value);
     if value.len() == 0 {
-        print_text(b" empty");
+        print_text(rt, b" empty");
     }
-    print_text(b"\n");
+    print_text(rt, b"\n");
 }
 
 // A tag in hexadecimal digits.
-pub fn print_tag(number: u32) {
+pub fn print_tag(rt: &impl Print, number: u32) {
     if 65535 < number {
-        io::write_all(1, &pair((number / 65536 % 256) as u8));
+        print_text(rt, &pair((number / 65536 % 256) as u8));
     }
     if 255 < number {
-        io::write_all(1, &pair((number / 256 % 256) as u8));
+        print_text(rt, &pair((number / 256 % 256) as u8));
     }
-    io::write_all(1, &pair((number % 256) as u8));
+    print_text(rt, &pair((number % 256) as u8));
 }

@@ -4,20 +4,20 @@
 use crate::table::print_words_of_number;
 
 // The name of a tag.
-pub fn print_tag_name(tag: u32) {
+pub fn print_tag_name(rt: &impl Print, tag: u32) {
     if tag < 0x6000 {
-        to_5fff(tag);
+        to_5fff(rt, tag);
     } else if tag < 0x9F40 {
-        to_9f3f(tag);
+        to_9f3f(rt, tag);
     } else if tag < 0x10000 {
-        to_ffff(tag);
+        to_ffff(rt, tag);
     } else {
-        private(tag);
+        private(rt, tag);
     }
 }
 
-fn to_5fff(tag: u32) {
-    print_words_of_number(
+fn to_5fff(rt: &impl Print, tag: u32) {
+    print_words_of_number(rt, 
         tag,
         b"
     50 Application Label
@@ -53,8 +53,8 @@ fn to_5fff(tag: u32) {
     );
 }
 
-fn to_9f3f(tag: u32) {
-    print_words_of_number(
+fn to_9f3f(rt: &impl Print, tag: u32) {
+    print_words_of_number(rt, 
         tag,
         b"
   9F01 Acquirer Identifier
@@ -92,8 +92,8 @@ fn to_9f3f(tag: u32) {
     );
 }
 
-fn to_ffff(tag: u32) {
-    print_words_of_number(
+fn to_ffff(rt: &impl Print, tag: u32) {
+    print_words_of_number(rt, 
         tag,
         b"
   9F40 Additional Terminal Capabilities
@@ -151,8 +151,8 @@ fn to_ffff(tag: u32) {
     );
 }
 
-fn private(tag: u32) {
-    print_words_of_number(
+fn private(rt: &impl Print, tag: u32) {
+    print_words_of_number(rt, 
         tag,
         b"
 DF8101 DS Summary 2

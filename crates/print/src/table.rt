@@ -7,24 +7,22 @@ use crate::{part, print_text};
 const NEW_LINE: u8 = 10;
 
 // The words of a number; others where the table has no line for it.
-pub fn print_words_of_number(number: u32, table: &[u8], other: &[u8]) {
-    let mut i = 0;
-    while i < table.len() {
+pub fn print_words_of_number(rt: &impl Print, number: u32, table: &[u8], other: &[u8]) {
+    for i in 0..table.len() {
         if table[i] == NEW_LINE {
             let line = &table[i..];
             if number_of(line) == number {
-                print_text(part(line, 8, end_of(line)));
+                print_text(rt, part(line, 8, end_of(line)));
                 return;
             }
         }
-        i += 1;
     }
-    print_text(other);
+    print_text(rt, other);
 }
 
 // The same by a number's decimal digits, from a table that has those; unknown where it has no line for it.
-pub fn print_words_of_decimal(number: u8, table: &[u8]) {
-    print_words_of_number(
+pub fn print_words_of_decimal(rt: &impl Print, number: u8, table: &[u8]) {
+    print_words_of_number(rt, 
         basics::widen32(number / 10) * 16 + basics::widen32(number % 10),
         table,
         b"unknown",
@@ -57,12 +55,10 @@ fn digit(line: &[u8], i: usize) -> u32
 
 // Where a line ends: at the next new line, or with the table.
 fn end_of(line: &[u8]) -> usize {
-    let mut i = 1;
-    while i < line.len() {
+    for i in 1..line.len() {
         if line[i] == NEW_LINE {
             return i;
         }
-        i += 1;
     }
     line.len()
 }

@@ -9,7 +9,7 @@ use crate::{
 use tlv::{NextInTemplate, ObjectFront, TlvHeader};
 
 // What is shown: the tree, and the bits of its objects in words.
-#[derive(Drop)]
+#[derive(Clone, Copy)]
 pub struct TreeView {
     pub tree: bool,
     pub bits: bool,
@@ -31,7 +31,7 @@ const LEVELS: usize = 4;
 
 // A walk: the place that is next, counted from 0, how many templates are open, where each ends, and how the walk
 // ended.
-#[derive(Drop)]
+#[derive(Clone, Copy)]
 pub struct TreeWalk {
     pub at: usize,
     open: usize,
@@ -39,28 +39,29 @@ pub struct TreeWalk {
     pub ended: u8,
 }
 
-// The whole walk. A proved loop has to end, so it counts its iterations from a number that no answer uses up.
-pub fn print_tree_walk(body: &[u8], view: TreeView) -> TreeWalk {
+// The whole walk. A proved loop has to end, so it has a number of iterations that no answer uses up.
+pub fn print_tree_walk(rt: &impl Print, body: &[u8], view: TreeView) -> TreeWalk {
     let mut w = TreeWalk {
         at: 0,
         open: 0,
         ends: [0; LEVELS],
         ended: WALKING,
     };
-    let mut turns: usize = 65536;
-    while turns > 0 && w.ended == WALKING {
-        w = step(w, body, view);
-        turns -= 1;
+    for _ in 0..65536u32 {
+        if w.ended != WALKING {
+            return w;
+        }
+        w = step(rt, w, body, view);
     }
     w
 }
 
 // The next object, or the end of the template that is open.
-fn step(w: TreeWalk, body: &[u8], view: TreeView) -> TreeWalk {
+fn step(rt: &impl Print, w: TreeWalk, body: &[u8], view: TreeView) -> TreeWalk {
     let at = w.at;
     let rest = part(body, at, end_of(w, body.len()));
     if w.open == 0 {
-        return outer(w, rest, view);
+        return outer(rt, w, rest, view);
     }
     if is_padded(rest) {
         return moved(w, plus(at, 1));
@@ -68,20 +69,20 @@ fn step(w: TreeWalk, body: &[u8], view: TreeView) -> TreeWalk {
     let following = tlv::next_in_template(rest);
     match following {
         NextInTemplate::End => closed(w),
-        NextInTemplate::Malformed => stopped(w, BROKEN, rest, view),
-        NextInTemplate::Inner(h) => met(w, h, rest, view),
+        NextInTemplate::Malformed => stopped(rt, w, BROKEN, rest, view),
+        NextInTemplate::Inner(h) => met(rt, w, h, rest, view),
     }
 }
 
 // The outer object, or what follows it.
-fn outer(w: TreeWalk, rest: &[u8], view: TreeView) -> TreeWalk {
+fn outer(rt: &impl Print, w: TreeWalk, rest: &[u8], view: TreeView) -> TreeWalk {
     if 0 < w.at {
-        return behind(w, rest, view);
+        return behind(rt, w, rest, view);
     }
     let front = tlv::object_header(rest);
     match front {
-        ObjectFront::Object(h) => met(w, h, rest, view),
-        ObjectFront::Broken => stopped(w, BROKEN, rest, view),
+        ObjectFront::Object(h) => met(rt, w, h, rest, view),
+        ObjectFront::Broken => stopped(rt, w, BROKEN, rest, view),
     }
 }
 
@@ -107,11 +108,11 @@ fn end_of(w: TreeWalk, all: usize) -> usize {
 }
 
 // No byte may follow the outer object.
-fn behind(w: TreeWalk, rest: &[u8], view: TreeView) -> TreeWalk {
+fn behind(rt: &impl Print, w: TreeWalk, rest: &[u8], view: TreeView) -> TreeWalk {
     if rest.len() == 0 {
         return ending(w, WHOLE);
     }
-    stopped(w, BEHIND, rest, view)
+    stopped(rt, w, BEHIND, rest, view)
 }
 
 // The contents are used up.
@@ -124,13 +125,13 @@ fn closed(w: TreeWalk) -> TreeWalk {
 }
 
 // An object: a template is opened, unless it is on the fifth level; past a primitive object the walk goes on.
-fn met(w: TreeWalk, h: TlvHeader, rest: &[u8], view: TreeView) -> TreeWalk {
+fn met(rt: &impl Print, w: TreeWalk, h: TlvHeader, rest: &[u8], view: TreeView) -> TreeWalk {
     let at = w.at;
     let start = plus(at, h.start);
     let end = plus(start, h.len);
     if !h.template {
         if view.tree {
-            primitive(
+            primitive(rt, 
                 h.tag,
                 part(rest, h.start, plus(h.start, h.len)),
                 w.open,
@@ -140,10 +141,10 @@ fn met(w: TreeWalk, h: TlvHeader, rest: &[u8], view: TreeView) -> TreeWalk {
         return moved(w, end);
     }
     if LEVELS <= w.open {
-        return stopped(w, FIFTH, rest, view);
+        return stopped(rt, w, FIFTH, rest, view);
     }
     if view.tree {
-        template(h.tag, w.open);
+        template(rt, h.tag, w.open);
     }
     opened(w, start, end)
 }
@@ -182,28 +183,28 @@ fn opened(w: TreeWalk, start: usize, end: usize) -> TreeWalk {
 }
 
 // The walk stops; the bytes that it does not reach are shown.
-fn stopped(w: TreeWalk, how: u8, rest: &[u8], view: TreeView) -> TreeWalk {
+fn stopped(rt: &impl Print, w: TreeWalk, how: u8, rest: &[u8], view: TreeView) -> TreeWalk {
     if view.tree && rest.len() != 0 {
-        print_indentation(w.open);
-        print_text(b"not read:");
-        print_bytes(rest);
-        print_text(b"\n");
+        print_indentation(rt, w.open);
+        print_text(rt, b"not read:");
+        print_bytes(rt, rest);
+        print_text(rt, b"\n");
     }
     ending(w, how)
 }
 
 // ---- lines
 
-fn primitive(tag: u32, value: &[u8], levels: usize, view: TreeView) {
-    print_indentation(levels);
-    print_object_line(tag, value);
+fn primitive(rt: &impl Print, tag: u32, value: &[u8], levels: usize, view: TreeView) {
+    print_indentation(rt, levels);
+    print_object_line(rt, tag, value);
     if view.bits {
-        bits::print_bit_lines(tag, value, plus(levels, 1));
+        bits::print_bit_lines(rt, tag, value, plus(levels, 1));
     }
 }
 
-fn template(tag: u32, levels: usize) {
-    print_indentation(levels);
-    print_tag_and_name(tag);
-    print_text(b"\n");
+fn template(rt: &impl Print, tag: u32, levels: usize) {
+    print_indentation(rt, levels);
+    print_tag_and_name(rt, tag);
+    print_text(rt, b"\n");
 }

@@ -1,12 +1,13 @@
 // The words that the program is called with: --tree, --bits, --tell, --journal with a file's name after it, and the
 // name of a file.
-use libc::STDERR_FILENO;
+use crate::complain;
 use print::tree::TreeView;
+use program::LONGEST_ARGUMENT;
 
 // What is requested: what is shown, whether the exit status is reported on descriptor 3, which argument names the file
 // and which the journal (0: none does), whether a journal's name is next, and whether there is one name too many, one
 // too few or an unknown option.
-#[derive(Drop)]
+#[derive(Clone, Copy)]
 pub struct ReplayArguments {
     pub view: TreeView,
     pub tell: bool,
@@ -16,16 +17,16 @@ pub struct ReplayArguments {
     pub wrong: bool,
 }
 
-pub fn replay_arguments() -> ReplayArguments {
-    let out = all();
+pub fn replay_arguments(rt: &HostRuntime) -> ReplayArguments {
+    let out = all(rt);
     if out.naming {
-        return not_understood(out, b"expected a file's name behind --journal");
+        return not_understood(rt, out, b"expected a file's name behind --journal");
     }
     out
 }
 
 // Every argument in turn.
-fn all() -> ReplayArguments {
+fn all(rt: &HostRuntime) -> ReplayArguments {
     let mut out = ReplayArguments {
         view: TreeView {
             tree: false,
@@ -37,25 +38,22 @@ fn all() -> ReplayArguments {
         naming: false,
         wrong: false,
     };
-    let n = os::arg_count();
-    let mut i = 1;
-    while i < n {
-        out = with_argument(out, i);
-        i += 1;
+    for i in 1..program::argument_count(rt) {
+        out = with_argument(rt, out, i);
     }
     out
 }
 
 // One more argument.
-fn with_argument(arguments: ReplayArguments, i: usize) -> ReplayArguments {
-    let mut space = io::buffer();
-    let n = os::arg(i, &mut space);
+fn with_argument(rt: &HostRuntime, arguments: ReplayArguments, i: usize) -> ReplayArguments {
+    let mut space = [0u8; LONGEST_ARGUMENT];
+    let n = program::argument(rt, i, &mut space);
     let word = &space[..n];
     if arguments.naming {
         return with_journal(arguments, i);
     }
     if basics::bytes_equal(word, b"--journal") {
-        return naming(arguments);
+        return naming(rt, arguments);
     }
     if basics::bytes_equal(word, b"--tell") {
         return telling(arguments);
@@ -67,10 +65,10 @@ fn with_argument(arguments: ReplayArguments, i: usize) -> ReplayArguments {
         return with_view(arguments, arguments.view.tree, true);
     }
     if basics::byte_at(word, 0) == b'-' {
-        return not_understood(arguments, b"unknown option");
+        return not_understood(rt, arguments, b"unknown option");
     }
     if arguments.file != 0 {
-        return not_understood(arguments, b"more than one file");
+        return not_understood(rt, arguments, b"more than one file");
     }
     with_file(arguments, i)
 }
@@ -82,9 +80,9 @@ fn telling(arguments: ReplayArguments) -> ReplayArguments {
 }
 
 // The next argument names the journal.
-fn naming(arguments: ReplayArguments) -> ReplayArguments {
+fn naming(rt: &HostRuntime, arguments: ReplayArguments) -> ReplayArguments {
     if arguments.journal != 0 {
-        return not_understood(arguments, b"more than one journal");
+        return not_understood(rt, arguments, b"more than one journal");
     }
     let mut out = arguments;
     out.naming = true;
@@ -115,10 +113,10 @@ fn with_file(arguments: ReplayArguments, i: usize) -> ReplayArguments {
     out
 }
 
-fn not_understood(arguments: ReplayArguments, words: &[u8]) -> ReplayArguments {
-    io::write_all(STDERR_FILENO, b"replay: ");
-    io::write_all(STDERR_FILENO, words);
-    io::write_all(STDERR_FILENO, b"\n");
+fn not_understood(rt: &HostRuntime, arguments: ReplayArguments, words: &[u8]) -> ReplayArguments {
+    complain(rt, b"replay: ");
+    complain(rt, words);
+    complain(rt, b"\n");
     let mut out = arguments;
     out.wrong = true;
     out

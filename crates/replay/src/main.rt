@@ -16,20 +16,21 @@ mod why;
 ghost use Rattle.std.specs.Prelude.{◌≡◌, ◌≤◌, length};
 
 use arguments::ReplayArguments;
-use libc::{STDERR_FILENO, STDIN_FILENO};
 use print::tree::TreeView;
+use program::LONGEST_ARGUMENT;
 use session_record::{CallResult, Phase, Reply, Session};
+use std::fs::File;
+use std::io::Read;
 use text_line::{LONGEST, Line, MOST};
 
-// What is carried from line to line: the session, the length of the caller's command buffer, what is shown, the
-// journal's descriptor (negative: none is written), whether `session` was read, the number of the line that is read,
-// how many of its characters are there, whether to go on, and the exit status.
-#[derive(Drop)]
+// What is carried from line to line: the session, the length of the caller's command buffer, what is shown, whether
+// `session` was read, the number of the line that is read, how many of its characters are there, whether to go on, and
+// the exit status.
+#[derive(Clone, Copy)]
 struct ReplayProgress {
     session: Session,
     buffer: usize,
     view: TreeView,
-    journal: i32,
     renewed: bool,
     number: usize,
     filled: usize,
@@ -38,7 +39,7 @@ struct ReplayProgress {
 }
 
 // The session after a call, and whether the journal could be written.
-#[derive(Drop)]
+#[derive(Clone, Copy)]
 struct SessionAndJournalWritten {
     session: Session,
     written: bool,
@@ -50,9 +51,6 @@ const ROOM: usize = MOST + 1;
 // The length of the command buffer where none is requested.
 const USUAL: usize = 261;
 
-// The descriptor on which the exit status is reported.
-const TELLING: i32 = 3;
-
 // The exit statuses.
 const PLAYED: u8 = 0;
 
@@ -60,91 +58,98 @@ const WRONG: u8 = 1;
 
 const UNWRITTEN: u8 = 2;
 
-// The descriptor of no journal.
-const NO_JOURNAL: i32 = -1;
-
-fn main() {
-    let asked = arguments::replay_arguments();
-    let status = played(asked);
+fn main(rt: HostRuntime) {
+    let asked = arguments::replay_arguments(&rt);
+    let status = played(&rt, asked);
     if asked.tell {
-        tell(status);
+        tell(&rt, status);
     }
 }
 
-fn tell(status: u8) {
+fn tell(rt: &HostRuntime, status: u8) {
     match status {
-        PLAYED => send(TELLING, b"0"),
-        WRONG => send(TELLING, b"1"),
-        _ => send(TELLING, b"2"),
+        PLAYED => send(rt, b"0"),
+        WRONG => send(rt, b"1"),
+        _ => send(rt, b"2"),
     }
 }
 
-fn send(fd: i32, words: &[u8]) {
-    io::write_all(fd, words);
+fn send(rt: &HostRuntime, words: &[u8]) {
+    program::tell_status(rt, words);
 }
 
 // Plays the file that an argument names, or standard input; returns the exit status.
-fn played(asked: ReplayArguments) -> u8 {
+fn played(rt: &HostRuntime, asked: ReplayArguments) -> u8 {
     if asked.wrong {
         return WRONG;
     }
     if asked.file == 0 {
-        return kept(STDIN_FILENO, asked);
+        return kept(rt, &mut rt.stdin(), asked);
     }
-    let mut path = io::buffer();
-    let n = os::arg(asked.file, &mut path);
-    let fd = os::open_read(&path[..n]);
-    if fd < 0 {
-        os::fail(&path[..n]);
-        return WRONG;
+    let mut path = [0u8; LONGEST_ARGUMENT];
+    let n = program::argument(rt, asked.file, &mut path);
+    match program::open_read(rt, &path[..n]) {
+        Ok(mut file) => kept(rt, &mut file, asked),
+        Err(error) => {
+            program::print_failure(rt, &rt.stderr(), &path[..n], error);
+            WRONG
+        }
     }
-    let status = kept(fd, asked);
-    libc::close(fd);
-    status
 }
 
 // Plays a file, and keeps its journal where one is requested.
-fn kept(fd: i32, asked: ReplayArguments) -> u8 {
+fn kept(rt: &HostRuntime, source: &mut impl Read, asked: ReplayArguments) -> u8 {
     if asked.journal == 0 {
-        return play(fd, asked.view, NO_JOURNAL);
+        return play(rt, source, asked.view, None);
     }
-    let mut path = io::buffer();
-    let n = os::arg(asked.journal, &mut path);
-    let journal = os::open_overwrite(&path[..n]);
-    if journal < 0 {
-        os::fail(&path[..n]);
-        return UNWRITTEN;
+    let mut path = [0u8; LONGEST_ARGUMENT];
+    let n = program::argument(rt, asked.journal, &mut path);
+    let journal = match program::open_overwrite(rt, &path[..n]) {
+        Ok(file) => file,
+        Err(error) => {
+            program::print_failure(rt, &rt.stderr(), &path[..n], error);
+            return UNWRITTEN;
+        }
+    };
+    let status = play(rt, source, asked.view, Some(&journal));
+    if status != PLAYED {
+        return status;
     }
-    let status = play(fd, asked.view, journal);
-    let closed = libc::close(journal);
-    if closed < 0 && status == PLAYED {
-        os::fail(&path[..n]);
-        return UNWRITTEN;
+    match program::written(&journal) {
+        Ok(()) => PLAYED,
+        Err(error) => {
+            program::print_failure(rt, &rt.stderr(), &path[..n], error);
+            UNWRITTEN
+        }
     }
-    status
 }
 
 // ---- the file's lines
 
-// Plays all of a file. A proved loop has to end, so it counts its iterations from a number that no file uses up.
-fn play(fd: i32, view: TreeView, journal: i32) -> u8 {
+// Plays all of a file. A proved loop has to end, so it has a number of iterations that no file uses up.
+fn play(
+    rt: &HostRuntime,
+    source: &mut impl Read,
+    view: TreeView,
+    journal: Option<&File>,
+) -> u8 {
     let mut line = [0u8; ROOM];
-    let mut state = beginning(view, journal);
-    let mut turns = u64::MAX;
-    while turns > 0 && state.going {
-        state = play_part(state, fd, &mut line);
-        turns -= 1;
+    let mut state = beginning(view);
+    for _ in 0..u64::MAX {
+        if !state.going {
+            return state.status;
+        }
+        state = play_part(rt, state, source, &mut line, journal);
     }
     state.status
 }
 
-fn beginning(view: TreeView, journal: i32) -> ReplayProgress {
+fn beginning(view: TreeView) -> ReplayProgress {
     let session = session_record::fresh_session();
     ReplayProgress {
         session,
         buffer: USUAL,
         view,
-        journal,
         renewed: false,
         number: 1,
         filled: 0,
@@ -154,24 +159,39 @@ fn beginning(view: TreeView, journal: i32) -> ReplayProgress {
 }
 
 // Reads one part and plays the lines that end in it; at the file's end, what is left as the last line.
-fn play_part(state: ReplayProgress, fd: i32, line: &mut [u8]) -> ReplayProgress
+fn play_part(
+    rt: &HostRuntime,
+    state: ReplayProgress,
+    source: &mut impl Read,
+    line: &mut [u8],
+    journal: Option<&File>,
+) -> ReplayProgress
     ensures { length line.new ≡ length line.old }
 {
     let mut part = [0u8; 4096];
-    let got = libc::read(fd, &mut part);
-    if got < 0 {
-        os::fail(b"replay: the file cannot be read");
-        return failed(state, WRONG);
+    match source.read(&mut part) {
+        Ok(0) => finish(rt, play_line(rt, state, line, journal)),
+        Ok(n) => play_lines(rt, state, &part[..n], line, journal),
+        Err(error) => {
+            program::print_failure(
+                rt,
+                &rt.stderr(),
+                b"replay: the file cannot be read",
+                error,
+            );
+            failed(state, WRONG)
+        }
     }
-    if got == 0 {
-        return finish(play_line(state, line));
-    }
-    let n = io::count(got, &part);
-    play_lines(state, &part[..n], line)
 }
 
 // Plays the lines that end in a part, and keeps what follows them.
-fn play_lines(state: ReplayProgress, part: &[u8], line: &mut [u8]) -> ReplayProgress
+fn play_lines(
+    rt: &HostRuntime,
+    state: ReplayProgress,
+    part: &[u8],
+    line: &mut [u8],
+    journal: Option<&File>,
+) -> ReplayProgress
     ensures { length line.new ≡ length line.old }
 {
     let mut next = state;
@@ -182,7 +202,7 @@ fn play_lines(state: ReplayProgress, part: &[u8], line: &mut [u8]) -> ReplayProg
         if rest.len() <= e {
             return next;
         }
-        next = play_line(next, line);
+        next = play_line(rt, next, line, journal);
         let ended = &rest[e..];
         rest = &ended[1..];
     }
@@ -193,7 +213,12 @@ fn play_lines(state: ReplayProgress, part: &[u8], line: &mut [u8]) -> ReplayProg
 fn line_end(s: &[u8]) -> usize
     ensures { result ≤ length s.now }
 {
-    bytes::scan::find(s, 0, s.len(), b'\n')
+    for i in 0..s.len() {
+        if s[i] == b'\n' {
+            return i;
+        }
+    }
+    s.len()
 }
 
 // The state with more characters of its line, as many as there is room for.
@@ -209,16 +234,12 @@ fn keep(state: ReplayProgress, chars: &[u8], line: &mut [u8]) -> ReplayProgress
 fn append(chars: &[u8], line: &mut [u8], filled: usize) -> usize
     ensures { length line.new ≡ length line.old }
 {
-    let mut to = filled;
-    let mut i = 0;
-    while i < chars.len() {
-        if line.len() <= to {
-            return to;
-        }
-        line[to] = chars[i];
-        to += 1;
-        i += 1;
+    if line.len() <= filled {
+        return filled;
     }
+    let n = least(chars.len(), line.len() - filled);
+    let to = filled + n;
+    line[filled..to].copy_from_slice(&chars[..n]);
     to
 }
 
@@ -231,7 +252,12 @@ fn least(a: usize, b: usize) -> usize
 // ---- one line
 
 // Plays the line that has been read.
-fn play_line(state: ReplayProgress, line: &[u8]) -> ReplayProgress {
+fn play_line(
+    rt: &HostRuntime,
+    state: ReplayProgress,
+    line: &[u8],
+    journal: Option<&File>,
+) -> ReplayProgress {
     if !state.going {
         return state;
     }
@@ -241,12 +267,12 @@ fn play_line(state: ReplayProgress, line: &[u8]) -> ReplayProgress {
     match said {
         Line::Blank => next_line(state),
         Line::Buffer(size) => next_line(with_buffer(state, size.bytes)),
-        Line::Session => session_line(state),
+        Line::Session => session_line(rt, state, journal.is_some()),
         Line::Wrong(problem) => {
-            report(state.number, problem.number);
+            report(rt, state.number, problem.number);
             failed(state, WRONG)
         }
-        _ => next_line(made(state, said, &bytes)),
+        _ => next_line(made(rt, state, &said, &bytes, journal)),
     }
 }
 
@@ -259,10 +285,16 @@ fn front(s: &[u8], n: usize) -> &[u8] {
 }
 
 // Makes a call, with its bytes at the front of `bytes`.
-fn made(state: ReplayProgress, said: Line, bytes: &[u8]) -> ReplayProgress {
+fn made(
+    rt: &HostRuntime,
+    state: ReplayProgress,
+    said: &Line,
+    bytes: &[u8],
+    journal: Option<&File>,
+) -> ReplayProgress {
     let mut space = [0u8; LONGEST];
     let size = least(state.buffer, LONGEST);
-    let after = shown(state, said, bytes, &mut space[..size]);
+    let after = shown(rt, state, said, bytes, &mut space[..size], journal);
     let session = after.session;
     if !after.written {
         return failed(with_session(state, session), UNWRITTEN);
@@ -272,27 +304,29 @@ fn made(state: ReplayProgress, said: Line, bytes: &[u8]) -> ReplayProgress {
 
 // Makes a call, puts it into the journal and shows its reply, and below it what it is due to.
 fn shown(
+    rt: &HostRuntime,
     state: ReplayProgress,
-    said: Line,
+    said: &Line,
     bytes: &[u8],
     command: &mut [u8],
+    journal: Option<&File>,
 ) -> SessionAndJournalWritten {
     let session = state.session;
     let view = state.view;
-    let reply = call(session, said, bytes, command);
-    print::print_reply_in_words(reply, command);
+    let reply = call(rt, session, said, bytes, command);
+    print::print_reply_in_words(rt, reply, command);
     let answer = reply.answer;
-    let written = recorded::append_to_journal(state.journal, said, bytes, answer, command);
+    let written = recorded::append_to_journal(rt, journal, said, bytes, answer, command);
     match said {
         Line::Start(brought) => {
             let size = brought.size;
-            why::print_start_refusal(front(bytes, size), refusal_in(answer));
+            why::print_start_refusal(rt, front(bytes, size), refusal_in(answer));
         }
         Line::Answer(brought) => {
             let size = brought.size;
-            why::print_answer_details(front(bytes, size), reason_in(answer), view);
+            why::print_answer_details(rt, front(bytes, size), reason_in(answer), view);
         }
-        _ => print::print_text(b""),
+        _ => print::print_text(rt, b""),
     }
     let next = reply.session;
     SessionAndJournalWritten {
@@ -301,39 +335,45 @@ fn shown(
     }
 }
 
-fn call(session: Session, said: Line, bytes: &[u8], command: &mut [u8]) -> Reply {
+fn call(
+    rt: &HostRuntime,
+    session: Session,
+    said: &Line,
+    bytes: &[u8],
+    command: &mut [u8],
+) -> Reply {
     match said {
         Line::Start(brought) => {
-            print::print_text(b"start: ");
+            print::print_text(rt, b"start: ");
             let size = brought.size;
             session::start(session, front(bytes, size), command)
         }
         Line::Answer(brought) => {
             let size = brought.size;
-            answer_line(front(bytes, size));
+            answer_line(rt, front(bytes, size));
             session::answer(session, front(bytes, size), command)
         }
         Line::LinkFailed => {
-            print::print_text(b"link-failed: ");
+            print::print_text(rt, b"link-failed: ");
             session::link_failed(session, command)
         }
         _ => {
-            print::print_text(b"stop: ");
+            print::print_text(rt, b"stop: ");
             session::stop(session, command)
         }
     }
 }
 
 // The word for an answer, with its status bytes.
-fn answer_line(card: &[u8]) {
+fn answer_line(rt: &HostRuntime, card: &[u8]) {
     if card.len() < 2 {
-        print::print_text(b"answer without status bytes: ");
+        print::print_text(rt, b"answer without status bytes: ");
         return;
     }
     let n = card.len() - 2;
-    print::print_text(b"answer");
-    print::print_bytes(&card[n..]);
-    print::print_text(b": ");
+    print::print_text(rt, b"answer");
+    print::print_bytes(rt, &card[n..]);
+    print::print_text(rt, b": ");
 }
 
 // The number of a refusal, 0 where a call is not refused.
@@ -401,14 +441,14 @@ fn failed(state: ReplayProgress, status: u8) -> ReplayProgress {
 // ---- the end of a session
 
 // `session`: a journal is of one, so after a call that was taken, and a second time, the line is wrong.
-fn session_line(state: ReplayProgress) -> ReplayProgress {
-    if 0 <= state.journal && (state.renewed || !is_fresh(state.session)) {
-        complain(b"replay: line ");
-        io::print_decimal(STDERR_FILENO, state.number as u64);
-        complain(b": expected no further session, since a journal is of one\n");
+fn session_line(rt: &HostRuntime, state: ReplayProgress, journal: bool) -> ReplayProgress {
+    if journal && (state.renewed || !is_fresh(state.session)) {
+        complain(rt, b"replay: line ");
+        print::print_number(&rt.stderr(), state.number);
+        complain(rt, b": expected no further session, since a journal is of one\n");
         return failed(state, WRONG);
     }
-    next_line(renewed(state))
+    next_line(renewed(rt, state))
 }
 
 fn is_fresh(session: Session) -> bool {
@@ -420,53 +460,53 @@ fn is_fresh(session: Session) -> bool {
 }
 
 // A fresh session and the usual buffer; first what the session before it holds.
-fn renewed(state: ReplayProgress) -> ReplayProgress {
+fn renewed(rt: &HostRuntime, state: ReplayProgress) -> ReplayProgress {
     if !is_fresh(state.session) {
-        holding(state);
+        holding(rt, state);
     }
-    print::print_text(b"session: fresh\n");
+    print::print_text(rt, b"session: fresh\n");
     let mut out = with_buffer(with_session(state, session_record::fresh_session()), USUAL);
     out.renewed = true;
     out
 }
 
 // Shows the objects held and why, unless a line was wrong, and plays no more.
-fn finish(state: ReplayProgress) -> ReplayProgress {
+fn finish(rt: &HostRuntime, state: ReplayProgress) -> ReplayProgress {
     if state.going {
-        holding(state);
+        holding(rt, state);
     }
     stopped(state)
 }
 
-fn holding(state: ReplayProgress) {
+fn holding(rt: &HostRuntime, state: ReplayProgress) {
     let session = state.session;
     let store = session.store;
     let bytes = store.bytes;
     let view = state.view;
-    print::print_text(b"objects held:\n");
-    print::print_stored_objects(&bytes, view.bits);
-    explained::print_explanation_line(session);
+    print::print_text(rt, b"objects held:\n");
+    print::print_stored_objects(rt, &bytes, view.bits);
+    explained::print_explanation_line(rt, session);
 }
 
 // ---- what is wrong
 
 // A line that is wrong, by its number, with what was expected.
-fn report(number: usize, problem: u8) {
-    complain(b"replay: line ");
-    io::print_decimal(STDERR_FILENO, number as u64);
+fn report(rt: &HostRuntime, number: usize, problem: u8) {
+    complain(rt, b"replay: line ");
+    print::print_number(&rt.stderr(), number);
     match problem {
-        text_line::LONG => complain(b": expected at most 8,192 characters"),
-        text_line::WORD => complain(
+        text_line::LONG => complain(rt, b": expected at most 8,192 characters"),
+        text_line::WORD => complain(rt, 
             b": unknown word; expected start HEX, answer HEX, link-failed, stop, buffer N or session",
         ),
-        text_line::HEX => complain(b": expected bytes, each two hexadecimal digits side by side"),
-        text_line::BEHIND => complain(b": expected nothing more but a comment, which # starts"),
-        text_line::NUMBER => complain(b": expected a number up to 4,096 behind buffer"),
-        _ => complain(b": expected at most 4,096 bytes"),
+        text_line::HEX => complain(rt, b": expected bytes, each two hexadecimal digits side by side"),
+        text_line::BEHIND => complain(rt, b": expected nothing more but a comment, which # starts"),
+        text_line::NUMBER => complain(rt, b": expected a number up to 4,096 behind buffer"),
+        _ => complain(rt, b": expected at most 4,096 bytes"),
     }
-    complain(b"\n");
+    complain(rt, b"\n");
 }
 
-fn complain(words: &[u8]) {
-    send(STDERR_FILENO, words);
+fn complain(rt: &HostRuntime, words: &[u8]) {
+    print::print_text(&rt.stderr(), words);
 }

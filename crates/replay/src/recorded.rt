@@ -1,59 +1,67 @@
 // The journal of the session that is played: each call that is not refused, and its reply.
 use crate::front;
 use session_record::CallResult;
+use std::fs::File;
+use std::io::Write;
 use text_line::Line;
 
 // Puts a call and its reply after what the journal has, unless there is none or the call is refused: whether they
 // could be written.
 pub fn append_to_journal(
-    journal: i32,
-    said: Line,
+    rt: &HostRuntime,
+    journal: Option<&File>,
+    said: &Line,
     bytes: &[u8],
     answer: CallResult,
     command: &[u8],
 ) -> bool {
-    if journal < 0 {
+    let Some(file) = journal else {
         return true;
-    }
+    };
     match answer {
         CallResult::Refused(_) => true,
-        _ => call(journal, said, bytes) && reply(journal, answer, command),
+        _ => call(rt, file, said, bytes) && reply(rt, file, answer, command),
     }
 }
 
 // The record of a call, with its bytes at the front of `bytes`.
-fn call(journal: i32, said: Line, bytes: &[u8]) -> bool {
+fn call(rt: &HostRuntime, journal: &File, said: &Line, bytes: &[u8]) -> bool {
     match said {
-        Line::Start(brought) => put(
-            journal,
+        Line::Start(brought) => put(rt, journal,
             &journal::writer::start_record(front(bytes, brought.size)),
         ),
-        Line::Answer(brought) => put(
-            journal,
+        Line::Answer(brought) => put(rt, journal,
             &journal::writer::answer_record(front(bytes, brought.size)),
         ),
-        Line::LinkFailed => put(journal, &journal::writer::link_failed_record()),
-        _ => put(journal, &journal::writer::stop_record()),
+        Line::LinkFailed => put(rt, journal, &journal::writer::link_failed_record()),
+        _ => put(rt, journal, &journal::writer::stop_record()),
     }
 }
 
 // The record of a reply.
-fn reply(journal: i32, answer: CallResult, command: &[u8]) -> bool {
+fn reply(rt: &HostRuntime, journal: &File, answer: CallResult, command: &[u8]) -> bool {
     match answer {
-        CallResult::Command(issued) => put(
-            journal,
+        CallResult::Command(issued) => put(rt, journal,
             &journal::writer::command_record(issued.size, command),
         ),
-        CallResult::Outcome(end) => put(journal, &journal::writer::outcome_record(end)),
+        CallResult::Outcome(end) => put(rt, journal, &journal::writer::outcome_record(end)),
         CallResult::Refused(_) => true,
     }
 }
 
 // Writes one record.
-fn put(journal: i32, record: &[u8]) -> bool {
-    if io::write_all(journal, record) {
-        return true;
+fn put(rt: &HostRuntime, journal: &File, record: &[u8]) -> bool {
+    let mut file = journal;
+    match file.write_all(record) {
+        Ok(()) => true,
+        Err(error) => {
+            program::print_failure(
+                rt,
+                &rt.stderr(),
+                b"replay: the journal could not be written",
+                error,
+            );
+            false
+        }
     }
-    os::fail(b"replay: the journal could not be written");
-    false
 }

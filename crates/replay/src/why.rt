@@ -9,7 +9,7 @@ use start_data::LoadResult;
 use tlv::ObjectFront;
 
 // The first object of a run: its tag and how many bytes it has, no byte where there is none.
-#[derive(Drop)]
+#[derive(Clone, Copy)]
 struct FirstObject {
     tag: u32,
     size: usize,
@@ -18,17 +18,17 @@ struct FirstObject {
 // ---- a start
 
 // Below a start that is refused: the tags that decided it.
-pub fn print_start_refusal(start: &[u8], number: u8) {
+pub fn print_start_refusal(rt: &impl Print, start: &[u8], number: u8) {
     match number {
-        basics::REFUSED_OBJECT => refused(start),
-        basics::REFUSED_ABSENT => absent(start),
-        _ => print::print_text(b""),
+        basics::REFUSED_OBJECT => refused(rt, start),
+        basics::REFUSED_ABSENT => absent(rt, start),
+        _ => print::print_text(rt, b""),
     }
 }
 
 // The first object that a start may not set: the bytes up to its end are refused for an object, those
 // before it are not.
-fn refused(start: &[u8]) {
+fn refused(rt: &impl Print, start: &[u8]) {
     let mut at: usize = 0;
     while at < start.len() {
         let first = first_of(&start[at..]);
@@ -38,7 +38,7 @@ fn refused(start: &[u8]) {
         }
         at += size;
         if is_refused(&start[..at]) {
-            tag_line(b"refused: ", first.tag);
+            tag_line(rt, b"refused: ", first.tag);
             return;
         }
     }
@@ -56,19 +56,17 @@ fn is_refused(start: &[u8]) -> bool {
 }
 
 // The objects that a start must bring and that are not among its bytes.
-fn absent(start: &[u8]) {
-    let mut row: usize = 0;
-    while row < ROWS {
+fn absent(rt: &impl Print, start: &[u8]) {
+    for row in 0..ROWS {
         if dictionary::attributes_of(row).must != 0 {
-            absent_row(start, dictionary::row_tag(row));
+            absent_row(rt, start, dictionary::row_tag(row));
         }
-        row += 1;
     }
 }
 
-fn absent_row(start: &[u8], tag: u32) {
+fn absent_row(rt: &impl Print, start: &[u8], tag: u32) {
     if !brings(start, tag) {
-        tag_line(b"absent: ", tag);
+        tag_line(rt, b"absent: ", tag);
     }
 }
 
@@ -103,58 +101,58 @@ fn first_of(s: &[u8]) -> FirstObject
     }
 }
 
-fn tag_line(words: &[u8], tag: u32) {
-    print::print_indentation(0);
-    print::print_text(words);
-    print::print_tag_and_name(tag);
-    print::print_text(b"\n");
+fn tag_line(rt: &impl Print, words: &[u8], tag: u32) {
+    print::print_indentation(rt, 0);
+    print::print_text(rt, words);
+    print::print_tag_and_name(rt, tag);
+    print::print_text(rt, b"\n");
 }
 
 // ---- an answer
 
 // Below an answer: its objects where they are requested, and what is malformed where that ended the session.
-pub fn print_answer_details(card: &[u8], reason: u8, view: TreeView) {
+pub fn print_answer_details(rt: &impl Print, card: &[u8], reason: u8, view: TreeView) {
     if card.len() < 2 {
-        wrong_length(card.len(), reason);
+        wrong_length(rt, card.len(), reason);
         return;
     }
     let n = card.len() - 2;
-    let walk = print::tree::print_tree_walk(&card[..n], view);
+    let walk = print::tree::print_tree_walk(rt, &card[..n], view);
     if 258 < card.len() {
-        wrong_length(card.len(), reason);
+        wrong_length(rt, card.len(), reason);
         return;
     }
     if reason == basics::REASON_MALFORMED {
-        malformed(walk);
+        malformed(rt, walk);
     }
 }
 
-fn wrong_length(size: usize, reason: u8) {
+fn wrong_length(rt: &impl Print, size: usize, reason: u8) {
     if reason == basics::REASON_MALFORMED {
-        print::print_indentation(0);
-        print::print_text(b"malformed: length ");
-        print::print_number(size);
-        print::print_text(b", and an answer has 2 to 258 bytes\n");
+        print::print_indentation(rt, 0);
+        print::print_text(rt, b"malformed: length ");
+        print::print_number(rt, size);
+        print::print_text(rt, b", and an answer has 2 to 258 bytes\n");
     }
 }
 
 // Where the answer cannot be read, counted from 0, and why. Where all its objects can be, the outer one is at fault.
-fn malformed(walk: TreeWalk) {
+fn malformed(rt: &impl Print, walk: TreeWalk) {
     let at = walk.at;
     let ended = walk.ended;
     match ended {
-        tree::BROKEN => malformed_at(at, b"no whole object"),
-        tree::FIFTH => malformed_at(at, b"template on the fifth level"),
-        tree::BEHIND => malformed_at(at, b"behind the one object of an answer"),
-        _ => malformed_at(0, b"outer tag or body that this answer does not take"),
+        tree::BROKEN => malformed_at(rt, at, b"no whole object"),
+        tree::FIFTH => malformed_at(rt, at, b"template on the fifth level"),
+        tree::BEHIND => malformed_at(rt, at, b"behind the one object of an answer"),
+        _ => malformed_at(rt, 0, b"outer tag or body that this answer does not take"),
     }
 }
 
-fn malformed_at(place: usize, words: &[u8]) {
-    print::print_indentation(0);
-    print::print_text(b"malformed at byte ");
-    print::print_number(place);
-    print::print_text(b": ");
-    print::print_text(words);
-    print::print_text(b"\n");
+fn malformed_at(rt: &impl Print, place: usize, words: &[u8]) {
+    print::print_indentation(rt, 0);
+    print::print_text(rt, b"malformed at byte ");
+    print::print_number(rt, place);
+    print::print_text(rt, b": ");
+    print::print_text(rt, words);
+    print::print_text(rt, b"\n");
 }

@@ -5,11 +5,8 @@ use mathlib.Core.Path.{◌≡◌, refl, sym, ap, ap₂, ◌∙◌}
 use mathlib.Core.Bool.{Bool, true, false, not}
 use mathlib.Core.List.{List, [], ◌∷◌}
 use mathlib.Core.Option.{Option, some, none}
-use mathlib.Core.Logic.{⊎_elim}
 use Prim.Native.Nat.{ℕ, suc, ◌+◌, ◌-◌, ◌/◌, ◌≤◌, ◌<◌}
 use native.Mathlib.Omega.{arith}
-use types.Run.{OneOf}
-use denote.Enum.Declared.{tag_of}
 use lib.Dec.{eqb}
 use lib.ListN.{length, take, drop, length-take}
 use borrow.Author.Tests.{lt-ltb, le-ltb, eq-eqb, ne_eqb, not-true, not-false}
@@ -36,7 +33,6 @@ use Rattle.reading.specs.declared.ResponseVerdict.TheVariants.{Accepted, BadStat
 use Rattle.reading.specs.declared.Reading.{Reading}
 use Rattle.reading.specs.Answer as reading
 use Rattle.reading.specs.Taking.{PrimitiveItem}
-use Rattle.reading.specs.contracts.ResponseVerdict.{the_type as verdict_type}
 use Rattle.analysis.specs.declared.choice.Choice.{Choice}
 use Rattle.analysis.specs.Action.{transaction_limit, stored_amount_above_limit, findings_of, choice_for_tvr}
 use Rattle.analysis.specs.Cvm.{cvm_number_not_applicable}
@@ -60,7 +56,6 @@ use Rattle.store.specs.Held.{has_object, stored_byte}
 use Rattle.session_record.specs.Ranges.{emv_mode, emv_or_mag_stripe_mode, stored_afl, expiry_pan_and_cdol1_non_empty}
 use Rattle.session_record.specs.Ranges.{track2_and_bitmaps_non_empty, zero_tvr, session_record_in_ranges}
 use Rattle.session_record.proofs.Tags.{bytes_are}
-use Rattle.session_record.specs.contracts.Phase.{the_type as phase_type}
 use Rattle.start_data.specs.declared.LoadResult.{LoadResult}
 use Rattle.start_data.specs.StartData.{LoadedStore, LoadResultAndStoreMatchLoaded}
 use Rattle.start_data.proofs.Laws.{was_taken, was_refused}
@@ -129,8 +124,8 @@ module _ (s : Session) (buf : List ℕ) (x : CallEffect) where
 -- ---- an answer that is accepted, or not
 
 -- a verdict other than accepted has a number other than 0
-not_accepted : (v : ResponseVerdict) → OneOf (1 ∷ 2 ∷ 3 ∷ []) (tag_of verdict_type v) → reading.verdict_number v ≡ 0 → ⊥
-not_accepted Accepted h e = ⊎_elim (λ x. omega arith) (λ r. ⊎_elim (λ x. omega arith) (λ x. omega arith) r) h
+not_accepted : (v : ResponseVerdict) → (v ≡ Accepted → ⊥) → reading.verdict_number v ≡ 0 → ⊥
+not_accepted Accepted h e = h refl
 not_accepted BadStatus h e = omega arith
 not_accepted Malformed h e = omega arith
 not_accepted NotAllowed h e = omega arith
@@ -172,7 +167,7 @@ module _ (a : Awaited) (m : ℕ) (b s : List ℕ) (next : List ℕ → NextActio
   unfolding read_response_then
   read_goes e = if_yes _ _ (eq-eqb _ 0 (sym g.reason ∙ ap reading.verdict_number e)) ∙ ap next (sym g.store)
 
-  pub read_ends : OneOf (1 ∷ 2 ∷ 3 ∷ []) (tag_of verdict_type r.verdict) → read_response_then a m b s next
+  pub read_ends : (r.verdict ≡ Accepted → ⊥) → read_response_then a m b s next
       ≡ end (ending_for_reason (reading.verdict_number r.verdict)) m d
   unfolding read_response_then
   read_ends h =
@@ -295,9 +290,9 @@ digits_stored b v e p = p ∙ (λ i. put_row dictionary_rows b (sym track_place 
 -- ---- start
 
 -- a phase other than fresh
-pub not_fresh : (p : Phase) (b bytes : List ℕ) → OneOf (1 ∷ 2 ∷ []) (tag_of phase_type p)
+pub not_fresh : (p : Phase) (b bytes : List ℕ) → (p ≡ Phase.Fresh → ⊥)
     → start_effect p b bytes ≡ refuse refusal_wrong_phase
-not_fresh Phase.Fresh b bytes h = absurd (⊎_elim (λ e. omega arith) (λ e. omega arith) h)
+not_fresh Phase.Fresh b bytes h = absurd (h refl)
 not_fresh (Phase.Waiting w) b bytes h = refl
 not_fresh (Phase.Ended e) b bytes h = refl
 
@@ -476,7 +471,7 @@ module _ (b : List ℕ) where
   -- a track that cannot take the digits: by the reading's verdict v
   module _ (card : List ℕ) (v : ResponseVerdict) (e : stored_track_can_take_digits b ≡ false)
       (q : reading.verdict_number v ≡ (reading.read_answer Awaited.Checksum b card).reason) where
-    pub unsound_read : OneOf (1 ∷ 2 ∷ 3 ∷ []) (tag_of verdict_type v) → next_on_checksum_response b card
+    pub unsound_read : (v ≡ Accepted → ⊥) → next_on_checksum_response b card
         ≡ end_for_reason (reading.verdict_number v) b
     unfolding next_on_checksum_response read_response_then
     unsound_read h =

@@ -6,21 +6,21 @@ ghost use Rattle.std.specs.Prelude.{◌≤◌, length};
 
 use call_list::PlayResult;
 
-fn main() {
-    purchase();
-    refused_between();
-    link_failure();
-    malformed();
-    short_replies();
-    longest();
+fn main(rt: HostRuntime) {
+    purchase(&rt);
+    refused_between(&rt);
+    link_failure(&rt);
+    malformed(&rt);
+    short_replies(&rt);
+    longest(&rt);
 }
 
 // ---- lists
 
 // The bench's purchase: one record, and the decision to go online. The commands are in the buffers.
-fn purchase() {
-    print::print_text(b"purchase\n");
-    let mut calls = io::large_buffer();
+fn purchase(rt: &impl Print) {
+    print::print_text(rt, b"purchase\n");
+    let mut calls = [0u8; 65536];
     let mut replies = [0xEEu8; 17];
     let started = start(&mut calls, 0);
     let optioned = answer(
@@ -38,16 +38,16 @@ fn purchase() {
         read,
         b"\x80\x0B\x80\x00\x01\x01\x02\x03\x04\x05\x06\x07\x08\x90\x00",
     );
-    play(&mut calls, end, &mut replies);
-    command(&calls, started, 8);
-    command(&calls, optioned, 5);
-    command(&calls, read, 11);
+    play(rt, &mut calls, end, &mut replies);
+    command(rt, &calls, started, 8);
+    command(rt, &calls, optioned, 5);
+    command(rt, &calls, read, 11);
 }
 
 // Refused calls in between: an answer and a stop before the start, a start with a short buffer, a second start.
-fn refused_between() {
-    print::print_text(b"refused calls in between\n");
-    let mut calls = io::large_buffer();
+fn refused_between(rt: &impl Print) {
+    print::print_text(rt, b"refused calls in between\n");
+    let mut calls = [0u8; 65536];
     let mut replies = [0xEEu8; 28];
     let early = answer(&mut calls, 0, b"\x90\x00");
     let stopped = put(&mut calls, early, 4, b"", 261);
@@ -66,47 +66,47 @@ fn refused_between() {
         small,
         b"\x80\x06\x00\x80\x08\x01\x01\x00\x90\x00",
     );
-    play(&mut calls, end, &mut replies);
-    command(&calls, end, 5);
+    play(rt, &mut calls, end, &mut replies);
+    command(rt, &calls, end, 5);
 }
 
 // The link fails while the session waits on GPO; the call after it is refused.
-fn link_failure() {
-    print::print_text(b"link failed\n");
-    let mut calls = io::large_buffer();
+fn link_failure(rt: &impl Print) {
+    print::print_text(rt, b"link failed\n");
+    let mut calls = [0u8; 65536];
     let mut replies = [0xEEu8; 12];
     let started = start(&mut calls, 0);
     let failed = put(&mut calls, started, 3, b"", 261);
     let end = answer(&mut calls, failed, b"\x90\x00");
-    play(&mut calls, end, &mut replies);
+    play(rt, &mut calls, end, &mut replies);
 }
 
 // A stop that brings a byte: no list of calls, so the start before it is not played.
-fn malformed() {
-    print::print_text(b"malformed\n");
-    let mut calls = io::large_buffer();
+fn malformed(rt: &impl Print) {
+    print::print_text(rt, b"malformed\n");
+    let mut calls = [0u8; 65536];
     let mut replies = [0xEEu8; 8];
     let started = start(&mut calls, 0);
     let end = put(&mut calls, started, 4, b"\x00", 261);
-    play(&mut calls, end, &mut replies);
-    command(&calls, started, 8);
+    play(rt, &mut calls, end, &mut replies);
+    command(rt, &calls, started, 8);
 }
 
 // Two calls, and room for one reply.
-fn short_replies() {
-    print::print_text(b"too short for the replies\n");
-    let mut calls = io::large_buffer();
+fn short_replies(rt: &impl Print) {
+    print::print_text(rt, b"too short for the replies\n");
+    let mut calls = [0u8; 65536];
     let mut replies = [0xEEu8; 7];
     let started = start(&mut calls, 0);
     let end = put(&mut calls, started, 4, b"", 261);
-    play(&mut calls, end, &mut replies);
-    command(&calls, started, 8);
+    play(rt, &mut calls, end, &mut replies);
+    command(rt, &calls, started, 8);
 }
 
 // 128 records: 130 commands in 131 calls that are not refused, and a last one that is.
-fn longest() {
-    print::print_text(b"128 records\n");
-    let mut calls = io::large_buffer();
+fn longest(rt: &impl Print) {
+    print::print_text(rt, b"128 records\n");
+    let mut calls = [0u8; 65536];
     let mut replies = [0xEEu8; 528];
     let started = start(&mut calls, 0);
     let optioned = answer(
@@ -126,7 +126,7 @@ fn longest() {
         b"\x80\x0B\x80\x00\x01\x01\x02\x03\x04\x05\x06\x07\x08\x90\x00",
     );
     let end = put(&mut calls, decided, 4, b"", 261);
-    play(&mut calls, end, &mut replies);
+    play(rt, &mut calls, end, &mut replies);
 }
 
 // ---- the calls of a list, each after those before it
@@ -161,10 +161,8 @@ fn answer(calls: &mut [u8], at: usize, card: &[u8]) -> usize
 // 127 records that bring nothing.
 fn empty_records(calls: &mut [u8], at: usize) -> usize {
     let mut end = at;
-    let mut k: usize = 0;
-    while k < 127 {
+    for _ in 0..127u8 {
         end = answer(calls, end, b"\x70\x00\x90\x00");
-        k += 1;
     }
     end
 }
@@ -205,57 +203,48 @@ fn header(kind: u8, n: usize, capacity: usize) -> [u8; 17] {
 // ---- what is shown
 
 // Plays the calls that end at a place, and shows the replies.
-fn play(calls: &mut [u8], end: usize, replies: &mut [u8]) {
+fn play(rt: &impl Print, calls: &mut [u8], end: usize, replies: &mut [u8]) {
     if calls.len() < end {
         return;
     }
     let ran = call_list::play_list(&mut calls[0..end], replies);
     let said = ran.said;
     let session = ran.session;
-    lines(replies);
+    lines(rt, replies);
     match said {
-        PlayResult::Played => print::print_text(b"played"),
-        PlayResult::Malformed => print::print_text(b"no list of calls"),
-        PlayResult::TooShort => print::print_text(b"too little room"),
+        PlayResult::Played => print::print_text(rt, b"played"),
+        PlayResult::Malformed => print::print_text(rt, b"no list of calls"),
+        PlayResult::TooShort => print::print_text(rt, b"too little room"),
     }
-    print::print_text(b", count ");
-    print::print_number(basics::widen(session_record::command_count(session)));
-    print::print_text(b", commands ");
-    print::print_number(kinds(replies, 0));
-    print::print_text(b", outcomes ");
-    print::print_number(kinds(replies, 1));
-    print::print_text(b", refusals ");
-    print::print_number(kinds(replies, 2));
-    print::print_text(b"\n");
+    print::print_text(rt, b", count ");
+    print::print_number(rt, basics::widen(session_record::command_count(session)));
+    print::print_text(rt, b", commands ");
+    print::print_number(rt, kinds(replies, 0));
+    print::print_text(rt, b", outcomes ");
+    print::print_number(rt, kinds(replies, 1));
+    print::print_text(rt, b", refusals ");
+    print::print_number(rt, kinds(replies, 2));
+    print::print_text(rt, b"\n");
 }
 
 // Four bytes to a line; bytes after the replies too.
-fn lines(s: &[u8]) {
-    let mut rest = s;
-    while 4 < rest.len() {
-        print::print_bytes(&rest[..4]);
-        print::print_text(b"\n");
-        rest = &rest[4..];
+fn lines(rt: &impl Print, s: &[u8]) {
+    for line in s.chunks(4) {
+        print::print_bytes(rt, line);
+        print::print_text(rt, b"\n");
     }
-    print::print_bytes(rest);
-    print::print_text(b"\n");
 }
 
 // How many replies are of a kind.
 fn kinds(replies: &[u8], kind: u8) -> usize {
-    let mut rest = replies;
-    let mut n = 0;
-    while 4 <= rest.len() {
-        if rest[0] == kind {
-            n += 1;
-        }
-        rest = &rest[4..];
-    }
-    n
+    replies
+        .chunks_exact(4)
+        .filter(|reply| reply.first() == Some(&kind))
+        .count()
 }
 
 // The first bytes of the buffer of 261 bytes that ends at a place.
-fn command(calls: &[u8], end: usize, n: usize) {
+fn command(rt: &impl Print, calls: &[u8], end: usize, n: usize) {
     if calls.len() < end {
         return;
     }
@@ -267,6 +256,6 @@ fn command(calls: &[u8], end: usize, n: usize) {
     }
     let from = end - 261;
     let to = from + n;
-    print::print_bytes(&calls[from..to]);
-    print::print_text(b"\n");
+    print::print_bytes(rt, &calls[from..to]);
+    print::print_text(rt, b"\n");
 }

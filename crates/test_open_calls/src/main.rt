@@ -15,34 +15,34 @@ use session_record::Session;
 // The bytes of a cabinet's state.
 const STATE_SIZE: usize = RECORD_SIZE + 16;
 
-fn main() {
-    statements();
-    parts();
-    readers();
-    calls();
-    cabinet();
-    card();
-    judge();
+fn main(rt: HostRuntime) {
+    statements(&rt);
+    parts(&rt);
+    readers(&rt);
+    calls(&rt);
+    cabinet(&rt);
+    card(&rt);
+    judge(&rt);
 }
 
 // ---- functions that stand for a statement
 
-fn statements() {
-    line(b"bench::rows", bench_rows::proved_bench_row_count());
-    line(
+fn statements(rt: &impl Print) {
+    line(rt, b"bench::rows", bench_rows::proved_bench_row_count());
+    line(rt, 
         b"trace::most_commands",
         session_claim::every_session_follows_published_order(),
     );
-    line(b"laws::most_contents", laws::records_in_any_order());
-    word(
+    line(rt, b"laws::most_contents", laws::records_in_any_order());
+    word(rt, 
         b"explain_calls::refusal_word",
         explain_claim::explanation_refused_word(),
     );
-    line(
+    line(rt, 
         b"rank::rank, of offline",
         basics::widen(rank_of(Choice::Offline)),
     );
-    found(
+    found(rt, 
         b"cabinet_calls::most_approved",
         cabinet_claim::approved_within_cap(),
     );
@@ -50,7 +50,7 @@ fn statements() {
     worked_examples::examples_hold();
     worked_words::word_examples_hold();
     let rows = dictionary::used_rows();
-    line(
+    line(rt, 
         b"dictionary::used_rows, the last",
         rows[dictionary::USED - 1],
     );
@@ -62,19 +62,19 @@ fn rank_of(choice: Choice) -> u8 {
 
 // ---- the record
 
-fn parts() {
-    line(
+fn parts(rt: &impl Print) {
+    line(rt, 
         b"run::said_number",
         basics::widen(said_number(PlayResult::Played)),
     );
     if in_ranges(session_record::fresh_session()) {
-        print::print_text(b"record::in_ranges: a fresh session is\n");
+        print::print_text(rt, b"record::in_ranges: a fresh session is\n");
     }
     let held = decode(b"");
     let DecodedRecordHead::Nothing = held else {
         return;
     };
-    print::print_text(b"layout::decode: no bytes hold no record\n");
+    print::print_text(rt, b"layout::decode: no bytes hold no record\n");
 }
 
 fn in_ranges(session: Session) -> bool {
@@ -92,22 +92,22 @@ fn said_number(said: PlayResult) -> u8 {
 
 // ---- both readers of an answer
 
-fn readers() {
+fn readers(rt: &impl Print) {
     let read = both(Awaited::Gpo, b"\x77\x00\x90\x00");
     let first = read.recursive;
     let second = read.flat;
-    line(b"reading::read_both, the first's objects", first.objects);
-    line(b"reading::read_both, the second's objects", second.objects);
-    line(
+    line(rt, b"reading::read_both, the first's objects", first.objects);
+    line(rt, b"reading::read_both, the second's objects", second.objects);
+    line(rt, 
         b"reading::flat::judge_answer",
         basics::widen(judged(Awaited::Gpo, b"\x90\x01")),
     );
     let mut store = [0u8; SIZE];
-    word(
+    word(rt, 
         b"emv_test_read",
         test_read(&mut store, 1, 1, b"\x70\x00\x90\x00"),
     );
-    word(
+    word(rt, 
         b"emv_test_read_flat",
         test_read_flat(&mut store, 1, 1, b"\x70\x00\x90\x00"),
     );
@@ -134,27 +134,27 @@ fn test_read_flat(store: &mut [u8], awaited: u32, sfi: u8, card: &[u8]) -> u32 {
 
 // ---- the exported calls
 
-fn calls() {
+fn calls(rt: &impl Print) {
     let mut session = [0u8; RECORD_SIZE];
     let mut command = [0u8; 261];
-    line(b"emv_session_size", host::emv_session_size());
-    word(b"emv_open", open(&mut session));
-    word(b"emv_start", start(&mut session, b"", &mut command));
-    word(
+    line(rt, b"emv_session_size", host::emv_session_size());
+    word(rt, b"emv_open", open(&mut session));
+    word(rt, b"emv_start", start(&mut session, b"", &mut command));
+    word(rt, 
         b"emv_answer",
         answer(&mut session, b"\x90\x00", &mut command),
     );
-    word(b"emv_link_failed", link_failed(&mut session, &mut command));
-    word(b"emv_stop", stop(&mut session, &mut command));
-    word(b"emv_count", count(&session));
-    word(b"emv_explain", explain(&session));
+    word(rt, b"emv_link_failed", link_failed(&mut session, &mut command));
+    word(rt, b"emv_stop", stop(&mut session, &mut command));
+    word(rt, b"emv_count", count(&session));
+    word(rt, b"emv_explain", explain(&session));
     let mut value = [0u8; 254];
-    word(b"emv_object", object(&session, 0x9F02, &mut value));
-    word(b"emv_wipe", wipe(&mut session));
-    word(b"emv_version", host::emv_version());
-    found(b"emv_find", find(b"\x6F\x04\x84\x02\x41\x42", 0x84));
-    word(b"emv_test_journal", test_journal(b"\x07", 0, 1));
-    line(b"emv_test_wanted", test_wanted(b"\x07", &mut value));
+    word(rt, b"emv_object", object(&session, 0x9F02, &mut value));
+    word(rt, b"emv_wipe", wipe(&mut session));
+    word(rt, b"emv_version", host::emv_version());
+    found(rt, b"emv_find", find(b"\x6F\x04\x84\x02\x41\x42", 0x84));
+    word(rt, b"emv_test_journal", test_journal(b"\x07", 0, 1));
+    line(rt, b"emv_test_wanted", test_wanted(b"\x07", &mut value));
 }
 
 fn open(session: &mut [u8]) -> u32 {
@@ -207,30 +207,30 @@ fn test_wanted(bytes: &[u8], out: &mut [u8]) -> usize {
 
 // ---- the cabinet's calls
 
-fn cabinet() {
+fn cabinet(rt: &impl Print) {
     let mut state = [0u8; STATE_SIZE];
     let mut command = [0u8; 261];
-    line(b"cabinet_size", cabinet::cabinet_size());
-    word(b"cabinet_open", cabinet_open(&mut state, 1000));
-    found(b"cabinet_left", cabinet_left(&state));
-    word(
+    line(rt, b"cabinet_size", cabinet::cabinet_size());
+    word(rt, b"cabinet_open", cabinet_open(&mut state, 1000));
+    found(rt, b"cabinet_left", cabinet_left(&state));
+    word(rt, 
         b"cabinet_start",
         cabinet_start(&mut state, b"", &mut command),
     );
-    word(
+    word(rt, 
         b"cabinet_answer",
         cabinet_answer(&mut state, b"\x90\x00", &mut command),
     );
-    word(
+    word(rt, 
         b"cabinet_link_failed",
         cabinet_link_failed(&mut state, &mut command),
     );
-    word(b"cabinet_stop", cabinet_stop(&mut state, &mut command));
-    found(
+    word(rt, b"cabinet_stop", cabinet_stop(&mut state, &mut command));
+    found(rt, 
         b"cabinet_find",
         cabinet_find(b"\x9C\x01\x00", b"\x9F\x35\x01\x22", 0x9F35),
     );
-    line(
+    line(rt, 
         b"cabinet_lookup::lookup, its length",
         looked_up(b"\x9C\x01\x00", b"\x9F\x35\x01\x22", 0x9F35),
     );
@@ -269,10 +269,10 @@ fn looked_up<'a>(site: &'a [u8], defaults: &'a [u8], tag: u32) -> usize {
     value.len()
 }
 
-fn card() {
+fn card(rt: &impl Print) {
     let mut records = [0u8; 32768];
     let mut afl = [0u8; 248];
-    found(
+    found(rt, 
         b"emv_personalise",
         write_card(b"", b"\x08\x01\x02\x00", b"", &mut records, &mut afl),
     );
@@ -290,14 +290,18 @@ fn write_card(
 
 // ---- a journal
 
-fn judge() {
-    let checker = feed(journal::begin(), b"\x07");
-    line(b"journal::wanted, its size", wanted_size(checker));
-    let verdict = finish(checker);
+fn judge(rt: &impl Print) {
+    line(rt, b"journal::wanted, its size", wanted_size(fed()));
+    let verdict = finish(fed());
     let JournalVerdict::Mismatch(n) = verdict else {
         return;
     };
-    line(b"journal::finish: unlike", n);
+    line(rt, b"journal::finish: unlike", n);
+}
+
+// A checker that read a byte that is no kind of record.
+fn fed() -> JournalChecker {
+    feed(journal::begin(), b"\x07")
 }
 
 fn feed(checker: JournalChecker, part: &[u8]) -> JournalChecker {
@@ -315,29 +319,29 @@ fn wanted_size(checker: JournalChecker) -> usize {
 
 // ---- lines
 
-fn line(name: &[u8], number: usize) {
-    print::print_text(name);
-    print::print_text(b": ");
-    print::print_number(number);
-    print::print_text(b"\n");
+fn line(rt: &impl Print, name: &[u8], number: usize) {
+    print::print_text(rt, name);
+    print::print_text(rt, b": ");
+    print::print_number(rt, number);
+    print::print_text(rt, b"\n");
 }
 
 // A result word by its upper and its lower half.
-fn word(name: &[u8], word: u32) {
-    print::print_text(name);
-    print::print_text(b": ");
-    print::print_number((word / 65536) as usize);
-    print::print_text(b" ");
-    print::print_number((word % 65536) as usize);
-    print::print_text(b"\n");
+fn word(rt: &impl Print, name: &[u8], word: u32) {
+    print::print_text(rt, name);
+    print::print_text(rt, b": ");
+    print::print_number(rt, (word / 65536) as usize);
+    print::print_text(rt, b" ");
+    print::print_number(rt, (word % 65536) as usize);
+    print::print_text(rt, b"\n");
 }
 
 // A word of 64 bits by its two halves.
-fn found(name: &[u8], place: u64) {
-    print::print_text(name);
-    print::print_text(b": ");
-    print::print_number((place / 0x100000000) as usize);
-    print::print_text(b" ");
-    print::print_number((place % 0x100000000) as usize);
-    print::print_text(b"\n");
+fn found(rt: &impl Print, name: &[u8], place: u64) {
+    print::print_text(rt, name);
+    print::print_text(rt, b": ");
+    print::print_number(rt, (place / 0x100000000) as usize);
+    print::print_text(rt, b" ");
+    print::print_number(rt, (place % 0x100000000) as usize);
+    print::print_text(rt, b"\n");
 }

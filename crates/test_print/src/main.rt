@@ -6,49 +6,49 @@ use analysis::cvm::NOT_APPLICABLE;
 use dictionary::{ROWS, SIZE};
 use session_record::{CallResult, Outcome, OutcomeParameters, Refusal, Reply};
 
-fn main() {
-    outcomes();
-    reasons();
-    cvms();
-    refusals();
-    names();
+fn main(rt: HostRuntime) {
+    outcomes(&rt);
+    reasons(&rt);
+    cvms(&rt);
+    refusals(&rt);
+    names(&rt);
 }
 
 // A reply of a fresh session with this answer.
-fn reply_with(answer: CallResult) {
+fn reply_with(rt: &impl Print, answer: CallResult) {
     let session = session_record::fresh_session();
-    print::print_reply_in_words(Reply { session, answer }, b"");
+    print::print_reply_in_words(rt, Reply { session, answer }, b"");
 }
 
 // An outcome with a reason, whether they go together or not, and no CVM.
-fn ending(outcome: Outcome, reason: u8) {
-    reply_with(CallResult::Outcome(OutcomeParameters {
+fn ending(rt: &impl Print, outcome: Outcome, reason: u8) {
+    reply_with(rt, CallResult::Outcome(OutcomeParameters {
         outcome,
         reason,
         cvm: NOT_APPLICABLE,
     }));
 }
 
-fn outcomes() {
-    ending(Outcome::Approved, 0);
-    ending(Outcome::OnlineRequest, 0);
-    ending(Outcome::Declined, 0);
-    ending(Outcome::Ended, 1);
-    ending(Outcome::SelectNext, 6);
+fn outcomes(rt: &impl Print) {
+    ending(rt, Outcome::Approved, 0);
+    ending(rt, Outcome::OnlineRequest, 0);
+    ending(rt, Outcome::Declined, 0);
+    ending(rt, Outcome::Ended, 1);
+    ending(rt, Outcome::SelectNext, 6);
 }
 
 // Every reason with its outcome, and a number that is no reason.
-fn reasons() {
+fn reasons(rt: &impl Print) {
     for reason in 1..13u8 {
-        ending(session_record::outcome_of_nonzero_reason(reason), reason);
+        ending(rt, session_record::outcome_of_nonzero_reason(reason), reason);
     }
 }
 
 // Every CVM with an approval, and the numbers beside them.
-fn cvms() {
+fn cvms(rt: &impl Print) {
     let outcome = Outcome::Approved;
     for cvm in 0..17u8 {
-        reply_with(CallResult::Outcome(OutcomeParameters {
+        reply_with(rt, CallResult::Outcome(OutcomeParameters {
             outcome,
             reason: 0,
             cvm,
@@ -57,17 +57,17 @@ fn cvms() {
 }
 
 // Every refusal, and the numbers beside them.
-fn refusals() {
+fn refusals(rt: &impl Print) {
     for number in 19..27u8 {
-        reply_with(CallResult::Refused(Refusal { number }));
+        reply_with(rt, CallResult::Refused(Refusal { number }));
     }
 }
 
 // The name of every known tag.
-fn names() {
+fn names(rt: &impl Print) {
     let mut store = [0u8; SIZE];
     for row in 0..ROWS {
         store::put(&mut store, row, b"");
     }
-    print::print_objects_without_bits(&store);
+    print::print_objects_without_bits(rt, &store);
 }

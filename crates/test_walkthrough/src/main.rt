@@ -3,16 +3,16 @@
 
 use session_record::{CallResult, Phase, Reply};
 
-fn main() {
-    decisions();
-    cvms();
-    phones();
-    stripes();
-    card_reasons();
-    later_reasons();
-    broken_off();
-    refusals();
-    longest();
+fn main(rt: HostRuntime) {
+    decisions(&rt);
+    cvms(&rt);
+    phones(&rt);
+    stripes(&rt);
+    card_reasons(&rt);
+    later_reasons(&rt);
+    broken_off(&rt);
+    refusals(&rt);
+    longest(&rt);
 }
 
 // ---- the steps of a session
@@ -34,79 +34,79 @@ fn terminal(kind: u8, hundreds: u8) -> [u8; 123] {
 }
 
 // A start of a fresh session, shown.
-fn begin(kind: u8, hundreds: u8) -> Reply {
-    configured(0x20, kind, hundreds)
+fn begin(rt: &impl Print, kind: u8, hundreds: u8) -> Reply {
+    configured(rt, 0x20, kind, hundreds)
 }
 
 // The same with another Kernel Configuration.
-fn configured(configuration: u8, kind: u8, hundreds: u8) -> Reply {
+fn configured(rt: &impl Print, configuration: u8, kind: u8, hundreds: u8) -> Reply {
     let mut command = [0u8; 261];
     let mut bytes = terminal(kind, hundreds);
     bytes[48] = configuration;
     let reply = session::start(session_record::fresh_session(), &bytes, &mut command);
-    print::print_reply_with_cvm(reply, &command);
+    print::print_reply_with_cvm(rt, reply, &command);
     reply
 }
 
 // The card's answer to a command, shown; nothing where no command was handed out.
-fn next(reply: Reply, card: &[u8]) -> Reply {
+fn next(rt: &impl Print, reply: Reply, card: &[u8]) -> Reply {
     let last = reply.answer;
     let CallResult::Command(_) = last else {
         return reply;
     };
     let mut command = [0u8; 261];
     let after = session::answer(reply.session, card, &mut command);
-    print::print_reply_with_cvm(after, &command);
+    print::print_reply_with_cvm(rt, after, &command);
     after
 }
 
 // A purchase with one record, to its outcome.
-fn purchase(kind: u8, hundreds: u8, gpo: &[u8], record: &[u8], cryptogram: &[u8]) {
-    let started = begin(kind, hundreds);
-    let asked = next(started, gpo);
-    let read = next(asked, record);
-    next(read, cryptogram);
+fn purchase(rt: &impl Print, kind: u8, hundreds: u8, gpo: &[u8], record: &[u8], cryptogram: &[u8]) {
+    let started = begin(rt, kind, hundreds);
+    let asked = next(rt, started, gpo);
+    let read = next(rt, asked, record);
+    next(rt, read, cryptogram);
 }
 
 // A purchase of 12.34 on a terminal of type 22, up to its record.
-fn reads(gpo: &[u8], record: &[u8]) {
-    purchase(0x22, 0, gpo, record, b"\x90\x00");
+fn reads(rt: &impl Print, gpo: &[u8], record: &[u8]) {
+    purchase(rt, 0x22, 0, gpo, record, b"\x90\x00");
 }
 
 // ---- decisions
 
-fn decisions() {
+fn decisions(rt: &impl Print) {
     let gpo = b"\x80\x06\x00\x80\x08\x01\x01\x00\x90\x00";
     let online =
         b"\x70\x14\x5F\x24\x03\x30\x12\x31\x5A\x08\x47\x61\x73\x90\x01\x01\x00\x10\x8C\x02\x95\x05\x90\x00";
     let offline =
         b"\x70\x1C\x5F\x24\x03\x30\x12\x31\x5A\x08\x47\x61\x73\x90\x01\x01\x00\x10\x8C\x02\x95\x05\x9F\x0F\x05\x00\x00\x00\x00\x00\x90\x00";
-    print::print_text(b"approved offline\n");
-    purchase(
+    print::print_text(rt, b"approved offline\n");
+    purchase(rt, 
         0x22,
         0,
         gpo,
         offline,
         b"\x80\x0B\x40\x00\x01\x01\x02\x03\x04\x05\x06\x07\x08\x90\x00",
     );
-    print::print_text(b"sent online\n");
-    purchase(
+    print::print_text(rt, b"sent online\n");
+    purchase(rt, 
         0x22,
         0,
         gpo,
         online,
         b"\x80\x0B\x80\x00\x01\x01\x02\x03\x04\x05\x06\x07\x08\x90\x00",
     );
-    print::print_text(b"declined by the terminal\n");
-    purchase(
+    print::print_text(rt, b"declined by the terminal\n");
+    purchase(rt, 
         0x23,
         0,
         gpo,
         online,
         b"\x80\x0B\x00\x00\x01\x01\x02\x03\x04\x05\x06\x07\x08\x90\x00",
     );
-    print::print_text(b"declined by the card\n");
-    purchase(
+    print::print_text(rt, b"declined by the card\n");
+    purchase(rt, 
         0x22,
         0,
         gpo,
@@ -118,37 +118,37 @@ fn decisions() {
 // ---- CVMs
 
 // 82 indicates that the card supports verification; 8C requests 95 and 9F34.
-fn cvms() {
-    print::print_text(b"online PIN\n");
-    verified(
+fn cvms(rt: &impl Print) {
+    print::print_text(rt, b"online PIN\n");
+    verified(rt, 
         b"\x70\x25\x5F\x24\x03\x30\x12\x31\x5A\x08\x47\x61\x73\x90\x01\x01\x00\x10\x8C\x05\x95\x05\x9F\x34\x03\x8E\x0C\x00\x00\x00\x00\x00\x00\x00\x00\x42\x03\x5E\x03\x90\x00",
     );
-    print::print_text(b"signature\n");
-    verified(
+    print::print_text(rt, b"signature\n");
+    verified(rt, 
         b"\x70\x23\x5F\x24\x03\x30\x12\x31\x5A\x08\x47\x61\x73\x90\x01\x01\x00\x10\x8C\x05\x95\x05\x9F\x34\x03\x8E\x0A\x00\x00\x00\x00\x00\x00\x00\x00\x5E\x03\x90\x00",
     );
-    print::print_text(b"no list\n");
-    verified(
+    print::print_text(rt, b"no list\n");
+    verified(rt, 
         b"\x70\x17\x5F\x24\x03\x30\x12\x31\x5A\x08\x47\x61\x73\x90\x01\x01\x00\x10\x8C\x05\x95\x05\x9F\x34\x03\x90\x00",
     );
-    print::print_text(b"a list that fails\n");
-    verified(
+    print::print_text(rt, b"a list that fails\n");
+    verified(rt, 
         b"\x70\x23\x5F\x24\x03\x30\x12\x31\x5A\x08\x47\x61\x73\x90\x01\x01\x00\x10\x8C\x05\x95\x05\x9F\x34\x03\x8E\x0A\x00\x00\x00\x00\x00\x00\x00\x00\x00\x00\x90\x00",
     );
-    print::print_text(b"reason 7 after the choice of the method\n");
-    verified(
+    print::print_text(rt, b"reason 7 after the choice of the method\n");
+    verified(rt, 
         b"\x70\x1F\x5F\x24\x03\x30\x12\x31\x5A\x08\x47\x61\x73\x90\x01\x01\x00\x10\x8C\x01\x95\x8E\x0A\x00\x00\x00\x00\x00\x00\x00\x00\x5E\x03\x90\x00",
     );
-    print::print_text(b"a failed link after the choice of the method\n");
-    unlinked(
+    print::print_text(rt, b"a failed link after the choice of the method\n");
+    unlinked(rt, 
         b"\x70\x23\x5F\x24\x03\x30\x12\x31\x5A\x08\x47\x61\x73\x90\x01\x01\x00\x10\x8C\x05\x95\x05\x9F\x34\x03\x8E\x0A\x00\x00\x00\x00\x00\x00\x00\x00\x5E\x03\x90\x00",
     );
 }
 
 // A purchase that the card sends online.
-fn verified(record: &[u8]) {
+fn verified(rt: &impl Print, record: &[u8]) {
     let gpo = b"\x80\x06\x10\x80\x08\x01\x01\x00\x90\x00";
-    purchase(
+    purchase(rt, 
         0x22,
         0,
         gpo,
@@ -158,42 +158,42 @@ fn verified(record: &[u8]) {
 }
 
 // A purchase whose link fails after its record.
-fn unlinked(record: &[u8]) {
+fn unlinked(rt: &impl Print, record: &[u8]) {
     let mut command = [0u8; 261];
-    let started = begin(0x22, 0);
-    let asked = next(started, b"\x80\x06\x10\x80\x08\x01\x01\x00\x90\x00");
-    let read = next(asked, record);
+    let started = begin(rt, 0x22, 0);
+    let asked = next(rt, started, b"\x80\x06\x10\x80\x08\x01\x01\x00\x90\x00");
+    let read = next(rt, asked, record);
     let failed = session::link_failed(read.session, &mut command);
-    print::print_reply_with_cvm(failed, &command);
+    print::print_reply_with_cvm(rt, failed, &command);
 }
 
 // ---- on-device CVM
 
 // 82 indicates a device with on-device CVM, and 8E requests an online PIN.
-fn phones() {
+fn phones(rt: &impl Print) {
     let record =
         b"\x70\x23\x5F\x24\x03\x30\x12\x31\x5A\x08\x47\x61\x73\x90\x01\x01\x00\x10\x8C\x05\x95\x05\x9F\x34\x03\x8E\x0A\x00\x00\x00\x00\x00\x00\x00\x00\x42\x00\x90\x00";
-    print::print_text(b"a phone, 12.34\n");
-    limited(0, b"\x80\x06\x12\x80\x08\x01\x01\x00\x90\x00", record);
-    print::print_text(b"a phone, 412.34\n");
-    limited(4, b"\x80\x06\x12\x80\x08\x01\x01\x00\x90\x00", record);
-    print::print_text(b"a card, 412.34\n");
-    limited(4, b"\x80\x06\x10\x80\x08\x01\x01\x00\x90\x00", record);
-    print::print_text(b"a phone, 512.34\n");
-    limited(5, b"\x80\x06\x12\x80\x08\x01\x01\x00\x90\x00", record);
+    print::print_text(rt, b"a phone, 12.34\n");
+    limited(rt, 0, b"\x80\x06\x12\x80\x08\x01\x01\x00\x90\x00", record);
+    print::print_text(rt, b"a phone, 412.34\n");
+    limited(rt, 4, b"\x80\x06\x12\x80\x08\x01\x01\x00\x90\x00", record);
+    print::print_text(rt, b"a card, 412.34\n");
+    limited(rt, 4, b"\x80\x06\x10\x80\x08\x01\x01\x00\x90\x00", record);
+    print::print_text(rt, b"a phone, 512.34\n");
+    limited(rt, 5, b"\x80\x06\x12\x80\x08\x01\x01\x00\x90\x00", record);
 }
 
 // A purchase that the card sends online, with the limit that is held after GPO.
-fn limited(hundreds: u8, gpo: &[u8], record: &[u8]) {
-    let started = begin(0x22, hundreds);
-    let asked = next(started, gpo);
+fn limited(rt: &impl Print, hundreds: u8, gpo: &[u8], record: &[u8]) {
+    let started = begin(rt, 0x22, hundreds);
+    let asked = next(rt, started, gpo);
     let session = asked.session;
     let phase = session.phase;
-    print::print_text(b"waiting on the record");
-    print::print_transaction_limit_of_phase(phase);
-    print::print_text(b"\n");
-    let read = next(asked, record);
-    next(
+    print::print_text(rt, b"waiting on the record");
+    print::print_transaction_limit_of_phase(rt, phase);
+    print::print_text(rt, b"\n");
+    let read = next(rt, asked, record);
+    next(rt, 
         read,
         b"\x80\x0B\x80\x00\x01\x01\x02\x03\x04\x05\x06\x07\x08\x90\x00",
     );
@@ -202,29 +202,29 @@ fn limited(hundreds: u8, gpo: &[u8], record: &[u8]) {
 // ---- old magnetic stripe cards
 
 // 82 indicates that the card has no EMV mode: the checksum follows the record, and the digits go into the track.
-fn stripes() {
+fn stripes(rt: &impl Print) {
     let record =
         b"\x70\x24\x9F\x6B\x13\x54\x13\x12\x34\x56\x78\x48\x00\xD2\x51\x21\x01\x00\x00\x00\x00\x00\x00\x0F\x9F\x65\x02\x00\x0E\x9F\x66\x02\x0F\xF0\x9F\x67\x01\x04\x90\x00";
     let unsound =
         b"\x70\x24\x9F\x6B\x13\x54\x13\x12\x34\x56\x78\x48\x00\xD2\x51\x21\x01\x00\x00\x00\x00\x00\x00\x0F\x9F\x65\x02\x00\x0E\x9F\x66\x02\x2F\xF0\x9F\x67\x01\x05\x90\x00";
     let both = b"\x77\x0A\x9F\x36\x02\x00\x2A\x9F\x61\x02\x1F\x35\x90\x00";
-    print::print_text(b"an old magnetic stripe card\n");
-    striped(record, both);
-    print::print_text(b"without its code\n");
-    striped(record, b"\x77\x05\x9F\x36\x02\x00\x2A\x90\x00");
-    print::print_text(b"a track that cannot take the digits\n");
-    striped(unsound, both);
+    print::print_text(rt, b"an old magnetic stripe card\n");
+    striped(rt, record, both);
+    print::print_text(rt, b"without its code\n");
+    striped(rt, record, b"\x77\x05\x9F\x36\x02\x00\x2A\x90\x00");
+    print::print_text(rt, b"a track that cannot take the digits\n");
+    striped(rt, unsound, both);
 }
 
 // A purchase with such a card, and the track that it leaves.
-fn striped(record: &[u8], checksum: &[u8]) {
-    let started = begin(0x22, 0);
-    let asked = next(started, b"\x80\x06\x00\x00\x08\x01\x01\x00\x90\x00");
-    let read = next(asked, record);
-    let ended = next(read, checksum);
+fn striped(rt: &impl Print, record: &[u8], checksum: &[u8]) {
+    let started = begin(rt, 0x22, 0);
+    let asked = next(rt, started, b"\x80\x06\x00\x00\x08\x01\x01\x00\x90\x00");
+    let read = next(rt, asked, record);
+    let ended = next(rt, read, checksum);
     let session = ended.session;
     let store = session.store;
-    print::print_object_line(
+    print::print_object_line(rt, 
         0x9F6B,
         store::value(&store.bytes, dictionary::ROW_TRACK2_DATA),
     );
@@ -233,37 +233,37 @@ fn striped(record: &[u8], checksum: &[u8]) {
 // ---- reasons
 
 // Reasons 1 to 5 and 11: what the card answered to GPO and to the record.
-fn card_reasons() {
+fn card_reasons(rt: &impl Print) {
     let gpo = b"\x80\x06\x00\x80\x08\x01\x01\x00\x90\x00";
-    print::print_text(b"reason 1\n");
-    reads(b"\x69\x85", b"\x90\x00");
-    print::print_text(b"reason 2\n");
-    reads(gpo, b"\x70\x80\x00\x00\x90\x00");
-    print::print_text(b"reason 3\n");
-    reads(gpo, b"\x70\x03\x95\x01\x00\x90\x00");
-    print::print_text(b"reason 4\n");
-    reads(gpo, b"\x70\x00\x90\x00");
-    print::print_text(b"reason 5\n");
-    reads(b"\x80\x06\x00\x80\x00\x01\x01\x00\x90\x00", b"\x90\x00");
-    print::print_text(b"reason 11\n");
-    let off = configured(0xA0, 0x22, 0);
-    next(off, b"\x80\x06\x00\x00\x08\x01\x01\x00\x90\x00");
+    print::print_text(rt, b"reason 1\n");
+    reads(rt, b"\x69\x85", b"\x90\x00");
+    print::print_text(rt, b"reason 2\n");
+    reads(rt, gpo, b"\x70\x80\x00\x00\x90\x00");
+    print::print_text(rt, b"reason 3\n");
+    reads(rt, gpo, b"\x70\x03\x95\x01\x00\x90\x00");
+    print::print_text(rt, b"reason 4\n");
+    reads(rt, gpo, b"\x70\x00\x90\x00");
+    print::print_text(rt, b"reason 5\n");
+    reads(rt, b"\x80\x06\x00\x80\x00\x01\x01\x00\x90\x00", b"\x90\x00");
+    print::print_text(rt, b"reason 11\n");
+    let off = configured(rt, 0xA0, 0x22, 0);
+    next(rt, off, b"\x80\x06\x00\x00\x08\x01\x01\x00\x90\x00");
 }
 
 // Reasons 6 to 8: the limit, CDOL1, and the cryptogram's type.
-fn later_reasons() {
+fn later_reasons(rt: &impl Print) {
     let gpo = b"\x80\x06\x00\x80\x08\x01\x01\x00\x90\x00";
     let record =
         b"\x70\x14\x5F\x24\x03\x30\x12\x31\x5A\x08\x47\x61\x73\x90\x01\x01\x00\x10\x8C\x02\x95\x05\x90\x00";
-    print::print_text(b"reason 6\n");
-    purchase(0x22, 2, gpo, record, b"\x90\x00");
-    print::print_text(b"reason 7\n");
-    reads(
+    print::print_text(rt, b"reason 6\n");
+    purchase(rt, 0x22, 2, gpo, record, b"\x90\x00");
+    print::print_text(rt, b"reason 7\n");
+    reads(rt, 
         gpo,
         b"\x70\x13\x5F\x24\x03\x30\x12\x31\x5A\x08\x47\x61\x73\x90\x01\x01\x00\x10\x8C\x01\x95\x90\x00",
     );
-    print::print_text(b"reason 8\n");
-    purchase(
+    print::print_text(rt, b"reason 8\n");
+    purchase(rt, 
         0x22,
         0,
         gpo,
@@ -273,40 +273,40 @@ fn later_reasons() {
 }
 
 // Reasons 9 and 10: the link fails, the terminal stops.
-fn broken_off() {
+fn broken_off(rt: &impl Print) {
     let mut command = [0u8; 261];
-    print::print_text(b"reason 9\n");
-    let linked = begin(0x22, 0);
+    print::print_text(rt, b"reason 9\n");
+    let linked = begin(rt, 0x22, 0);
     let failed = session::link_failed(linked.session, &mut command);
-    print::print_reply_with_cvm(failed, &command);
-    print::print_text(b"reason 10\n");
-    let started = begin(0x22, 0);
+    print::print_reply_with_cvm(rt, failed, &command);
+    print::print_text(rt, b"reason 10\n");
+    let started = begin(rt, 0x22, 0);
     let stopped = session::stop(started.session, &mut command);
-    print::print_reply_with_cvm(stopped, &command);
+    print::print_reply_with_cvm(rt, stopped, &command);
 }
 
 // ---- refusals
 
-fn refusals() {
+fn refusals(rt: &impl Print) {
     let mut command = [0u8; 261];
-    print::print_text(b"a template in the start bytes\n");
-    print::print_reply_with_cvm(
+    print::print_text(rt, b"a template in the start bytes\n");
+    print::print_reply_with_cvm(rt, 
         session::start(session_record::fresh_session(), b"\xE1\x00", &mut command),
         &command,
     );
-    print::print_text(b"an answer to a fresh session\n");
-    print::print_reply_with_cvm(
+    print::print_text(rt, b"an answer to a fresh session\n");
+    print::print_reply_with_cvm(rt, 
         session::answer(session_record::fresh_session(), b"\x90\x00", &mut command),
         &command,
     );
-    print::print_text(b"a command buffer of 260 bytes\n");
+    print::print_text(rt, b"a command buffer of 260 bytes\n");
     let mut short = [0u8; 260];
-    print::print_reply_with_cvm(
+    print::print_reply_with_cvm(rt, 
         session::start(session_record::fresh_session(), b"", &mut short),
         &short,
     );
-    print::print_text(b"result bits in the start bytes\n");
-    print::print_reply_with_cvm(
+    print::print_text(rt, b"result bits in the start bytes\n");
+    print::print_reply_with_cvm(rt, 
         session::start(
             session_record::fresh_session(),
             b"\x95\x05\x00\x00\x00\x00\x00",
@@ -314,41 +314,39 @@ fn refusals() {
         ),
         &command,
     );
-    print::print_text(b"no start bytes\n");
-    print::print_reply_with_cvm(
+    print::print_text(rt, b"no start bytes\n");
+    print::print_reply_with_cvm(rt, 
         session::start(session_record::fresh_session(), b"", &mut command),
         &command,
     );
-    print::print_text(b"a fresh session with a count of 1\n");
+    print::print_text(rt, b"a fresh session with a count of 1\n");
     let broken = session_record::session_in_phase_with_count(
         session_record::fresh_session(),
         Phase::Fresh,
         1,
     );
-    print::print_reply_with_cvm(session::start(broken, b"", &mut command), &command);
+    print::print_reply_with_cvm(rt, session::start(broken, b"", &mut command), &command);
 }
 
 // ---- the longest session: 128 records
 
-fn longest() {
-    print::print_text(b"128 records\n");
-    let started = begin(0x22, 0);
-    let mut reply = next(started, b"\x80\x06\x00\x80\x08\x01\x80\x00\x90\x00");
-    let mut k: usize = 0;
-    while k < 127 {
-        reply = next(reply, b"\x70\x00\x90\x00");
-        k += 1;
+fn longest(rt: &impl Print) {
+    print::print_text(rt, b"128 records\n");
+    let started = begin(rt, 0x22, 0);
+    let mut reply = next(rt, started, b"\x80\x06\x00\x80\x08\x01\x80\x00\x90\x00");
+    for _ in 0..127u8 {
+        reply = next(rt, reply, b"\x70\x00\x90\x00");
     }
-    reply = next(
+    reply = next(rt, 
         reply,
         b"\x70\x14\x5F\x24\x03\x30\x12\x31\x5A\x08\x47\x61\x73\x90\x01\x01\x00\x10\x8C\x02\x95\x05\x90\x00",
     );
-    reply = next(
+    reply = next(rt, 
         reply,
         b"\x80\x0B\x80\x00\x01\x01\x02\x03\x04\x05\x06\x07\x08\x90\x00",
     );
     let session = reply.session;
-    print::print_text(b"commands handed out: ");
-    print::print_number(basics::widen(session_record::command_count(session)));
-    print::print_text(b"\n");
+    print::print_text(rt, b"commands handed out: ");
+    print::print_number(rt, basics::widen(session_record::command_count(session)));
+    print::print_text(rt, b"\n");
 }

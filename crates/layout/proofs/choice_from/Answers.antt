@@ -10,13 +10,10 @@ pub returns-then-p1-eq64 : goal.returns-then-p1-eq64
 unfolding element_with_number
 returns-then-p1-eq64 c = sym (if_yes _ _ (eq-eqb _ _ c.if-p1-eq64.true))
 
-
 pub returns-then-p1-eq128 : goal.returns-then-p1-eq128
 unfolding element_with_number
 returns-then-p1-eq128 c = sym (if_no _ _ (ne_eqb _ _ c.if-p1-eq64.false) ∙ if_yes _ _ (eq-eqb _ _ c.if-p1-eq128.true))
 
-
 pub returns : goal.returns
 unfolding element_with_number
 returns c = sym (if_no _ _ (ne_eqb _ _ c.if-p1-eq64.false) ∙ if_no _ _ (ne_eqb _ _ c.if-p1-eq128.false))
-

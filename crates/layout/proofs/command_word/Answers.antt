@@ -1,6 +1,5 @@
 -- `layout::command_word` meets its contract: the length, and the most that a word reports for one above it.
 -- Assumes nothing.
-use borrow.Author.Rules.{rules}
 use native.Mathlib.Omega.{arith}
 use Rattle.layout.specs.Word.{command_word}
 use Rattle.layout.proofs.command_word.Goals as goal
@@ -9,8 +8,6 @@ pub returns-then-size-gt-MOST_LENGTH : goal.returns-then-size-gt-MOST_LENGTH
 unfolding command_word
 returns-then-size-gt-MOST_LENGTH c = omega arith
 
-
 pub returns : goal.returns
 unfolding command_word
 returns c = omega arith
-

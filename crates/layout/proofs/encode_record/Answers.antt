@@ -1,13 +1,12 @@
 -- `layout::encode_record` meets its contract: the head is written and the store is copied whole after it.
 -- Assumes nothing.
-use borrow.Author.Rules.{rules}
 use borrow.Author.Tests.{lt-leb, le-leb}
 use mathlib.Core.Path.{sym, ap, ◌∙◌}
 use mathlib.Core.List.{List}
 use Prim.Native.Nat.{ℕ}
 use native.Mathlib.Omega.{arith}
 use lib.ListN.{length, take, drop, length-take, length-drop}
-use borrow.Rule.Slice.PartMut.{put_mid, same_len_mid}
+use borrow.Rule.Slice.PartMut.{put_mid}
 use Rattle.basics.proofs.Laws.{if_no}
 use Rattle.dictionary.specs.Rows.{store_size}
 use Rattle.store.proofs.Laws.{copied}
@@ -19,7 +18,6 @@ pub returns-then-bytes-lt-RECORD_SIZE : goal.returns-then-bytes-lt-RECORD_SIZE
 unfolding session_written_over_front_if_room
 returns-then-bytes-lt-RECORD_SIZE c = let f = lt-leb _ _ c.if-bytes-lt-RECORD_SIZE.true in record { enough = sym f; bytes = sym (if_no _ _ f) }
 
-
 pub slice_bounds-copy-end-2 : goal.slice_bounds-copy-end-2
 slice_bounds-copy-end-2 c =
     let a = c.args in
@@ -29,30 +27,16 @@ slice_bounds-copy-end-2 c =
           a.phase a.count,
     )
 
-
 pub copy-requires : goal.copy-requires
 copy-requires c =
-    
     let a = c.args in
     let z = ap length c.write_record_head.ensures ∙ headed_length a.bytes.now
     a.phase a.count in
     let p = c.requires in
     simp (length-take, length-drop) (omega arith)
 
-
-pub shape_of-bytes : goal.shape_of-bytes
-shape_of-bytes c =
-    let a = c.args in
-    same_len_mid record_head_size store_size
-    c.write_record_head.new.bytes
-    c.copy.new.dst c.bytes-2-1.given.0 ∙ ap length
-    c.write_record_head.ensures ∙ headed_length
-    a.bytes.now a.phase a.count
-
-
 pub returns : goal.returns
 returns c =
-    
     let a = c.args in
     let e = c.write_record_head.ensures in
     let h = c.if-bytes-lt-RECORD_SIZE.false in
@@ -69,4 +53,3 @@ returns c =
           (put_mid record_head_size store_size (record_head_written_over_front_if_room a.phase a.count a.bytes.now)) w ∙
           put_store a.bytes.now a.store.now a.phase a.count h p;
     }
-

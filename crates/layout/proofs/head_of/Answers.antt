@@ -1,6 +1,5 @@
 -- `layout::head_of` meets its contract: six bytes as they are, and the limit's eight one by one (`eight_bytes`).
 -- Assumes nothing.
-use borrow.Author.Rules.{rules}
 use mathlib.Core.Path.{ap}
 use mathlib.Core.List.{List, ◌∷◌}
 use Prim.Native.Nat.{ℕ}
@@ -13,4 +12,3 @@ returns c =
     let k = c.args.code in
     ap (λ (x : List ℕ). layout_version ∷ k.number ∷ k.datum ∷ k.reason ∷ c.args.count ∷ k.cvm ∷ x)
     (eight_bytes k.limit)
-

@@ -6,4 +6,3 @@ use Rattle.layout.proofs.limit_from.Goals as goal
 
 pub returns : goal.returns
 returns c = by_halves _ (search rules) c.four-high.ensures.0 c.four-low.ensures.0
-

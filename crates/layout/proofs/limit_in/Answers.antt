@@ -1,6 +1,5 @@
 -- `layout::limit_in` meets its contract: the eight bytes are copied whole (`copied`).
 -- Assumes nothing.
-use borrow.Author.Rules.{rules}
 use native.Mathlib.Omega.{arith}
 use lib.ListN.{length-take, length-drop}
 use Rattle.store.proofs.Laws.{copied}
@@ -8,4 +7,3 @@ use Rattle.layout.proofs.limit_in.Goals as goal
 
 pub returns : goal.returns
 returns c = copied _ _ _ (simp (length-take, length-drop) (omega arith)) c.copy.ensures.1
-

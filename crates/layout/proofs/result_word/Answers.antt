@@ -1,6 +1,5 @@
 -- `layout::result_word` meets its contract: case by case.
 -- Assumes nothing.
-use borrow.Author.Rules.{rules}
 use mathlib.Core.Path.{sym, ap, ◌∙◌}
 use Rattle.layout.specs.Word.{result_word}
 use Rattle.layout.proofs.result_word.Goals as goal
@@ -8,11 +7,8 @@ use Rattle.layout.proofs.result_word.Goals as goal
 pub returns-in-Command : goal.returns-in-Command
 returns-in-Command c = c.command_word.ensures ∙ sym (ap result_word c.in-Command.is)
 
-
 pub returns-in-Outcome : goal.returns-in-Outcome
 returns-in-Outcome c = c.outcome_word.ensures ∙ sym (ap result_word c.in-Outcome.is)
 
-
 pub returns-in-Refused : goal.returns-in-Refused
 returns-in-Refused c = c.refusal_word.ensures ∙ sym (ap result_word c.in-Refused.is)
-

@@ -1,6 +1,5 @@
 -- `layout::write_record_head` meets its contract: the head is copied whole to the front (`copied`).
 -- Assumes nothing.
-use borrow.Author.Rules.{rules}
 use mathlib.Core.Path.{◌≡◌, sym, ap, ◌∙◌}
 use native.Mathlib.Omega.{arith}
 use lib.ListN.{length, length-take, length-drop}
@@ -14,12 +13,11 @@ use Rattle.layout.proofs.write_record_head.Goals as goal
 pub returns-then-bytes-lt-RECORD_SIZE : goal.returns-then-bytes-lt-RECORD_SIZE
 returns-then-bytes-lt-RECORD_SIZE c = let a = c.args in sym (headed_no a.bytes.now a.phase a.count c.if-bytes-lt-RECORD_SIZE.true)
 
-
 -- the whole head, and what lies after it
 pub returns : goal.returns
 returns c =
     let made : let a = c.args in c.head_of-head.result ≡ record_head_bytes (phase_fields_of a.phase) a.count =
-      let a = c.args in
+    let a = c.args in
     c.head_of-head.ensures ∙ ap (λ (x : PhaseFields). record_head_bytes x a.count) c.code_of.ensures in
     let a = c.args in
     let size : length c.head_of-head.result ≡ record_head_size = ap length (made) ∙ head_length
@@ -33,4 +31,3 @@ pub shape_of-bytes : goal.shape_of-bytes
 shape_of-bytes c =
     let a = c.args in
     ap length (returns c) ∙ headed_length a.bytes.now a.phase a.count
-

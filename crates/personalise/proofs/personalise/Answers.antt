@@ -1,8 +1,6 @@
 -- `personalise` meets its contract: one law for each way out, in the order of the refusals; what is promised beside the
 -- answer and the buffers follows from these.
 -- Assumes nothing.
-use borrow.Author.Rules.{rules}
-use borrow.Author.Tests.{not-true, not-false}
 use mathlib.Core.Path.{◌≡◌, sym, subst, ◌∙◌}
 use mathlib.Core.List.{List}
 use Prim.Native.Nat.{ℕ, ◌<◌}
@@ -59,8 +57,11 @@ returns-then-not-keeps c = let r = (let a = c.args in
     (afl_stays a.entries.now a.afl.now)) in record { said = r.0; wrote = r.1.0; located = r.1.1.0; small = r.1.1.1.0; reads = r.1.1.1.1 }
 
 pub with_list-requires : goal.with_list-requires
-with_list-requires c = let a = c.args in record { are_objects_allowed_in_record = usable a.objects.now (placements_in a.placements.now)
-          (sym c.keeps.ensures ∙ c.if-not-keeps.false); records_and_afl_buffers_large_enough = (c.if-records-lt-RECORDS_ROOM.false, c.if-afl-lt-AFL_ROOM.false) }
+with_list-requires c = let a = c.args in record {
+  are_objects_allowed_in_record = usable a.objects.now (placements_in a.placements.now)
+      (sym c.keeps.ensures ∙ c.if-not-keeps.false);
+  records_and_afl_buffers_large_enough = (c.if-records-lt-RECORDS_ROOM.false, c.if-afl-lt-AFL_ROOM.false);
+}
 
 pub returns : goal.returns
 returns c = let r = (let a = c.args in

@@ -1,6 +1,5 @@
 -- `word` meets its contract: case by case; the numbers are small enough that nothing wraps.
 -- Assumes nothing.
-use borrow.Author.Rules.{rules}
 use mathlib.Core.Path.{ap, subst}
 use native.Mathlib.Omega.{arith}
 use Rattle.personalise.specs.Word.{PersonaliseFieldsWithinBounds, personalise_word}

@@ -1,6 +1,5 @@
 -- `write_all` meets its contract: 128 records of 256 bytes fit the one buffer, and 248 bytes the other.
 -- Assumes nothing.
-use borrow.Author.Rules.{rules}
 use mathlib.Core.Path.{◌≡◌, refl, sym, ap, ◌∙◌}
 use mathlib.Core.List.{List}
 use Prim.Native.Nat.{ℕ}
@@ -26,6 +25,10 @@ returns c = let a = c.args in
     let q = c.put_records-size.ensures in
     let b : ℕ → List ℕ = λ n. concatenated_first_records (parsed_objects_or_empty a.objects.now)
     (placements_in a.placements.now) n in
-    let e : b a.count ≡ b (afl_record_count a.entries.now) = ap b c.requires.count_value.0 in record { said = ap (λ (n : ℕ). Written (record { records = n; afl = length a.entries.now }))
-          (q.next ∙ zero-add _ ∙ ap length e); wrote = q.wrote ∙ over-front a.records.now (b a.count) ∙ ap
-            (λ (v : List ℕ). written_over_front v a.records.now) e ∙ sym (if_yes _ _ refl); located = afl_copied a.entries.now a.afl.now _ c.copy.ensures.1 }
+    let e : b a.count ≡ b (afl_record_count a.entries.now) = ap b c.requires.count_value.0 in record {
+      said = ap (λ (n : ℕ). Written (record { records = n; afl = length a.entries.now }))
+          (q.next ∙ zero-add _ ∙ ap length e);
+      wrote = q.wrote ∙ over-front a.records.now (b a.count) ∙ ap
+          (λ (v : List ℕ). written_over_front v a.records.now) e ∙ sym (if_yes _ _ refl);
+      located = afl_copied a.entries.now a.afl.now _ c.copy.ensures.1;
+    }

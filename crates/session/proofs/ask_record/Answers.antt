@@ -12,5 +12,5 @@ use Rattle.session.proofs.ask_record.Goals as goal
 
 pub returns : goal.returns
 returns c = let a = c.args in
-    let w = wrote_yes _ _ a.wanted a.command.now c.read_record-size.ensures (omega arith)
+    let w = wrote_yes _ _ a.wanted a.command.now (c.read_record-size.ensures.said, c.read_record-size.ensures.kept) (omega arith)
     c.requires.sfi_bound in record { transition = c.issue_command.ensures ∙ ap (command_transition (AwaitedResponse.Record a.place) (a.count + 1)) w.0; buffer = w.1 }

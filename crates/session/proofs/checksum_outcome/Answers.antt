@@ -12,13 +12,13 @@ use Rattle.session.proofs.Laws.{did_end, is_passed, is_failed, counter_missing, 
 use Rattle.session.proofs.checksum_outcome.Goals as goal
 
 pub returns-in_default : goal.returns-in_default
-returns-in_default c = did_end _ _ _ c.fail_session.ensures
+returns-in_default c buf = did_end _ _ _ c.fail_session.ensures
     (counter_missing _ (is_failed _ (omega arith) c.atc_present.ensures
     c.in_default.is))
 
 
 pub returns-then-not-is_present : goal.returns-then-not-is_present
-returns-then-not-is_present c =
+returns-then-not-is_present c buf =
     let counted : has_object c.args.store.now 0x9F36 ≡ true =
       is_passed _ (omega arith) c.atc_present.ensures c.in-Passed.is in
     did_end _ _ _ c.end_session.ensures
@@ -26,7 +26,7 @@ returns-then-not-is_present c =
     (held_is _ _ _ at_9f61 c.is_present.ensures c.if-not-is_present.true))
 
 pub returns : goal.returns
-returns c =
+returns c buf =
     let counted : has_object c.args.store.now 0x9F36 ≡ true =
       is_passed _ (omega arith) c.atc_present.ensures c.in-Passed.is in
     did_end _ _ _ c.end_session-2.ensures

@@ -21,7 +21,7 @@ use Rattle.session.proofs.Laws.{cryptogram_decided}
 use Rattle.session.proofs.cryptogram_outcome.Goals as goal
 
 pub returns-in_default : goal.returns-in_default
-returns-in_default c =
+returns-in_default c buf =
     let a = c.args in
     did_end _ _ _ (c.fail_session.ensures ∙ ap (λ (m : ℕ). failing_transition m a.count reason_object_missing)
     c.requested_cvm.ensures)
@@ -32,7 +32,7 @@ returns-in_default c =
 
 
 pub returns-in_default-outcome_for_cryptogram_type : goal.returns-in_default-outcome_for_cryptogram_type
-returns-in_default-outcome_for_cryptogram_type c =
+returns-in_default-outcome_for_cryptogram_type c buf =
     let concludes : (o : Option Outcome) → let a = c.args in outcome_for_cryptogram_type a.asked.choice (c.byte_at-kind.result / 64) ≡ o → next_after_cryptogram_read a.asked a.bytes.now ≡ end (ending_for_decision o) (cvm_number a.asked.cvm) a.bytes.now =
       λ o e. let a = c.args in
     
@@ -52,7 +52,7 @@ returns-in_default-outcome_for_cryptogram_type c =
     c.in_default-outcome_for_cryptogram_type.is))
 
 pub returns : goal.returns
-returns c =
+returns c buf =
     let concludes : (o : Option Outcome) → let a = c.args in outcome_for_cryptogram_type a.asked.choice (c.byte_at-kind.result / 64) ≡ o → next_after_cryptogram_read a.asked a.bytes.now ≡ end (ending_for_decision o) (cvm_number a.asked.cvm) a.bytes.now =
       λ o e. let a = c.args in
     

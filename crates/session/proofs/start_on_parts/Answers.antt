@@ -40,7 +40,7 @@ returns-in_default c =
     let a = c.args in
     did_without_command _ c.refuse_call-in_default.ensures
     (by_phase _ refl ∙ ap (step_of_effect (session_of a.phase a.count a.store.now)
-    a.command.now) (not_fresh a.phase _ _ c.in_default.in_default-own.keys2))
+    a.command.now) (not_fresh a.phase _ _ c.in_default.not-Fresh))
 
 pub load_objects-requires : goal.load_objects-requires
 load_objects-requires c = let ranged : let a = c.args in session_record_in_ranges (session_of a.phase a.count a.store.now) ≡ true =

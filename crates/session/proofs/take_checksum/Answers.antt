@@ -17,24 +17,24 @@ refuse_track-requires c = record { bytes_len = search rules; bytes_value = is_fa
       c.in_default.is }
 
 pub returns-in_default : goal.returns-in_default
-returns-in_default c = c.refuse_track.ensures buf
+returns-in_default c buf = c.refuse_track.ensures buf
 
 
 pub returns-in_default-verdict : goal.returns-in_default-verdict
 unfolding next_on_checksum_response
-returns-in_default-verdict c =
+returns-in_default-verdict c buf =
     let a =
     c.args in
     did_end _ _ _ (c.fail_session.ensures ∙ ap (failing_transition cvm_number_not_applicable a.count)
     c.verdict_number.ensures)
     (read_ends Awaited.Checksum cvm_number_not_applicable a.store.now a.card.now
     (next_if_track_takes_digits a.store.now) c.read_answer-read.ensures.given
-    c.in_default-verdict.in_default-verdict-own.keys2)
+    c.in_default-verdict.not-Accepted)
 
 
 pub returns : goal.returns
 unfolding next_on_checksum_response
-returns c =
+returns c buf =
     let sound : stored_track_can_take_digits c.args.store.now ≡ true =
       is_passed _ (omega arith) c.track_in.ensures c.in-Passed.is in
     let a =

@@ -12,18 +12,18 @@ use Rattle.session.proofs.take_cryptogram.Goals as goal
 
 pub returns-in_default : goal.returns-in_default
 unfolding next_on_cryptogram_response
-returns-in_default c =
+returns-in_default c buf =
     let a = c.args in
     did_end _ _ _ (c.fail_session.ensures ∙ ap₂ (λ (m n : ℕ). failing_transition m a.count n)
     c.requested_cvm.ensures c.verdict_number.ensures)
     (read_ends Awaited.Cryptogram (cvm_number a.asked.cvm) a.store.now a.card.now
     (next_after_cryptogram_read a.asked) c.read_answer-read.ensures.given
-    c.in_default.in_default-own.keys2)
+    c.in_default.not-Accepted)
 
 
 pub returns : goal.returns
 unfolding next_on_cryptogram_response
-returns c =
+returns c buf =
     let a = c.args in
     did_next _ _
     (read_goes Awaited.Cryptogram (cvm_number a.asked.cvm) a.store.now a.card.now

@@ -16,7 +16,7 @@ returns-in_default c =
     did_end _ _ _ (c.fail_session.ensures ∙ ap (failing_transition cvm_number_not_applicable a.count)
     c.verdict_number.ensures)
     (read_ends Awaited.Gpo cvm_number_not_applicable a.store.now a.card.now next_after_gpo_read
-    c.read_answer-read.ensures.given c.in_default.in_default-own.keys2)
+    c.read_answer-read.ensures.given c.in_default.not-Accepted)
 
 
 pub returns : goal.returns

@@ -37,18 +37,21 @@ returns-in_default-verdict c =
     c.in-At.is
     ∙ read_ends (Awaited.Record (record { number = c.in-At.asked.sfi })) cvm_number_not_applicable a.store.now a.card.now
     (next_after_record_read a.place) c.read_answer-read.ensures.given
-    c.in_default-verdict.in_default-verdict-own.keys2)
+    c.in_default-verdict.not-Accepted)
 
 pub returns : goal.returns
+unfolding next_on_record_response
 returns c =
-    let f =
-    c.before.before.before.before.before.before.before.before.before.before.before.before.before.before in
-    let w = f.found.given.0.0 in
+    let asked : (x : RecordFound) → let a = c.args in c.kth_record_of_accepted_afl-found.result ≡ x → next_on_record_response a.place a.store.now a.card.now ≡ next_on_response_for_record_found a.place a.store.now a.card.now x =
+      λ x e. let a = c.args in
+    ap (next_on_response_for_record_found a.place a.store.now a.card.now)
+    (found_as c.kth_record_of_accepted_afl-found.ensures e _ _ c.value.ensures
+    c.widen-k.ensures.0) in
+    let w = c.in-At.asked in
     let a =
     c.args in
     did_next _ _
-    (asked
-    c.before.before.before.before.before.before.before.before.before.before.before.before.before.before.before.before (RecordFound.At w) f.found.given.1
+    (asked (RecordFound.At w) c.in-At.is
     ∙ read_goes (Awaited.Record (record { number = w.sfi })) cvm_number_not_applicable a.store.now a.card.now
     (next_after_record_read a.place)
     c.read_answer-read.ensures.given

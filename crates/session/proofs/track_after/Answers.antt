@@ -21,11 +21,12 @@ copy-requires c = omega (
 
 
 pub returns : goal.returns
-returns c = let st = c.before.before.before.before.before.before.before.before.before.before.before.before.before
-    in
-    let v = c.value.ensures ∙
-    bytes_are _ _ _ at_9f6b in
-    let e = copied _ st.args.track.now _ (ap length v ∙ sym st.pre)
-    c.copy.ensures.1 ∙ v in
-    let p = c.put_digits.ensures in record { digits = p.digits ∙ (λ i. track_with_digits_if_possible (e i) (c.bitmaps_in-bitmaps.ensures i)
-          (c.values_in-values.ensures i)); sized = p.kept.size ∙ ap length e ∙ sym st.pre }
+returns c =
+    let v = c.value.ensures ∙ bytes_are _ _ _ at_9f6b in
+    let e = copied _ c.args.track.now _ (ap length v ∙ sym c.requires) c.copy.ensures.1 ∙ v in
+    let p = c.put_digits.ensures in
+    record {
+      digits =
+          p.digits ∙ (λ i. track_with_digits_if_possible (e i) (c.bitmaps_in-bitmaps.ensures i) (c.values_in-values.ensures i));
+      sized = p.kept.size ∙ ap length e ∙ sym c.requires;
+    }

@@ -1,5 +1,4 @@
 -- `test_reading::awaited_by_number`: by the store's size. Assumes nothing.
-use borrow.Author.Rules.{rules}
 use mathlib.Core.Path.{sym, ◌∙◌}
 use borrow.Author.Tests.{eq-eqb, ne_eqb}
 use Rattle.basics.proofs.Laws.{if_yes, if_no}
@@ -10,8 +9,6 @@ pub returns-then-size-ne-SIZE : goal.returns-then-size-ne-SIZE
 unfolding awaited_by_number_if_store_sized
 returns-then-size-ne-SIZE c = sym (if_no _ _ (ne_eqb _ _ c.if-size-ne-SIZE.true))
 
-
 pub returns : goal.returns
 unfolding awaited_by_number_if_store_sized
 returns c = c.wanted_of.ensures ∙ sym (if_yes _ _ (eq-eqb _ _ c.if-size-ne-SIZE.false))
-

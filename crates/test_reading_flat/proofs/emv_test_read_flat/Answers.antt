@@ -1,7 +1,6 @@
 -- `test_reading_flat::emv_test_read_flat` meets its contract: nothing is requested, or the answer is read,
 -- each by its law.
 -- Assumes nothing.
-use borrow.Author.Rules.{rules}
 use mathlib.Core.Path.{sym, ◌∙◌}
 use Rattle.test_reading.proofs.Laws.{asked_sized, unread, read}
 use Rattle.test_reading_flat.proofs.emv_test_read_flat.Goals as goal
@@ -9,11 +8,9 @@ use Rattle.test_reading_flat.proofs.emv_test_read_flat.Goals as goal
 pub returns-in_default : goal.returns-in_default
 returns-in_default c = unread _ _ _ _ (sym c.awaited_by_number-answer.ensures ∙ c.in_default.is)
 
-
 pub read_answer-reading-requires : goal.read_answer-reading-requires
 read_answer-reading-requires c = asked_sized _ _ _ _ (sym c.awaited_by_number-answer.ensures ∙
     c.in-Answer.is)
-
 
 pub returns : goal.returns
 returns c =
@@ -22,4 +19,3 @@ returns c =
     c.in-Answer.is)
     c.read_answer-reading.ensures.given c.read_answer-reading.ensures.half
     c.reading_word.ensures
-

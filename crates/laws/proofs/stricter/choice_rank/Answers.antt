@@ -1,6 +1,5 @@
 -- `choice_rank` meets its contract: choice by choice, and the laws are proofs/Laws'.
 -- Assumes nothing.
-use borrow.Author.Rules.{rules}
 use mathlib.Core.Path.{sym, ap}
 use Rattle.laws.specs.Rank.{choice_rank}
 use Rattle.laws.proofs.StricterLaws.{ranked, never_loosens, absent_codes}

@@ -1,6 +1,5 @@
 -- `contents::is_bad` meets its contract: a placement that strays, else the size.
 -- Assumes nothing.
-use borrow.Author.Rules.{rules}
 use mathlib.Core.Path.{sym, ◌∙◌}
 use Rattle.personalise.specs.Placements.{placements_in}
 use Rattle.personalise.specs.Objects.{parsed_objects_or_empty}
@@ -9,22 +8,16 @@ use Rattle.personalise.proofs.contents.is_bad.Goals as goal
 
 pub returns-then-is_misplaced : goal.returns-then-is_misplaced
 returns-then-is_misplaced c =
-    
-    
     let a = c.args in
     sym (bad_stray (parsed_objects_or_empty a.objects.now) (placements_in a.placements.now) a.records a.k
     a.count c.requires.count_value (sym c.is_misplaced.ensures ∙ c.if-is_misplaced.true))
-
 
 pub size-requires : goal.size-requires
 size-requires c = c.requires.objects_value
 
 pub returns : goal.returns
 returns c =
-    
-    
     let a = c.args in
     sym (bad_size (parsed_objects_or_empty a.objects.now) (placements_in a.placements.now) a.records a.k
     a.count c.requires.count_value (sym c.is_misplaced.ensures ∙ c.if-is_misplaced.false) c.size.result
     c.size.ensures)
-

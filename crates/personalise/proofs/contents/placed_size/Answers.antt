@@ -1,7 +1,5 @@
 -- `contents::placed_size` meets its contract: by whether the object is present.
 -- Assumes nothing.
-use borrow.Author.Rules.{rules}
-use borrow.Author.Tests.{not-true, not-false}
 use mathlib.Core.Path.{sym, ap, ◌∙◌}
 use Rattle.basics.proofs.Laws.{if_yes, if_no}
 use Rattle.personalise.specs.Inner.{size_capped_at254}

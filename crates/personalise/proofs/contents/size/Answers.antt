@@ -1,23 +1,13 @@
 -- `contents::size` meets its contract. The invariant: the size so far, at most 253, and that of what is left, which is
 -- a run, are that of the whole, up to the bound. The measure is the length of what is left. Assumes nothing.
-use borrow.Author.Rules.{rules}
 use mathlib.Core.Path.{◌≡◌, refl, sym, ◌∙◌}
-use mathlib.Core.Bool.{true}
-use Prim.Native.Nat.{◌+◌, ◌-◌, ◌≤◌}
 use native.Mathlib.Omega.{arith}
-use lib.ListN.{length}
 use Rattle.tlv.specs.declared.ObjectFront.TheVariants as front
-use Rattle.tlv.specs.Primitives.{primitive_at_front, primitive_objects, are_primitive_objects_parsed}
+use Rattle.tlv.specs.Primitives.{primitive_at_front}
 use Rattle.tlv.proofs.Laws.{HeaderFits}
 use Rattle.tlv.proofs.Primitives.{primitive_fits}
-use Rattle.tlv.proofs.primitive_at_front.Reads as primitive
-use Rattle.personalise.specs.Placements.{placements_in, objects_in_record_from}
-use Rattle.personalise.specs.Records.{encoded_objects}
-use Rattle.personalise.specs.Objects.{parsed_objects_or_empty}
-use Rattle.personalise.specs.Inner.{size_capped_at254}
+use Rattle.personalise.specs.Placements.{placements_in}
 use Rattle.personalise.proofs.Listed.{run_broken, rest-run, rest_less, size_on, size_end}
-use Rattle.personalise.proofs.contents.size.Reads as reads
-use Rattle.personalise.proofs.contents.placed_size.Reads as placed-size
 use Rattle.personalise.proofs.contents.size.Goals as goal
 
 pub loop-s-init : goal.loop-s-init
@@ -25,23 +15,21 @@ loop-s-init c = (refl, c.requires, omega arith, omega arith)
 
 pub returns-in_default : goal.returns-in_default
 returns-in_default c =
-    
     absurd (run_broken _ c.loop-s-test.true c.loop-s.invariant.1
     (sym c.primitive_at_front-front.ensures ∙ c.in_default.is))
-
 
 pub overflow_add-e : goal.overflow_add-e
 overflow_add-e c =
     let next-at : primitive_at_front c.loop-s.s.now ≡ front.Object c.in-Object.h =
-      sym c.primitive_at_front-front.ensures ∙ c.in-Object.is in
+    sym c.primitive_at_front-front.ensures ∙ c.in-Object.is in
     let fits-at : HeaderFits c.loop-s.s.now c.in-Object.h =
-      primitive_fits _ _ (next-at) in
+    primitive_fits _ _ (next-at) in
     let h = fits-at in omega (arith, c.loop-s.invariant.3)
 
 pub returns-then-total-gt-MOST : goal.returns-then-total-gt-MOST
 returns-then-total-gt-MOST c =
     let next-at : primitive_at_front c.loop-s.s.now ≡ front.Object c.in-Object.h =
-      sym c.primitive_at_front-front.ensures ∙ c.in-Object.is in
+    sym c.primitive_at_front-front.ensures ∙ c.in-Object.is in
     let lp = c.loop-s in
     let a = c.args in
     let e = size_on _ c.loop-s-test.true _ (next-at) lp.invariant.1 (placements_in a.placements.now)
@@ -54,29 +42,29 @@ overflow_add-number c = omega (arith, c.loop-s.invariant.3)
 pub slice_bounds-s-count : goal.slice_bounds-s-count
 slice_bounds-s-count c =
     let next-at : primitive_at_front c.loop-s.s.now ≡ front.Object c.in-Object.h =
-      sym c.primitive_at_front-front.ensures ∙ c.in-Object.is in
+    sym c.primitive_at_front-front.ensures ∙ c.in-Object.is in
     let fits-at : HeaderFits c.loop-s.s.now c.in-Object.h =
-      primitive_fits _ _ (next-at) in
+    primitive_fits _ _ (next-at) in
     let h = fits-at in omega arith
 
 pub slice_bounds-s-start : goal.slice_bounds-s-start
 slice_bounds-s-start c =
     let next-at : primitive_at_front c.loop-s.s.now ≡ front.Object c.in-Object.h =
-      sym c.primitive_at_front-front.ensures ∙ c.in-Object.is in
+    sym c.primitive_at_front-front.ensures ∙ c.in-Object.is in
     let fits-at : HeaderFits c.loop-s.s.now c.in-Object.h =
-      primitive_fits _ _ (next-at) in
+    primitive_fits _ _ (next-at) in
     let h = fits-at in omega arith
 
 pub loop-s-smaller : goal.loop-s-smaller
 loop-s-smaller c =
     let next-at : primitive_at_front c.loop-s.s.now ≡ front.Object c.in-Object.h =
-      sym c.primitive_at_front-front.ensures ∙ c.in-Object.is in
+    sym c.primitive_at_front-front.ensures ∙ c.in-Object.is in
     rest_less _ c.loop-s-test.true _ (next-at)
 
 pub loop-s-preserved : goal.loop-s-preserved
 loop-s-preserved c =
     let next-at : primitive_at_front c.loop-s.s.now ≡ front.Object c.in-Object.h =
-      sym c.primitive_at_front-front.ensures ∙ c.in-Object.is in
+    sym c.primitive_at_front-front.ensures ∙ c.in-Object.is in
     let lp = c.loop-s in
     let t = c.loop-s-test.true in
     let a = c.args in
@@ -99,4 +87,3 @@ returns c =
       size_end lp.s.now (placements_in a.placements.now) a.k lp.number
           c.loop-s-test.false,
     )
-

@@ -1,23 +1,14 @@
 -- `contents::size` meets its contract. The invariant: the size so far, at most 253, and that of what is left, which is
 -- a run, are that of the whole, up to the bound. The measure is the length of what is left. Assumes nothing.
-use borrow.Author.Rules.{rules}
-use mathlib.Core.Path.{◌≡◌, refl, sym, ◌∙◌}
+use mathlib.Core.Path.{◌≡◌}
 use mathlib.Core.Bool.{true}
-use Prim.Native.Nat.{◌+◌, ◌-◌, ◌≤◌}
-use native.Mathlib.Omega.{arith}
+use Prim.Native.Nat.{◌+◌, ◌≤◌}
 use lib.ListN.{length}
-use Rattle.tlv.specs.declared.ObjectFront.TheVariants as front
-use Rattle.tlv.specs.Primitives.{primitive_at_front, primitive_objects, are_primitive_objects_parsed}
-use Rattle.tlv.proofs.Laws.{HeaderFits}
-use Rattle.tlv.proofs.Primitives.{primitive_fits}
-use Rattle.tlv.proofs.primitive_at_front.Reads as primitive
+use Rattle.tlv.specs.Primitives.{primitive_objects, are_primitive_objects_parsed}
 use Rattle.personalise.specs.Placements.{placements_in, objects_in_record_from}
 use Rattle.personalise.specs.Records.{encoded_objects}
 use Rattle.personalise.specs.Objects.{parsed_objects_or_empty}
 use Rattle.personalise.specs.Inner.{size_capped_at254}
-use Rattle.personalise.proofs.Listed.{run_broken, rest-run, rest_less, size_on, size_end}
-use Rattle.personalise.proofs.contents.size.Reads as reads
-use Rattle.personalise.proofs.contents.placed_size.Reads as placed-size
 use Rattle.personalise.proofs.contents.size.Given as goal
 
 abbrev pub invariant-loop-s : goal.invariant-loop-s
@@ -29,7 +20,5 @@ invariant-loop-s l =
     (l.total + length (encoded_objects (objects_in_record_from (placements_in l.placements) l.k l.number (parsed_objects_or_empty l.s)))))
     × (are_primitive_objects_parsed (primitive_objects l.s) ≡ true) × (l.total ≤ 253) × (l.number + length l.s ≤ 1 + length l.initial.s)
 
-
 abbrev pub decreases-loop-s : goal.decreases-loop-s
 decreases-loop-s l = length l.s
-

@@ -8,15 +8,11 @@ use Rattle.personalise.proofs.entries.meets.Goals as goal
 pub returns-then-e-f : goal.returns-then-e-f
 returns-then-e-f c = sym (both_no_left _ _ (ne_eqb _ _ c.if-e-f.true))
 
-
 pub returns-then-f-e : goal.returns-then-f-e
 returns-then-f-e c =
     sym (both_true _ (eq-eqb _ _ c.if-e-f.false) ∙ both_no_left _ _
     (lt-leb _ _ c.if-f-e.true))
 
-
 pub returns : goal.returns
 returns c =
-    
     sym (both_true _ (eq-eqb _ _ c.if-e-f.false) ∙ both_true _ (le-leb _ _ c.if-f-e.false))
-

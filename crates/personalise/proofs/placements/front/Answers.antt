@@ -1,10 +1,8 @@
 -- `placements::front` meets its contract: its two bytes.
 -- Assumes nothing.
-use borrow.Author.Rules.{rules}
 use mathlib.Core.Path.{ap₂}
 use Rattle.personalise.specs.Placements.{placement}
 use Rattle.personalise.proofs.placements.front.Goals as goal
 
 pub returns : goal.returns
 returns c = ap₂ placement c.byte_at.ensures c.byte_at-2.ensures
-

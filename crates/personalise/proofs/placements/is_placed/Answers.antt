@@ -1,10 +1,6 @@
 -- `placements::is_placed` meets its contract. The invariant: some placement puts the object into the record of what is
 -- left exactly where it does of the whole. The measure is the length of what is left. Assumes nothing.
-use borrow.Author.Rules.{rules}
-use mathlib.Core.Path.{◌≡◌, refl, sym, ◌∙◌}
-use native.Mathlib.Omega.{arith}
-use lib.ListN.{length}
-use Rattle.personalise.specs.Placements.{placements_in, any_placement, puts_object_into}
+use mathlib.Core.Path.{refl, sym, ◌∙◌}
 use Rattle.personalise.proofs.Placed.{any_end, any_yes, any_on, tail_less}
 use Rattle.personalise.proofs.placements.is_placed.Goals as goal
 
@@ -13,29 +9,20 @@ loop-rest-init c = refl
 
 pub returns-then-is_of : goal.returns-then-is_of
 returns-then-is_of c =
-    
     let lp = c.loop-rest in
     sym (lp.invariant ∙ any_yes _ c.loop-rest-test.true _ c.front-p.ensures _ refl _
     (sym c.is_of.ensures ∙ c.if-is_of.true))
 
-
 pub loop-rest-smaller : goal.loop-rest-smaller
 loop-rest-smaller c =
-    
-    
     tail_less c.loop-rest.rest.now c.loop-rest-test.true _ c.front-p.ensures _
     c.width-n.ensures
 
-
 pub loop-rest-preserved : goal.loop-rest-preserved
 loop-rest-preserved c =
-    
-    
     c.loop-rest.invariant
     ∙ any_on _ c.loop-rest-test.true _ c.front-p.ensures _ c.width-n.ensures _
     (sym c.is_of.ensures ∙ c.if-is_of.false)
 
-
 pub returns : goal.returns
 returns c = sym (c.loop-rest.invariant ∙ any_end _ _ c.loop-rest-test.false)
-

@@ -2,7 +2,6 @@
 -- be written after it, is the content of the whole; what is left is a run of objects that may be set. The measure is
 -- the length of what is left.
 -- Assumes nothing.
-use borrow.Author.Rules.{rules}
 use mathlib.Core.Path.{◌≡◌, refl, sym, ap, ◌∙◌}
 use Prim.Native.Nat.{◌+◌, ◌≤◌}
 use native.Mathlib.Omega.{arith}
@@ -11,14 +10,11 @@ use Rattle.tlv.specs.declared.ObjectFront.TheVariants as front
 use Rattle.tlv.specs.Primitives.{primitive_at_front}
 use Rattle.tlv.proofs.Laws.{HeaderFits}
 use Rattle.tlv.proofs.Primitives.{primitive_fits}
-use Rattle.tlv.proofs.primitive_at_front.Reads as primitive
 use Rattle.personalise.specs.Placements.{placements_in}
-use Rattle.personalise.specs.Inner.{AreObjectsAllowedInRecord, bytes_written_over}
+use Rattle.personalise.specs.Inner.{bytes_written_over}
 use Rattle.personalise.proofs.Listed.{run_broken, rest_less, rest_usable, bytes_end}
 use Rattle.personalise.proofs.Over.{over_nothing}
 use Rattle.personalise.proofs.Filled.{content, first_small, first_room, left_over, left_next, left_length}
-use Rattle.personalise.proofs.writing.put_content.Reads as reads
-use Rattle.personalise.proofs.writing.put_placed.Reads as put-placed
 use Rattle.personalise.proofs.writing.put_content.Goals as goal
 
 pub loop-s-init : goal.loop-s-init
@@ -29,71 +25,70 @@ shape_of-out-in_default c = c.loop-s.invariant.2
 
 pub returns-in_default : goal.returns-in_default
 returns-in_default c =
-    
     absurd (run_broken _ c.loop-s-test.true c.loop-s.invariant.3.0
     (sym c.primitive_at_front-front.ensures ∙ c.in_default.is))
-
 
 pub overflow_add-e : goal.overflow_add-e
 overflow_add-e c =
     let next-at : primitive_at_front c.loop-s.s.now ≡ front.Object c.in-Object.h =
-      sym c.primitive_at_front-front.ensures ∙ c.in-Object.is in
+    sym c.primitive_at_front-front.ensures ∙ c.in-Object.is in
     let fits-at : HeaderFits c.loop-s.s.now c.in-Object.h =
-      primitive_fits _ _ (next-at) in
+    primitive_fits _ _ (next-at) in
     let h = fits-at in omega (arith, c.loop-s.invariant.4)
 
 pub slice_bounds-value-end : goal.slice_bounds-value-end
 slice_bounds-value-end c =
     let next-at : primitive_at_front c.loop-s.s.now ≡ front.Object c.in-Object.h =
-      sym c.primitive_at_front-front.ensures ∙ c.in-Object.is in
+    sym c.primitive_at_front-front.ensures ∙ c.in-Object.is in
     let fits-at : HeaderFits c.loop-s.s.now c.in-Object.h =
-      primitive_fits _ _ (next-at) in
+    primitive_fits _ _ (next-at) in
     let h = fits-at in omega arith
 
 pub slice_bounds-rest-count : goal.slice_bounds-rest-count
 slice_bounds-rest-count c =
     let next-at : primitive_at_front c.loop-s.s.now ≡ front.Object c.in-Object.h =
-      sym c.primitive_at_front-front.ensures ∙ c.in-Object.is in
+    sym c.primitive_at_front-front.ensures ∙ c.in-Object.is in
     let fits-at : HeaderFits c.loop-s.s.now c.in-Object.h =
-      primitive_fits _ _ (next-at) in
+    primitive_fits _ _ (next-at) in
     let h = fits-at in omega arith
 
 pub slice_bounds-rest-start : goal.slice_bounds-rest-start
 slice_bounds-rest-start c =
     let next-at : primitive_at_front c.loop-s.s.now ≡ front.Object c.in-Object.h =
-      sym c.primitive_at_front-front.ensures ∙ c.in-Object.is in
+    sym c.primitive_at_front-front.ensures ∙ c.in-Object.is in
     let fits-at : HeaderFits c.loop-s.s.now c.in-Object.h =
-      primitive_fits _ _ (next-at) in
+    primitive_fits _ _ (next-at) in
     let h = fits-at in omega arith
 
 pub put_placed-to-requires : goal.put_placed-to-requires
 put_placed-to-requires c = let next-at : primitive_at_front c.loop-s.s.now ≡ front.Object c.in-Object.h =
-      sym c.primitive_at_front-front.ensures ∙ c.in-Object.is in
+    sym c.primitive_at_front-front.ensures ∙ c.in-Object.is in
     let lp = c.loop-s in
-    
     let a = c.args in
     let t = c.loop-s-test.true in
     let ps = placements_in a.placements.now in
     let room : lp.to + length (content ps a.k lp.number lp.s.now) ≤ length lp.out =
-    omega (arith, lp.invariant.1, lp.invariant.2, c.requires.k_in_bounds) in record { tag_bound = first_small lp.s.now t c.in-Object.h (next-at) lp.invariant.3 ps a.k lp.number; v_in_bounds = first_room
+    omega (arith, lp.invariant.1, lp.invariant.2, c.requires.k_in_bounds) in record {
+      tag_bound = first_small lp.s.now t c.in-Object.h (next-at) lp.invariant.3 ps a.k lp.number;
+      v_in_bounds = first_room
           lp.s.now t c.in-Object.h (next-at) lp.invariant.3 ps a.k lp.number lp.out lp.to
-          room }
+          room;
+    }
 
 pub overflow_add-number : goal.overflow_add-number
-overflow_add-number c = omega ( arith, c.loop-s.invariant.4, )
+overflow_add-number c = omega (arith, c.loop-s.invariant.4)
 
 pub loop-s-smaller : goal.loop-s-smaller
 loop-s-smaller c =
     let next-at : primitive_at_front c.loop-s.s.now ≡ front.Object c.in-Object.h =
-      sym c.primitive_at_front-front.ensures ∙ c.in-Object.is in
+    sym c.primitive_at_front-front.ensures ∙ c.in-Object.is in
     rest_less _ c.loop-s-test.true _ (next-at)
 
 pub loop-s-preserved : goal.loop-s-preserved
 loop-s-preserved c =
     let next-at : primitive_at_front c.loop-s.s.now ≡ front.Object c.in-Object.h =
-      sym c.primitive_at_front-front.ensures ∙ c.in-Object.is in
+    sym c.primitive_at_front-front.ensures ∙ c.in-Object.is in
     let lp = c.loop-s in
-    
     let a = c.args in
     let t = c.loop-s-test.true in
     let ps = placements_in a.placements.now in
@@ -124,4 +119,3 @@ returns c =
       next = omega (arith, lp.invariant.1);
       wrote = sym (lp.invariant.0 ∙ ap (bytes_written_over lp.out lp.to) e ∙ over_nothing lp.out lp.to);
     }
-

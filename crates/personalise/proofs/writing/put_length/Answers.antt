@@ -1,6 +1,5 @@
 -- `writing::put_length` meets its contract: the stores, one by one, are the length's bytes.
 -- Assumes nothing.
-use borrow.Author.Rules.{rules}
 use mathlib.Core.Path.{ap}
 use mathlib.Core.List.{[], ◌∷◌}
 use native.Mathlib.Omega.{arith}
@@ -19,7 +18,6 @@ returns-then-len-lt128 c =
     let l = ap length e in
     sets_put a.out.now a.at (a.len ∷ []) (omega arith) e
 
-
 pub bounds-out-at-2 : goal.bounds-out-at-2
 bounds-out-at-2 c = let l = ap length (length_long c.args.len c.if-len-lt128.false c.requires.0) in omega arith
 
@@ -32,4 +30,3 @@ returns c =
     let e = length_long a.len c.if-len-lt128.false c.requires.0 in
     let l = ap length e in
     two_put a.out.now a.at 0x81 a.len (omega arith) e
-

@@ -1,6 +1,5 @@
 -- `writing::put_object` meets its contract: tag, length and value are written one after another.
 -- Assumes nothing.
-use borrow.Author.Rules.{rules}
 use mathlib.Core.List.{List}
 use Prim.Native.Nat.{ℕ, ◌+◌, ◌≤◌}
 use native.Mathlib.Omega.{arith}
@@ -16,37 +15,25 @@ room : (s : List ℕ) (at t : ℕ) (v : List ℕ) → at + length (object_bytes 
 room s at t v h = omega (arith, object_length t v)
 
 pub put_tag-behind_tag-requires : goal.put_tag-behind_tag-requires
-put_tag-behind_tag-requires c = let a = c.args in ( c.requires.tag_bound.0, tag_room a.out.now a.at (tag_bytes a.tag) (length_bytes (length a.v.now)) a.v.now (room a.out.now a.at a.tag a.v.now c.requires.v_in_bounds), )
+put_tag-behind_tag-requires c = let a = c.args in (c.requires.tag_bound.0, tag_room a.out.now a.at (tag_bytes a.tag) (length_bytes (length a.v.now)) a.v.now (room a.out.now a.at a.tag a.v.now c.requires.v_in_bounds))
 
 pub put_length-behind_length-requires : goal.put_length-behind_length-requires
 put_length-behind_length-requires c =
-    
-    
     let a = c.args in (
       c.requires.tag_bound.1,
       length_room a.out.now a.at (tag_bytes a.tag) (length_bytes (length a.v.now)) a.v.now
           (room a.out.now a.at a.tag a.v.now c.requires.v_in_bounds) c.put_tag-behind_tag.ensures,
     )
 
-
 pub put_value-requires : goal.put_value-requires
 put_value-requires c =
-    
-    
-    
     let a = c.args in
     value_room a.out.now a.at (tag_bytes a.tag) (length_bytes (length a.v.now)) a.v.now
     (room a.out.now a.at a.tag a.v.now c.requires.v_in_bounds) c.put_tag-behind_tag.ensures c.put_length-behind_length.ensures
 
-
 pub returns : goal.returns
 returns c =
-    
-    
-    
-    
     let a = c.args in
     all_put a.out.now a.at (tag_bytes a.tag) (length_bytes (length a.v.now)) a.v.now
     (room a.out.now a.at a.tag a.v.now c.requires.v_in_bounds) c.put_tag-behind_tag.ensures c.put_length-behind_length.ensures
     c.put_value.ensures
-

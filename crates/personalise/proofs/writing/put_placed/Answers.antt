@@ -1,7 +1,5 @@
 -- `writing::put_placed` meets its contract: by whether the object is present.
 -- Assumes nothing.
-use borrow.Author.Rules.{rules}
-use borrow.Author.Tests.{not-true, not-false}
 use mathlib.Core.Path.{sym, subst, ◌∙◌}
 use mathlib.Core.List.{List, []}
 use Prim.Native.Nat.{ℕ, ◌+◌, ◌≤◌}
@@ -14,11 +12,9 @@ use Rattle.personalise.proofs.writing.put_placed.Goals as goal
 
 pub returns-then-not-is_placed : goal.returns-then-not-is_placed
 returns-then-not-is_placed c =
-    
     let a = c.args in
     puts_nothing a.out.now a.at
     (if_no (object_bytes a.tag a.v.now) [] (sym c.is_placed.ensures ∙ c.if-not-is_placed.true))
-
 
 pub put_object-requires : goal.put_object-requires
 put_object-requires c = let a = c.args in
@@ -27,11 +23,7 @@ put_object-requires c = let a = c.args in
 
 pub returns : goal.returns
 returns c =
-    
-    
-    
     let a = c.args in
     let e = if_yes (object_bytes a.tag a.v.now) []
     (sym c.is_placed.ensures ∙ c.if-not-is_placed.false) in
     subst (WritesBytesAt _ _ a.out.now a.at) (sym e) c.put_object.ensures
-

@@ -1,7 +1,6 @@
 -- `writing::put_record` meets its contract: the template's tag, the length and the content are written one
 -- after another.
 -- Assumes nothing.
-use borrow.Author.Rules.{rules}
 use mathlib.Core.Path.{◌≡◌, sym, ap, subst}
 use mathlib.Core.List.{List}
 use Prim.Native.Nat.{ℕ, ◌+◌, ◌≤◌}
@@ -33,7 +32,6 @@ size-size-requires c = c.requires.are_objects_allowed_in_record.0
 
 pub put_tag-behind_tag-requires : goal.put_tag-behind_tag-requires
 put_tag-behind_tag-requires c =
-    
     let a = c.args in
     let v = record_content (parsed_objects_or_empty a.objects.now) (placements_in a.placements.now) a.k in (
       omega arith,
@@ -41,12 +39,8 @@ put_tag-behind_tag-requires c =
           (room a.out.now a.at v c.requires.k_len_bound c.requires.at_in_bounds),
     )
 
-
 pub put_length-behind_length-requires : goal.put_length-behind_length-requires
 put_length-behind_length-requires c =
-    
-    
-    
     let a = c.args in
     let v = record_content (parsed_objects_or_empty a.objects.now) (placements_in a.placements.now) a.k in
     let e = exact c.size-size.result v c.size-size.ensures c.requires.k_len_bound in (
@@ -56,22 +50,19 @@ put_length-behind_length-requires c =
           (room a.out.now a.at v c.requires.k_len_bound c.requires.at_in_bounds) c.put_tag-behind_tag.ensures),
     )
 
-
 pub put_content-requires : goal.put_content-requires
 put_content-requires c = let a = c.args in
     let v = record_content (parsed_objects_or_empty a.objects.now) (placements_in a.placements.now) a.k in
     let e = exact c.size-size.result v c.size-size.ensures c.requires.k_len_bound in
     let q = subst (λ (n : ℕ). WritesBytesAt c.put_length-behind_length.result c.put_length-behind_length.new.out c.put_tag-behind_tag.new.out
-    c.put_tag-behind_tag.result (length_bytes n)) e c.put_length-behind_length.ensures in record { are_objects_allowed_in_record = c.requires.are_objects_allowed_in_record; k_in_bounds = value_room a.out.now a.at (tag_bytes tag_record_template) (length_bytes (length v)) v
-          (room a.out.now a.at v c.requires.k_len_bound c.requires.at_in_bounds) c.put_tag-behind_tag.ensures q }
+    c.put_tag-behind_tag.result (length_bytes n)) e c.put_length-behind_length.ensures in record {
+      are_objects_allowed_in_record = c.requires.are_objects_allowed_in_record;
+      k_in_bounds = value_room a.out.now a.at (tag_bytes tag_record_template) (length_bytes (length v)) v
+          (room a.out.now a.at v c.requires.k_len_bound c.requires.at_in_bounds) c.put_tag-behind_tag.ensures q;
+    }
 
 pub returns : goal.returns
 returns c =
-    
-    
-    
-    
-    
     let a = c.args in
     let v = record_content (parsed_objects_or_empty a.objects.now) (placements_in a.placements.now) a.k in
     let e = exact c.size-size.result v c.size-size.ensures c.requires.k_len_bound in
@@ -79,4 +70,3 @@ returns c =
     c.put_tag-behind_tag.result (length_bytes n)) e c.put_length-behind_length.ensures in
     all_put a.out.now a.at (tag_bytes tag_record_template) (length_bytes (length v)) v
     (room a.out.now a.at v c.requires.k_len_bound c.requires.at_in_bounds) c.put_tag-behind_tag.ensures q c.put_content.ensures
-

@@ -1,6 +1,5 @@
 -- `writing::put_tag` meets its contract: the stores, one by one, are the tag's bytes.
 -- Assumes nothing.
-use borrow.Author.Rules.{rules}
 use mathlib.Core.Path.{ap}
 use mathlib.Core.List.{[], ◌∷◌}
 use Prim.Native.Nat.{◌/◌, ◌%◌}
@@ -20,7 +19,6 @@ returns-then-tag-lt256 c =
     let l = ap length e in
     sets_put a.out.now a.at (a.tag ∷ []) (omega arith) e
 
-
 pub bounds-out-at-then-tag-lt65536 : goal.bounds-out-at-then-tag-lt65536
 bounds-out-at-then-tag-lt65536 c = let l = ap length (tag_two c.args.tag c.if-tag-lt256.false c.if-tag-lt65536.true) in omega arith
 
@@ -33,7 +31,6 @@ returns-then-tag-lt65536 c =
     let e = tag_two a.tag c.if-tag-lt256.false c.if-tag-lt65536.true in
     let l = ap length e in
     two_put a.out.now a.at (a.tag / 0x100) (a.tag % 0x100) (omega arith) e
-
 
 pub bounds-out-at-2 : goal.bounds-out-at-2
 bounds-out-at-2 c = let l = ap length (tag_three c.args.tag c.if-tag-lt65536.false) in omega arith
@@ -50,4 +47,3 @@ returns c =
     let e = tag_three a.tag c.if-tag-lt65536.false in
     let l = ap length e in
     three_put a.out.now a.at (a.tag / 0x10000) (a.tag / 0x100 % 0x100) (a.tag % 0x100) (omega arith) e
-

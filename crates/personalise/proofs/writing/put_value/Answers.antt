@@ -13,4 +13,3 @@ returns c =
       wrote = over_part a.out.now a.at a.v.now _ (search rules)
           c.copy.ensures.1;
     }
-
