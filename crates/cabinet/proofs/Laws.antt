@@ -4,13 +4,11 @@
 -- Assumes nothing.
 use mathlib.Core.Path.{◌≡◌, refl, sym, ap, subst, ◌∙◌}
 use mathlib.Core.Bool.{Bool, true, false}
-use mathlib.Core.List.{List, [], ◌∷◌, ◌++◌}
-use mathlib.Core.Logic.{inl, inr, ⊎_elim}
+use mathlib.Core.List.{List, ◌++◌}
+use mathlib.Core.Logic.{inl, inr}
 use mathlib.Core.Option.{Option, some, none}
 use Prim.Native.Nat.{ℕ, ◌+◌, ◌-◌, ◌≤◌, ◌<◌}
 use native.Mathlib.Omega.{arith}
-use types.Run.{OneOf}
-use denote.Enum.Declared.{tag_of}
 use lib.Dec.{leb, ltb}
 use lib.ListN.{length, take, drop, length-take, length-drop}
 use lib.Seq.{take-append_seam, take-length, length-take-le}
@@ -29,7 +27,6 @@ use Rattle.session_record.specs.declared.Session.{Session}
 use Rattle.session_record.specs.declared.Transition.{Transition}
 use Rattle.session_record.specs.Session.{store_bytes, session_of, fresh_session, reply_of}
 use Rattle.session_record.specs.Ranges.{session_record_in_ranges}
-use Rattle.session_record.specs.contracts.CallResult.{the_type as answer_type}
 use Rattle.session_record.proofs.Phases.{store_size_lem, fresh_keeps, is_fresh}
 use Rattle.session.specs.Steps as steps
 use Rattle.session.specs.Steps.{NextAction, ask, end, CallEffect, refuse, follow, Step, step_of_next, step_of_effect}

@@ -16,24 +16,27 @@ use Rattle.cabinet.proofs.cabinet_answer.Goals as goal
 pub slice_bounds-answer_on_parts-end : goal.slice_bounds-answer_on_parts-end
 slice_bounds-answer_on_parts-end c =
     let taken : let a = c.args in Taken a.state.now a.command.now c.in-Admitted.holding =
-      let a = c.args in
+    let a = c.args in
     over_taken a.state.now a.command.now _ c.admit-admission.ensures
     c.in-Admitted.is in
     let k = taken in omega (arith, k.told.enough)
 
 pub finish-requires : goal.finish-requires
 finish-requires c = let taken : let a = c.args in Taken a.state.now a.command.now c.in-Admitted.holding =
-      let a = c.args in
+    let a = c.args in
     over_taken a.state.now a.command.now _ c.admit-admission.ensures
     c.in-Admitted.is in
-    let k = taken in record { cabinet_state_size_in_bounds = omega (
+    let k = taken in record {
+      cabinet_state_size_in_bounds = omega (
         arith,
         k.told.enough,
         same_len_mid record_head_size store_size
             c.args.state.now
             c.answer_on_parts-transition.new.store
             (search rules),
-      ); reserved_bound = k.told.fits }
+      );
+      reserved_bound = k.told.fits;
+    }
 
 pub returns-in-Refused : goal.returns-in-Refused
 returns-in-Refused c =
@@ -41,11 +44,10 @@ returns-in-Refused c =
     over_refused a.state.now a.command.now (kernel_step_on_cabinet (λ s b. answer_step s a.card.now b)
     a.state.now a.command.now) _ c.admit-admission.ensures c.in-Refused.is
 
-
 pub returns-in-Admitted : goal.returns-in-Admitted
 returns-in-Admitted c =
     let taken : let a = c.args in Taken a.state.now a.command.now c.in-Admitted.holding =
-      let a = c.args in
+    let a = c.args in
     over_taken a.state.now a.command.now _ c.admit-admission.ensures
     c.in-Admitted.is in
     let a = c.args in

@@ -1,7 +1,5 @@
 -- `cabinet::cabinet_left` meets its contract: the tests of a state, then the session's ranges.
 -- Assumes nothing.
-use borrow.Author.Rules.{rules}
-use borrow.Author.Tests.{not-true, not-false}
 use mathlib.Core.Path.{sym, ap, ◌∙◌}
 use native.Mathlib.Omega.{arith}
 use Rattle.basics.proofs.Laws.{if_yes, if_no}
@@ -15,17 +13,16 @@ returns-in_default c =
     (ap remaining_amount_or_all_ones
     (state_refused _ _ (sym c.holding_in-admission.ensures ∙ c.in_default.is)).held)
 
-
 pub slice_bounds-session_parts_in_ranges-end : goal.slice_bounds-session_parts_in_ranges-end
 slice_bounds-session_parts_in_ranges-end c =
     let told : Told c.args.state.now c.in-Admitted.holding =
-      state_taken _ _ (sym c.holding_in-admission.ensures ∙ c.in-Admitted.is) in
+    state_taken _ _ (sym c.holding_in-admission.ensures ∙ c.in-Admitted.is) in
     let k = told in omega (arith, k.enough)
 
 pub returns-then-not-session_parts_in_ranges : goal.returns-then-not-session_parts_in_ranges
 returns-then-not-session_parts_in_ranges c =
     let told : Told c.args.state.now c.in-Admitted.holding =
-      state_taken _ _ (sym c.holding_in-admission.ensures ∙ c.in-Admitted.is) in
+    state_taken _ _ (sym c.holding_in-admission.ensures ∙ c.in-Admitted.is) in
     sym
     (ap remaining_amount_or_all_ones
     ((told).held ∙ if_no _ _ (sym c.session_parts_in_ranges.ensures ∙ c.if-not-session_parts_in_ranges.true)))
@@ -33,7 +30,7 @@ returns-then-not-session_parts_in_ranges c =
 pub returns : goal.returns
 returns c =
     let told : Told c.args.state.now c.in-Admitted.holding =
-      state_taken _ _ (sym c.holding_in-admission.ensures ∙ c.in-Admitted.is) in
+    state_taken _ _ (sym c.holding_in-admission.ensures ∙ c.in-Admitted.is) in
     sym
     (ap remaining_amount_or_all_ones
     ((told).held ∙ if_yes _ _ (sym c.session_parts_in_ranges.ensures ∙ c.if-not-session_parts_in_ranges.false)))

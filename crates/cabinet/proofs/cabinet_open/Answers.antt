@@ -1,7 +1,6 @@
 -- `cabinet::cabinet_open` meets its contract: too few bytes, then the cap; else a fresh record with the
 -- amounts after it.
 -- Assumes nothing.
-use borrow.Author.Rules.{rules}
 use borrow.Author.Tests.{lt-ltb, le-ltb}
 use mathlib.Core.Path.{sym, ap, ◌∙◌}
 use mathlib.Core.List.{List}
@@ -22,7 +21,6 @@ unfolding cabinet_open_word cabinet_open_state
 returns-then-state-lt-STATE_SIZE c = let t = lt-ltb _ _ c.if-state-lt-STATE_SIZE.true in
     record { word = c.refusal_word.ensures ∙ sym (if_yes _ _ t); state = sym (if_yes _ _ t) }
 
-
 pub returns-then-cap-gt-MOST_AMOUNT : goal.returns-then-cap-gt-MOST_AMOUNT
 unfolding cabinet_open_word cabinet_open_state
 returns-then-cap-gt-MOST_AMOUNT c =
@@ -33,7 +31,6 @@ returns-then-cap-gt-MOST_AMOUNT c =
       state =
           sym (if_no _ _ e ∙ if_yes _ _ t);
     }
-
 
 pub returns : goal.returns
 unfolding cabinet_open_word cabinet_open_state
@@ -58,4 +55,3 @@ returns c =
           ∙ amounts_behind fresh_session (store_size_lem fresh_session fresh_keeps) l amounts h
           ∙ sym (if_no _ _ e ∙ if_no _ _ t);
     }
-

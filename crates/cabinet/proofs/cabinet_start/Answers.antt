@@ -1,6 +1,5 @@
 -- `cabinet::cabinet_start` meets its contract: a call that is not taken by its law; else what `start_held` does.
 -- Assumes nothing.
-use borrow.Author.Rules.{rules}
 use mathlib.Core.Path.{sym, subst}
 use native.Mathlib.Omega.{arith}
 use Rattle.cabinet.specs.Calls.{ReturnsCabinetResult, start_on_cabinet}
@@ -18,7 +17,6 @@ returns-in-Refused c =
     over_refused a.state.now a.command.now (start_on_cabinet a.terminal.now a.state.now a.command.now)
     _ c.admit-admission.ensures c.in-Refused.is
 
-
 pub returns-in-Admitted : goal.returns-in-Admitted
 returns-in-Admitted c =
     let a =
@@ -30,4 +28,3 @@ returns-in-Admitted c =
     (sym
     (over_ranged a.state.now a.command.now (start_on_cabinet a.terminal.now a.state.now a.command.now)
     _ k)) c.start_held.ensures
-

@@ -1,6 +1,5 @@
 -- `cabinet::finish` meets its contract: a refusal writes nothing; else the head, and the amounts by the answer.
 -- Assumes nothing.
-use borrow.Author.Rules.{rules}
 use mathlib.Core.Path.{ap₂, ◌∙◌}
 use mathlib.Core.List.{List}
 use Prim.Native.Nat.{ℕ}
@@ -21,4 +20,3 @@ returns c =
           (not_refused a.transition.answer
           c.in_default.not-Refused),
     )
-

@@ -1,6 +1,5 @@
 -- `cabinet::hand_over` meets its contract: a command is copied, another answer copies nothing.
 -- Assumes nothing.
-use borrow.Author.Rules.{rules}
 use mathlib.Core.Path.{sym, ap, subst, ◌∙◌}
 use Prim.Native.Nat.{◌≤◌}
 use native.Mathlib.Omega.{arith}
@@ -15,11 +14,9 @@ pub returns-in_default : goal.returns-in_default
 returns-in_default c = let a = c.args in handed_nothing a.answer a.first.now a.command.now
     c.in_default.not-Command
 
-
 pub slice_bounds-copy-end : goal.slice_bounds-copy-end
 slice_bounds-copy-end c =
-    let sized : let a = c.args in (c.in-Command.issued.size ≤ length a.first.now) × (c.in-Command.issued.size ≤ length a.command.now) =
-      (
+    let sized : let a = c.args in (c.in-Command.issued.size ≤ length a.first.now) × (c.in-Command.issued.size ≤ length a.command.now) = (
       subst (λ (x : CallResult). command_size_or_zero x ≤ length c.args.first.now) c.in-Command.is c.requires.0,
       subst
           (λ (x : CallResult). command_size_or_zero x ≤ length c.args.command.now) c.in-Command.is c.requires.1,
@@ -28,8 +25,7 @@ slice_bounds-copy-end c =
 
 pub copy-requires : goal.copy-requires
 copy-requires c =
-    let sized : let a = c.args in (c.in-Command.issued.size ≤ length a.first.now) × (c.in-Command.issued.size ≤ length a.command.now) =
-      (
+    let sized : let a = c.args in (c.in-Command.issued.size ≤ length a.first.now) × (c.in-Command.issued.size ≤ length a.command.now) = (
       subst (λ (x : CallResult). command_size_or_zero x ≤ length c.args.first.now) c.in-Command.is c.requires.0,
       subst
           (λ (x : CallResult). command_size_or_zero x ≤ length c.args.command.now) c.in-Command.is c.requires.1,
@@ -39,8 +35,7 @@ copy-requires c =
 
 pub returns : goal.returns
 returns c =
-    let sized : let a = c.args in (c.in-Command.issued.size ≤ length a.first.now) × (c.in-Command.issued.size ≤ length a.command.now) =
-      (
+    let sized : let a = c.args in (c.in-Command.issued.size ≤ length a.first.now) × (c.in-Command.issued.size ≤ length a.command.now) = (
       subst (λ (x : CallResult). command_size_or_zero x ≤ length c.args.first.now) c.in-Command.is c.requires.0,
       subst
           (λ (x : CallResult). command_size_or_zero x ≤ length c.args.command.now) c.in-Command.is c.requires.1,

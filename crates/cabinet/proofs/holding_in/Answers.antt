@@ -1,7 +1,5 @@
 -- `cabinet::holding_in` meets its contract: each way out is one of the tests of a state, the session's ranges apart.
 -- Assumes nothing.
-use borrow.Author.Rules.{rules}
-use borrow.Author.Tests.{not-true, not-false}
 use mathlib.Core.Path.{◌≡◌, sym, ap, ap₂, ◌∙◌}
 use mathlib.Core.Option.{some}
 use Prim.Native.Nat.{ℕ, ◌+◌}
@@ -19,20 +17,17 @@ pub returns-then-state-lt-STATE_SIZE : goal.returns-then-state-lt-STATE_SIZE
 returns-then-state-lt-STATE_SIZE c = ap (λ (w : ℕ). CabinetAdmission.Refused w) c.refusal_word.ensures ∙ sym
     (holding_short _ c.if-state-lt-STATE_SIZE.true)
 
-
 pub returns-in_default : goal.returns-in_default
 returns-in_default c =
-    
     ap (λ (w : ℕ). CabinetAdmission.Refused w) c.refusal_word.ensures
     ∙ sym
     (holding_none_lem _ c.if-state-lt-STATE_SIZE.false
     (held_none _ (sym c.decode_record_head-held.ensures ∙ c.in_default.is)))
 
-
 pub returns-then-reserved-due : goal.returns-then-reserved-due
 returns-then-reserved-due c =
     let session : let l = c.args.state.now in decoded_session l ≡ some (session_of c.in-Record.head.phase c.in-Record.head.count (store_in l)) =
-      head_session _ _ (sym c.decode_record_head-held.ensures ∙ c.in-Record.is) in
+    head_session _ _ (sym c.decode_record_head-held.ensures ∙ c.in-Record.is) in
     let l = c.args.state.now in
     ap (λ (w : ℕ). CabinetAdmission.Refused w) c.refusal_word.ensures
     ∙ sym (holding_undue l c.if-state-lt-STATE_SIZE.false _ _ (session)
@@ -41,9 +36,9 @@ returns-then-reserved-due c =
 pub returns-then-not-is_within : goal.returns-then-not-is_within
 returns-then-not-is_within c =
     let session : let l = c.args.state.now in decoded_session l ≡ some (session_of c.in-Record.head.phase c.in-Record.head.count (store_in l)) =
-      head_session _ _ (sym c.decode_record_head-held.ensures ∙ c.in-Record.is) in
+    head_session _ _ (sym c.decode_record_head-held.ensures ∙ c.in-Record.is) in
     let summed : let l = c.args.state.now in leb (remaining_in_cabinet_state l + reserved_in_cabinet_state l) greatest_twelve_digit_amount ≡ c.is_within.result =
-      sym (c.is_within.ensures ∙ ap₂ (λ (n a : ℕ). leb (n + a) greatest_twelve_digit_amount)
+    sym (c.is_within.ensures ∙ ap₂ (λ (n a : ℕ). leb (n + a) greatest_twelve_digit_amount)
     c.eight-remaining.ensures
     c.eight-reserved.ensures) in
     let l = c.args.state.now in
@@ -54,14 +49,12 @@ returns-then-not-is_within c =
 pub returns : goal.returns
 returns c =
     let session : let l = c.args.state.now in decoded_session l ≡ some (session_of c.in-Record.head.phase c.in-Record.head.count (store_in l)) =
-      head_session _ _ (sym c.decode_record_head-held.ensures ∙ c.in-Record.is) in
+    head_session _ _ (sym c.decode_record_head-held.ensures ∙ c.in-Record.is) in
     let summed : let l = c.args.state.now in leb (remaining_in_cabinet_state l + reserved_in_cabinet_state l) greatest_twelve_digit_amount ≡ c.is_within.result =
-      sym (c.is_within.ensures ∙ ap₂ (λ (n a : ℕ). leb (n + a) greatest_twelve_digit_amount)
+    sym (c.is_within.ensures ∙ ap₂ (λ (n a : ℕ). leb (n + a) greatest_twelve_digit_amount)
     c.eight-remaining.ensures
     c.eight-reserved.ensures) in
     let l = c.args.state.now in
-    
-    
     let reserved = c.eight-reserved.ensures in
     ap₂
     (λ (n a : ℕ). CabinetAdmission.Admitted

@@ -13,7 +13,6 @@ use Rattle.cabinet.proofs.is_within.Goals as goal
 pub returns-then-reserved-gt-MOST_AMOUNT : goal.returns-then-reserved-gt-MOST_AMOUNT
 returns-then-reserved-gt-MOST_AMOUNT c = let a = c.args in sym (lt-leb (a.remaining + a.reserved) greatest_twelve_digit_amount (omega arith))
 
-
 pub returns : goal.returns
 returns c =
     let a = c.args in
@@ -25,4 +24,3 @@ returns c =
           t ∙ sym (lt-leb (a.remaining + a.reserved) greatest_twelve_digit_amount
           (omega (arith, leb-false a.remaining (greatest_twelve_digit_amount - a.reserved) t)))
     ]
-

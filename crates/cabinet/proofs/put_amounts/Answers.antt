@@ -1,6 +1,5 @@
 -- `cabinet::put_amounts` meets its contract: eight bytes each, concatenated (`put_both`).
 -- Assumes nothing.
-use borrow.Author.Rules.{rules}
 use mathlib.Core.Path.{◌≡◌, ap, ap₂, ◌∙◌}
 use mathlib.Core.List.{List}
 use Prim.Native.Nat.{ℕ, ◌+◌}
@@ -34,8 +33,6 @@ returns c =
     (big_endian_bytes 8 c.args.amounts.remaining) (big_endian_bytes 8 c.args.amounts.reserved) p
     (bytes_length 8 _)
 
-
 pub shape_of-state : goal.shape_of-state
 shape_of-state c =
     ap length (returns c) ∙ amounts_length c.args.state.now c.args.amounts c.requires
-

@@ -1,6 +1,5 @@
 -- `cabinet::settled` meets its contract, answer by answer.
 -- Assumes nothing.
-use borrow.Author.Rules.{rules}
 use mathlib.Core.Path.{sym, ap, ◌∙◌}
 use Rattle.session_record.specs.declared.CallResult.{CallResult}
 use Rattle.cabinet.specs.Inner.{amounts_after_result}
@@ -12,4 +11,3 @@ returns-in-Outcome c =
     (λ i. record { remaining = e i; reserved = 0 }) ∙ sym
     (ap (λ (x : CallResult). amounts_after_result x c.args.amounts)
     c.in-Outcome.is)
-

@@ -1,7 +1,6 @@
 -- `cabinet::start_fresh` meets its contract: the kernel's start on a fresh session, its refusal, then 30; else store
 -- and command are copied over.
 -- Assumes nothing.
-use borrow.Author.Rules.{rules}
 use mathlib.Core.Path.{sym, ap, ◌∙◌}
 use mathlib.Core.List.{List}
 use Prim.Native.Nat.{ℕ, ◌-◌, ◌≤◌}
@@ -24,12 +23,10 @@ own = omega (arith, length-replicate {A = ℕ} least_buffer 0)
 
 pub returns-in-Refused : goal.returns-in-Refused
 returns-in-Refused c =
-    
     fresh_refused c.args.terminal.now c.args.state.now _ c.args.command.now c.args.remaining own
     c.requires.least_buffer_in_bounds _ _ _
     c.start_on_parts-transition.ensures
     c.in-Refused.refusal _ c.refusal_word.ensures c.in-Refused.is
-
 
 pub returns-then-remaining-amount : goal.returns-then-remaining-amount
 returns-then-remaining-amount c =
@@ -41,7 +38,6 @@ returns-then-remaining-amount c =
     c.in_default.not-Refused) _ c.refusal_word-then-remaining-amount.ensures
     (omega (arith, c.if-remaining-amount.true, q))
 
-
 pub hand_over-requires : goal.hand_over-requires
 hand_over-requires c =
     let d = c.start_on_parts-transition.ensures in
@@ -50,7 +46,6 @@ hand_over-requires c =
     let m = fresh_length c.args.terminal.now c.args.state.now _ c.args.command.now
     c.args.remaining own c.requires.least_buffer_in_bounds _ _ _ d in
     (omega (arith, s, m), omega (arith, s, length-replicate {A = ℕ} least_buffer 0, c.requires.least_buffer_in_bounds))
-
 
 pub returns : goal.returns
 returns c =
@@ -86,4 +81,3 @@ returns c =
           (put_mid record_head_size store_size l x)) k,
     )
     c.hand_over.ensures
-

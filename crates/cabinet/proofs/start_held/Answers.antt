@@ -1,7 +1,5 @@
 -- `cabinet::start_held` meets its contract: the ranges, then a session that runs; else a start on a fresh one.
 -- Assumes nothing.
-use borrow.Author.Rules.{rules}
-use borrow.Author.Tests.{not-true, not-false}
 use mathlib.Core.Path.{◌≡◌, sym, subst, ◌∙◌}
 use mathlib.Core.Bool.{true}
 use Rattle.basics.specs.Reason.{refusal_record_out_of_ranges, refusal_wrong_phase}
@@ -20,11 +18,10 @@ returns-then-not-session_parts_in_ranges c =
     (cabinet_with_store_in a.holding a.state.now) (sym c.session_parts_in_ranges.ensures ∙
     c.if-not-session_parts_in_ranges.true))
 
-
 pub returns-then-is_running : goal.returns-then-is_running
 returns-then-is_running c =
     let kept : let a = c.args in session_record_in_ranges (session_of a.holding.phase a.holding.count (store_in a.state.now)) ≡ true =
-      sym c.session_parts_in_ranges.ensures ∙ c.if-not-session_parts_in_ranges.false in
+    sym c.session_parts_in_ranges.ensures ∙ c.if-not-session_parts_in_ranges.false in
     let a = c.args in
     did_refuse refusal_wrong_phase c.refusal_word-then-is_running.ensures
     (ranged_in (start_on_cabinet a.terminal.now a.state.now a.command.now) _ _
@@ -36,7 +33,7 @@ returns-then-is_running c =
 pub returns : goal.returns
 returns c =
     let kept : let a = c.args in session_record_in_ranges (session_of a.holding.phase a.holding.count (store_in a.state.now)) ≡ true =
-      sym c.session_parts_in_ranges.ensures ∙ c.if-not-session_parts_in_ranges.false in
+    sym c.session_parts_in_ranges.ensures ∙ c.if-not-session_parts_in_ranges.false in
     let a = c.args in
     subst (ReturnsCabinetResult _ _ _)
     (sym (ranged_in (start_on_cabinet a.terminal.now a.state.now a.command.now) a.state.now
