@@ -2,11 +2,11 @@
 -- its word determines which of the five it is; and of bytes that are wiped one by one: they hold no record.
 -- Assumes nothing.
 use mathlib.Core.Path.{◌≡◌, refl, sym, ap, subst⁻¹, ◌∙◌}
-use mathlib.Core.Bool.{Bool, true, false, not}
+use mathlib.Core.Bool.{true, false, not}
 use mathlib.Core.Logic.{◌⊎◌, inl, inr}
 use mathlib.Core.List.{List, [], ◌∷◌, ◌++◌}
 use mathlib.Core.Option.{Option, some, none}
-use Prim.Native.Nat.{ℕ, zero, suc, ◌+◌, ◌≤◌, ◌<◌}
+use Prim.Native.Nat.{ℕ, ◌+◌, ◌≤◌, ◌<◌}
 use native.Mathlib.Numerals.{add-one}
 use native.Mathlib.Omega.{arith}
 use lib.Dec.{eqb, ltb}
@@ -35,7 +35,7 @@ use Rattle.layout.specs.Layout.{decoded_store_or_unchanged}
 use Rattle.layout.specs.Word.{refusal_word}
 use Rattle.layout.proofs.Laws.{held_none, held_some, was_record, decoded_short, decoded_version}
 use Rattle.host.specs.Object.{object_absent_word, tag_unknown_word, length_needed_word, ObjectCopied}
-use Rattle.host.specs.Object.{ReturnsObjectCopied, nothing_copied, row_is_found, object_copied_from_store}
+use Rattle.host.specs.Object.{ReturnsObjectCopied, row_is_found, object_copied_from_store}
 use Rattle.host.specs.Object.{object_copied_from_session}
 
 -- ---- an object of a store

@@ -1,6 +1,5 @@
 -- `host::admit` meets its contract: the buffer's size first, then what the bytes hold.
 -- Assumes nothing.
-use borrow.Author.Rules.{rules}
 use borrow.Author.Tests.{lt-ltb, le-ltb}
 use mathlib.Core.Path.{sym, ap, ◌∙◌}
 use Prim.Native.Nat.{ℕ}
@@ -14,12 +13,10 @@ pub returns-then-size-lt-LEAST_BUFFER : goal.returns-then-size-lt-LEAST_BUFFER
 returns-then-size-lt-LEAST_BUFFER c = ap (λ (w : ℕ). HostAdmission.Refused w) c.refusal_word.ensures ∙ sym
     (if_yes _ _ (lt-ltb _ _ c.if-size-lt-LEAST_BUFFER.true))
 
-
 pub returns-in-Record : goal.returns-in-Record
 returns-in-Record c = sym (if_no _ _ (le-ltb _ _ c.if-size-lt-LEAST_BUFFER.false) ∙ admits_record
     (decoded_session c.args.session.now) _
     (sym c.decode_record_head-held.ensures ∙ c.in-Record.is))
-
 
 pub returns-in-Nothing : goal.returns-in-Nothing
 returns-in-Nothing c =
@@ -27,4 +24,3 @@ returns-in-Nothing c =
     ∙ sym (if_no _ _ (le-ltb _ _ c.if-size-lt-LEAST_BUFFER.false) ∙ admits_nothing
     (decoded_session c.args.session.now)
     (sym c.decode_record_head-held.ensures ∙ c.in-Nothing.is))
-

@@ -1,6 +1,5 @@
 -- `host::emv_open` meets its contract: a fresh record is written where the bytes are enough.
 -- Assumes nothing.
-use borrow.Author.Rules.{rules}
 use mathlib.Core.Path.{sym, ap, ◌∙◌}
 use mathlib.Core.List.{List}
 use Prim.Native.Nat.{ℕ}
@@ -12,8 +11,6 @@ use Rattle.host.proofs.emv_open.Goals as goal
 
 pub returns-then-encode_record : goal.returns-then-encode_record
 returns-then-encode_record c =
-    
-    
     record {
       word = sym (if_yes _ _ (sym c.encode_record.ensures.enough ∙ c.if-encode_record.true));
       session = c.encode_record.ensures.bytes ∙ ap
@@ -21,11 +18,8 @@ returns-then-encode_record c =
           c.args.session.now) c.empty-store.ensures;
     }
 
-
 pub returns : goal.returns
 returns c =
-    
-    
     record {
       word = c.refusal_word.ensures ∙ sym
           (if_no _ _ (sym c.encode_record.ensures.enough ∙ c.if-encode_record.false));
@@ -33,4 +27,3 @@ returns c =
           (λ (b : List ℕ). session_written_over_front_if_room (session_of Phase.Fresh 0 b)
           c.args.session.now) c.empty-store.ensures;
     }
-

@@ -12,12 +12,10 @@ slice_bounds-start_on_parts-end c =
     over_record (λ s b. start_step s a.terminal.now b) a.session.now a.command.now
     c.in-Admitted.head c.admit-admission.ensures c.in-Admitted.is
 
-
 pub returns-in-Refused : goal.returns-in-Refused
 returns-in-Refused c = let a = c.args in
     over_refused (λ s b. start_step s a.terminal.now b) a.session.now a.command.now _
     c.admit-admission.ensures c.in-Refused.is
-
 
 pub returns-in-Admitted : goal.returns-in-Admitted
 returns-in-Admitted c =
@@ -31,4 +29,3 @@ returns-in-Admitted c =
     c.start_on_parts-transition.result
     c.start_on_parts-transition.ensures
     (search rules) c.finish.ensures
-

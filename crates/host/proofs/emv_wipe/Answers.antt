@@ -1,9 +1,8 @@
 -- `host::emv_wipe` meets its contract. The loop's invariant: the length stays, and the bytes passed are zeros.
 -- Assumes nothing.
-use mathlib.Core.Path.{◌≡◌, refl, ◌∙◌}
-use Prim.Native.Nat.{◌≤◌, ◌-◌}
+use mathlib.Core.Path.{refl}
 use native.Mathlib.Omega.{arith}
-use lib.ListN.{length, take, replicate, length-set}
+use lib.ListN.{length-set}
 use Rattle.host.proofs.Objects.{wipe_next, wipe_all}
 use Rattle.host.proofs.emv_wipe.Goals as goal
 
@@ -22,7 +21,6 @@ loop-i-preserved c =
           g.invariant.2,
     )
 
-
 pub shape_of-session : goal.shape_of-session
 shape_of-session c = c.loop-i.invariant.0
 
@@ -34,4 +32,3 @@ returns c =
       session = wipe_all g.session g.i _ g.invariant.0 g.invariant.1 c.loop-i-test.false
           g.invariant.2;
     }
-
