@@ -1,13 +1,13 @@
 -- A call's record is read back as that call: the length from its two bytes, the bytes from the front of the body,
 -- zeros after them.
 -- Assumes nothing.
-use mathlib.Core.Path.{◌≡◌, refl, sym, ap, ◌∙◌}
+use mathlib.Core.Path.{◌≡◌, refl, ap, ◌∙◌}
 use mathlib.Core.Bool.{true}
-use mathlib.Core.List.{List, [], ◌∷◌, ◌++◌}
+use mathlib.Core.List.{List, [], ◌∷◌}
 use mathlib.Core.Option.{some}
 use Prim.Native.Nat.{ℕ, zero, suc, ◌+◌, ◌-◌, ◌*◌, ◌/◌, ◌%◌, ◌≤◌, ◌<◌}
 use native.Mathlib.Omega.{arith}
-use lib.ListN.{length, take, drop, replicate, length-append, length-replicate}
+use lib.ListN.{length, take, drop, replicate}
 use lib.Seq.{take-append_seam, drop-append_seam}
 use borrow.Author.Tests.{le-leb, lt-leb}
 use Rattle.basics.specs.Choice.{both, every}
@@ -16,8 +16,8 @@ use Rattle.store.specs.Held.{is_zero_byte}
 use Rattle.session.specs.Calls.{start, answer, link_failed, stop}
 use Rattle.journal.specs.Record.{journal_command_buffer, journal_record_length_field, journal_record_data}
 use Rattle.journal.specs.Record.{journal_length_and_zero_padding_valid, is_too_long_answer_record, answer_of259_zero_bytes}
-use Rattle.journal.specs.Record.{most_answer_bytes_in_journal_record, zero_padded, length_then_padded_bytes}
-use Rattle.journal.specs.Record.{answer_record_body, journal_call_record, call_from_journal_record}
+use Rattle.journal.specs.Record.{zero_padded, length_then_padded_bytes}
+use Rattle.journal.specs.Record.{journal_call_record, call_from_journal_record}
 use Rattle.journal.proofs.Reading.{kind_start, kind_answer, kind_link, kind_stop, long_no}
 
 zeros : (n : ℕ) → every is_zero_byte (replicate n 0) ≡ true

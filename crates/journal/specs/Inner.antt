@@ -2,7 +2,7 @@
 -- journal ends. It follows the code, and a reader of the rules can skip it: a checker that was fed the bytes s, in
 -- whatever parts (`CheckerWasFed`), says `journal_verdict_of` and `expected_reply_at_first_mismatch` of them.
 -- Assumes nothing.
-use Rattle.std.specs.Prelude.{◌≡◌, Bool, true, false, not, List, [], ◌∷◌, ◌++◌, ◌+◌, length, take, drop, set, replicate}
+use Rattle.std.specs.Prelude.{◌≡◌, Bool, true, false, not, [], ◌∷◌, ◌++◌, ◌+◌, length, take, drop, set, replicate}
 use Rattle.std.proofs.Math.Option.{Option, some, none}
 use Rattle.basics.specs.Types.{Bytes, JournalBytes, Buffer, Byte, Count}
 use Rattle.basics.specs.Choice.{if◌then◌else◌, ◌and◌, ◌or◌, ◌≤?◌, ◌<?◌, ◌=?◌}

@@ -1,7 +1,7 @@
 -- What a journal's bytes are judged to be (document 02, Item 1): accepted, or the number of the first record that
 -- differs from what document 01 gives or is truncated. Records count from 1.
 -- Assumes nothing.
-use Rattle.std.specs.Prelude.{List, [], ◌∷◌, zero, suc, ◌+◌, ◌-◌, length, get_or, take, drop}
+use Rattle.std.specs.Prelude.{[], ◌∷◌, zero, suc, ◌+◌, ◌-◌, length, get_or, take, drop}
 use Rattle.std.proofs.Math.Option.{Option, some, none}
 use Rattle.basics.specs.Types.{Bytes, JournalBytes, Length, Count}
 use Rattle.basics.specs.Choice.{if◌then◌else◌, ◌<?◌, ◌=?◌}

@@ -8,7 +8,6 @@ use Rattle.journal.specs.declared.JournalCheckState.{JournalCheckState}
 use Rattle.journal.specs.declared.JournalChecker.{JournalChecker}
 use Rattle.journal.specs.Verdict.{expected_next_of_session_and_due_reply}
 use Rattle.journal.specs.Inner.{check_state_of, new_checker, checker_after_bytes}
-use borrow.Author.Rules.{rules}
 use Rattle.journal.proofs.begin.Goals as goal
 
 -- the checker that holds nothing, by its standing

@@ -12,4 +12,3 @@ returns c = let a = c.args in
     let l : length a.buffer ≡ 261 = search rules in
     let e = copied a.buffer (replicate 261 0) c.copy.new.dst l c.copy.ensures.1 in
     command_whole a.session _ _ _ a.buffer e l
-

@@ -3,7 +3,6 @@
 use native.Mathlib.Omega.{arith}
 use borrow.Author.Tests.{not-true, not-false}
 use Rattle.journal.proofs.Follow.{says_wrong, says_whole, says_many, says_held}
-use borrow.Author.Rules.{rules}
 use Rattle.journal.proofs.Told.{told}
 use Rattle.journal.proofs.finish.Goals as goal
 

@@ -9,11 +9,9 @@ pub returns-then-kind-eq-KIND_START : goal.returns-then-kind-eq-KIND_START
 unfolding journal_record_size if
 returns-then-kind-eq-KIND_START c = simp (eq-eqb _ _ c.if-kind-eq-KIND_START.true)
 
-
 pub returns-then-kind-eq-KIND_ANSWER : goal.returns-then-kind-eq-KIND_ANSWER
 unfolding journal_record_size if
 returns-then-kind-eq-KIND_ANSWER c = simp (ne_eqb _ _ c.if-kind-eq-KIND_START.false, eq-eqb _ _ c.if-kind-eq-KIND_ANSWER.true)
-
 
 pub returns-then-kind-eq-KIND_LINK_FAILED : goal.returns-then-kind-eq-KIND_LINK_FAILED
 unfolding journal_record_size if
@@ -24,7 +22,6 @@ returns-then-kind-eq-KIND_LINK_FAILED c = simp (
       c.if-kind-eq-KIND_LINK_FAILED.true,
 )
 
-
 pub returns-then-kind-eq-KIND_STOP : goal.returns-then-kind-eq-KIND_STOP
 unfolding journal_record_size if
 returns-then-kind-eq-KIND_STOP c = simp (
@@ -34,7 +31,6 @@ returns-then-kind-eq-KIND_STOP c = simp (
       _ _ c.if-kind-eq-KIND_LINK_FAILED.false,
   eq-eqb _ _ c.if-kind-eq-KIND_STOP.true,
 )
-
 
 pub returns-then-kind-eq-KIND_COMMAND : goal.returns-then-kind-eq-KIND_COMMAND
 unfolding journal_record_size if
@@ -47,7 +43,6 @@ returns-then-kind-eq-KIND_COMMAND c = simp (
       c.if-kind-eq-KIND_STOP.false,
   eq-eqb _ _ c.if-kind-eq-KIND_COMMAND.true,
 )
-
 
 pub returns-then-kind-eq-KIND_OUTCOME : goal.returns-then-kind-eq-KIND_OUTCOME
 unfolding journal_record_size if
@@ -62,7 +57,6 @@ returns-then-kind-eq-KIND_OUTCOME c = simp (
   eq-eqb _ _ c.if-kind-eq-KIND_OUTCOME.true,
 )
 
-
 pub returns : goal.returns
 unfolding journal_record_size if
 returns c = simp (
@@ -75,4 +69,3 @@ returns c = simp (
   ne_eqb _ _ c.if-kind-eq-KIND_COMMAND.false,
   ne_eqb _ _ c.if-kind-eq-KIND_OUTCOME.false,
 )
-

@@ -14,18 +14,14 @@ use Rattle.journal.proofs.push.Goals as goal
 pub returns-then-not-standing : goal.returns-then-not-standing
 returns-then-not-standing c = stays_wrong _ _ (not-true _ c.if-not-standing.true)
 
-
 pub returns-then-length-ge-START_RECORD : goal.returns-then-length-ge-START_RECORD
 returns-then-length-ge-START_RECORD c = stays_length _ _ (omega (arith, c.if-length-ge-START_RECORD.true))
-
 
 pub returns-then-standing-gt-COMMAND_RECORD : goal.returns-then-standing-gt-COMMAND_RECORD
 returns-then-standing-gt-COMMAND_RECORD c = stays_size _ _ (omega (arith, c.if-standing-gt-COMMAND_RECORD.true))
 
-
 pub returns-then-checker-ge-MOST_RECORDS : goal.returns-then-checker-ge-MOST_RECORDS
 returns-then-checker-ge-MOST_RECORDS c = stays_records _ _ (omega (arith, c.if-checker-ge-MOST_RECORDS.true))
-
 
 pub returns-then-length-size : goal.returns-then-length-size
 returns-then-length-size c = let k = c.args in
@@ -33,7 +29,6 @@ returns-then-length-size c = let k = c.args in
     (not-false _ c.if-not-standing.false) (search rules)
     (search rules) (search rules) c.journal_record_size-size.result c.journal_record_size-size.ensures
     c.if-length-size.true
-
 
 pub slice_bounds-held-end : goal.slice_bounds-held-end
 slice_bounds-held-end c = let k =
@@ -47,7 +42,6 @@ slice_bounds-held-end c = let k =
           k.held k.length
           c.args.byte,
     )
-
 
 pub slice_bounds-judge-end : goal.slice_bounds-judge-end
 slice_bounds-judge-end c = let k =
@@ -63,7 +57,6 @@ slice_bounds-judge-end c = let k =
       length-set k.held k.length
           c.args.byte,
     )))
-
 
 pub judge-judged-requires : goal.judge-judged-requires
 judge-judged-requires c = let k =
@@ -84,7 +77,6 @@ judge-judged-requires c = let k =
       omega (arith, c.if-standing-gt-COMMAND_RECORD.false),
     )
 
-
 pub returns : goal.returns
 returns c = let k =
     c.args in
@@ -93,4 +85,3 @@ returns c = let k =
     (not-false _ c.if-not-standing.false)
     (search rules) (search rules) (search rules) s.result c.judge-judged.result s.ensures
     (omega (arith, c.if-length-size.false)) c.judge-judged.ensures
-

@@ -3,9 +3,7 @@
 use Rattle.step_laws.proofs.EveryCall.{stop_came}
 use Rattle.journal.specs.Record.{journal_command_buffer}
 use Rattle.journal.proofs.Due.{did_due}
-use borrow.Author.Rules.{rules}
 use Rattle.journal.proofs.stopped.Goals as goal
 
 pub returns : goal.returns
 returns c = did_due c.args.standing (stop_came _ journal_command_buffer) c.stop-reply.ensures c.due_of.ensures
-

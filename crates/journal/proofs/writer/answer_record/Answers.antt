@@ -1,7 +1,6 @@
 -- `journal::writer::answer_record` meets its contract: the card's bytes are at the front of zeros, or the length says
 -- that they are too many.
 -- Assumes nothing.
-use borrow.Author.Rules.{rules}
 use borrow.Author.Tests.{le-leb, lt-leb}
 use native.Mathlib.Omega.{arith}
 use mathlib.Core.Path.{sym, ap, ◌∙◌}
@@ -16,7 +15,6 @@ use Rattle.journal.proofs.writer.answer_record.Goals as goal
 pub returns-then-card-gt-MOST_ANSWER : goal.returns-then-card-gt-MOST_ANSWER
 returns-then-card-gt-MOST_ANSWER c = ap (λ (b : List ℕ). 2 ∷ b) (sym (if_no _ _ (lt-leb _ _ c.if-card-gt-MOST_ANSWER.true)))
 
-
 pub returns : goal.returns
 returns c =
     let v = c.args.card.now in
@@ -24,4 +22,3 @@ returns c =
     ∙ ap (λ (b : List ℕ). 2 ∷ b)
     (sym (if_yes (length_then_padded_bytes 258 v) (length_in_two_bytes 0xFFFF ++ zero_padded 258 [])
     (le-leb (length v) 258 (omega (arith, c.if-card-gt-MOST_ANSWER.false)))))
-

@@ -1,6 +1,5 @@
 -- `journal::writer::command_record` meets its contract: the front of the buffer is at the front of zeros.
 -- Assumes nothing.
-use borrow.Author.Rules.{rules}
 use borrow.Author.Tests.{le-leb, lt-leb}
 use native.Mathlib.Omega.{arith}
 use mathlib.Core.Path.{sym, ◌∙◌}
@@ -14,11 +13,9 @@ pub returns-then-size-gt-MOST_COMMAND : goal.returns-then-size-gt-MOST_COMMAND
 unfolding command_record_or_zeros
 returns-then-size-gt-MOST_COMMAND c = sym (if_no _ _ (both_no_left _ _ (lt-leb _ _ c.if-size-gt-MOST_COMMAND.true)))
 
-
 pub returns-then-buffer-size : goal.returns-then-buffer-size
 unfolding command_record_or_zeros
 returns-then-buffer-size c = sym (if_no _ _ (both_no_right _ _ (lt-leb _ _ c.if-buffer-size.true)))
-
 
 pub slice_bounds-fill-end : goal.slice_bounds-fill-end
 slice_bounds-fill-end c = simp length-take (omega arith)
@@ -37,4 +34,3 @@ returns c =
     ∙ sym
     (if_yes _ _ (both_yes _ _ (le-leb a.size 261 (omega (arith, g)))
     (le-leb a.size (length a.buffer.now) (omega (arith, h)))))
-

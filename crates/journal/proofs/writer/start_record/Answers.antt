@@ -1,6 +1,5 @@
 -- `journal::writer::start_record` meets its contract: the bytes are at the front of zeros.
 -- Assumes nothing.
-use borrow.Author.Rules.{rules}
 use borrow.Author.Tests.{le-leb, lt-leb}
 use native.Mathlib.Omega.{arith}
 use mathlib.Core.Path.{sym, ◌∙◌}
@@ -14,11 +13,9 @@ pub returns-then-bytes-gt-MOST_START : goal.returns-then-bytes-gt-MOST_START
 unfolding start_record_or_zeros
 returns-then-bytes-gt-MOST_START c = sym (if_no _ _ (lt-leb _ _ c.if-bytes-gt-MOST_START.true))
 
-
 pub returns : goal.returns
 unfolding start_record_or_zeros
 returns c =
     let v = c.args.bytes.now in
     in_zeros 1 1024 v _ c.fill.ensures
     ∙ sym (if_yes _ (replicate 1027 0) (le-leb (length v) 1024 (omega (arith, c.if-bytes-gt-MOST_START.false))))
-
