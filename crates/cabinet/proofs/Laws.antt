@@ -312,10 +312,10 @@ did_refuse {d} {w} {l} {buf} n e q = subst (ReturnsCabinetResult w l buf) (sym q
 -- ---- the state around the store that a step left in its place
 
 -- an answer that is no refusal
-pub not_refused : (x : CallResult) → OneOf (0 ∷ 1 ∷ []) (tag_of answer_type x) → is_refusal x ≡ false
+pub not_refused : (x : CallResult) → ((r : Refusal) → x ≡ CallResult.Refused r → ⊥) → is_refusal x ≡ false
 not_refused (CallResult.Command x) h = refl
 not_refused (CallResult.Outcome e) h = refl
-not_refused (CallResult.Refused r) h = absurd (⊎_elim (λ e. omega arith) (λ e. omega arith) h)
+not_refused (CallResult.Refused r) h = absurd (h r refl)
 
 pub finished_taken : (x : CallResult) (t : Transition) (a : Amounts) (l : List ℕ) → is_refusal x ≡ false
     → state_with_amounts (amounts_after_result x a) (record_head_written_over_front_if_room t.phase t.count l)
@@ -514,9 +514,9 @@ pub handed_command : (x : CommandLength) (f b m : List ℕ) → x.size ≤ lengt
     → m ≡ command_copied_to_buffer (CallResult.Command x) f b
 handed_command x f b m h e = e ∙ (λ i. take-length (take x.size f) i ++ drop (length-take-le x.size f h i) b)
 
-pub handed_nothing : (x : CallResult) (f b : List ℕ) → OneOf (1 ∷ 2 ∷ []) (tag_of answer_type x)
+pub handed_nothing : (x : CallResult) (f b : List ℕ) → ((c : CommandLength) → x ≡ CallResult.Command c → ⊥)
     → b ≡ command_copied_to_buffer x f b
-handed_nothing (CallResult.Command x) f b h = absurd (⊎_elim (λ e. omega arith) (λ e. omega arith) h)
+handed_nothing (CallResult.Command x) f b h = absurd (h x refl)
 handed_nothing (CallResult.Outcome e) f b h = refl
 handed_nothing (CallResult.Refused r) f b h = refl
 

@@ -5,9 +5,8 @@ use mathlib.Core.Path.{◌≡◌, refl, sym, ap, ap₂, ◌∙◌}
 use mathlib.Core.Bool.{Bool, true, false, not}
 use mathlib.Core.List.{List, [], ◌∷◌}
 use mathlib.Core.Option.{Option, some, none}
-use Prim.Native.Nat.{ℕ, suc, ◌+◌, ◌-◌, ◌/◌, ◌≤◌, ◌<◌}
+use Prim.Native.Nat.{ℕ, ◌+◌, ◌-◌, ◌/◌, ◌≤◌, ◌<◌}
 use native.Mathlib.Omega.{arith}
-use lib.Dec.{eqb}
 use lib.ListN.{length, take, drop, length-take}
 use borrow.Author.Tests.{lt-ltb, le-ltb, eq-eqb, ne_eqb, not-true, not-false}
 use Rattle.basics.specs.Choice.{if}
@@ -62,7 +61,7 @@ use Rattle.start_data.proofs.Laws.{was_taken, was_refused}
 use Rattle.session.specs.declared.Check.{Check}
 use Rattle.session.specs.declared.CryptogramOutcome.{CryptogramOutcome}
 use Rattle.session.specs.declared.Decision.{Decision}
-use Rattle.session.specs.Steps.{NextAction, ask, end, end_for_reason, held_cvm, request_command_or_end_for_dol}
+use Rattle.session.specs.Steps.{NextAction, end, end_for_reason, held_cvm, request_command_or_end_for_dol}
 use Rattle.session.specs.Steps.{read_response_then, store_with_tvr, store_with_findings}
 use Rattle.session.specs.Steps.{Step, ReturnsStep, CallEffect, refuse, step_of_next, refused_step, step_of_effect}
 use Rattle.session.specs.Steps.{least_buffer, step_if_admitted}

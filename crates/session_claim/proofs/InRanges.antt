@@ -64,10 +64,10 @@ unfolding play_calls play_in
 play_in_lem s e [] = refl
 play_in_lem s e (c ∷ cs) =
     ap (λ (st : Step). call_made s c st ∷ play_calls st.reply.session cs) (step_in s e c) ∙ ap
-    (λ (ms : List CallMade). call_made s c (step_by_effect s c) ∷ ms) (play_in_lem _ (after s e c) cs)
+    (λ (ms : List CallMade). call_made s c (step_by_effect s c) ∷ ms) (play_in_lem (step_by_effect s c).reply.session (after s e c) cs)
 
 pub final_in_lem : (s : Session) → session_record_in_ranges s ≡ true → (cs : List Call) → final_session s cs ≡ final_in s cs
 unfolding final_session final_in
 final_in_lem s e [] = refl
-final_in_lem s e (c ∷ cs) = ap (λ (st : Step). final_session st.reply.session cs) (step_in s e c) ∙ final_in_lem _
-    (after s e c) cs
+final_in_lem s e (c ∷ cs) = ap (λ (st : Step). final_session st.reply.session cs) (step_in s e c)
+    ∙ final_in_lem (step_by_effect s c).reply.session (after s e c) cs

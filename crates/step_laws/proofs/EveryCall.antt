@@ -9,7 +9,7 @@ use Prim.Native.Nat.{ℕ, ◌+◌, ◌≤◌}
 use native.Mathlib.Omega.{arith}
 use lib.ListN.{length, drop, length-append, length-drop}
 use lib.Seq.{drop_at}
-use Rattle.dictionary.specs.Named.{row_afl, row_track2_data}
+use Rattle.dictionary.specs.Named.{row_afl}
 use Rattle.dictionary.specs.Rows.{store_size}
 use Rattle.dictionary.proofs.Named.{at_94}
 use Rattle.store.specs.Place.{StoredValue, bytes_or_empty_if_absent, object_value}
@@ -56,11 +56,11 @@ pub data Came (s : Session) (buf : List ℕ) : Step → Type 0 where
       → Came s buf (command_step s.count b p c buf)
 
 module _ (s : Session) (card buf : List ℕ) where
-  came_gpo : {st : Step} (b : List ℕ) → Admitted s (length buf) → GpoWay (with_store s b) buf st → Came s buf st
+  came_gpo : (b : List ℕ) {st : Step} → Admitted s (length buf) → GpoWay (with_store s b) buf st → Came s buf st
   came_gpo b i (GpoWay.failed n r) = ended _ b _ n
   came_gpo b i (GpoWay.first r m a e) = sent b _ (read_record_command r) (omega (arith, i.room))
 
-  came_records : {st : Step} (l : ℕ) (b : List ℕ) → Admitted s (length buf) → RecordsWay l (with_store s b) buf st
+  came_records : (l : ℕ) (b : List ℕ) {st : Step} → Admitted s (length buf) → RecordsWay l (with_store s b) buf st
       → Came s buf st
   came_records l b i (RecordsWay.failed n r x) = ended _ b _ n
   came_records l b i RecordsWay.unlisted = ended _ _ _ _
@@ -89,7 +89,7 @@ module _ (s : Session) (card buf : List ℕ) where
   came_cryptogram m b (CryptogramWay.failed n r) = ended m b _ n
   came_cryptogram m b (CryptogramWay.decides o g) = ended m b o 0
 
-  came_checksum : {q : Reply} (b : List ℕ) → ChecksumWay (with_store s b) q → Came s buf (without_command q buf)
+  came_checksum : (b : List ℕ) {q : Reply} → ChecksumWay (with_store s b) q → Came s buf (without_command q buf)
   came_checksum b ChecksumWay.failed = ended _ b _ _
   came_checksum b ChecksumWay.declined = ended _ b _ 0
   came_checksum b ChecksumWay.online = ended _ _ _ 0

@@ -32,7 +32,7 @@ finish-requires c = let taken : let a = c.args in Taken a.state.now a.command.no
         same_len_mid record_head_size store_size
             c.args.state.now
             c.answer_on_parts-transition.new.store
-            c.state-1.given.0,
+            (search rules),
       ); reserved_bound = k.told.fits }
 
 pub returns-in-Refused : goal.returns-in-Refused
@@ -54,4 +54,4 @@ returns-in-Admitted c =
     c.answer_on_parts-transition.new.store
     c.answer_on_parts-transition.result
     c.answer_on_parts-transition.ensures
-    c.state-1.given.0 c.finish.ensures
+    (search rules) c.finish.ensures

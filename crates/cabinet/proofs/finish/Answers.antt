@@ -19,6 +19,6 @@ returns c =
           c.write_record_head.ensures
           ∙ finished_taken a.transition.answer a.transition a.amounts a.state.now
           (not_refused a.transition.answer
-          c.in_default.in_default-own.keys2),
+          c.in_default.not-Refused),
     )
 

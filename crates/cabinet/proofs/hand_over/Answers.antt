@@ -13,7 +13,7 @@ use Rattle.cabinet.proofs.hand_over.Goals as goal
 
 pub returns-in_default : goal.returns-in_default
 returns-in_default c = let a = c.args in handed_nothing a.answer a.first.now a.command.now
-    c.in_default.in_default-own.keys2
+    c.in_default.not-Command
 
 
 pub slice_bounds-copy-end : goal.slice_bounds-copy-end

@@ -38,7 +38,7 @@ returns-then-remaining-amount c =
     c.requires.least_buffer_in_bounds _ _ _
     c.start_on_parts-transition.ensures
     (not_refused c.start_on_parts-transition.result.answer
-    c.in_default.in_default-own.keys2) _ c.refusal_word-then-remaining-amount.ensures
+    c.in_default.not-Refused) _ c.refusal_word-then-remaining-amount.ensures
     (omega (arith, c.if-remaining-amount.true, q))
 
 
@@ -73,7 +73,7 @@ returns c =
     d
     (not_refused
     c.start_on_parts-transition.result.answer
-    c.in_default.in_default-own.keys2) c.requires.cabinet_state_size_in_bounds
+    c.in_default.not-Refused) c.requires.cabinet_state_size_in_bounds
     (omega (
       arith,
       c.if-remaining-amount.false,

@@ -30,5 +30,5 @@ returns-in-Admitted c =
     c.answer_on_parts-transition.new.store
     c.answer_on_parts-transition.result
     c.answer_on_parts-transition.ensures
-    c.session-1.given.0 c.finish.ensures
+    (search rules) c.finish.ensures
 

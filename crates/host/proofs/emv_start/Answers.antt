@@ -30,5 +30,5 @@ returns-in-Admitted c =
     c.start_on_parts-transition.new.store
     c.start_on_parts-transition.result
     c.start_on_parts-transition.ensures
-    c.session-1.given.0 c.finish.ensures
+    (search rules) c.finish.ensures
 

@@ -1,7 +1,5 @@
 -- `session::abort` meets its contract: the two refusals by their laws; past them the phase decides.
 -- Assumes nothing.
-use borrow.Author.Rules.{rules}
-use borrow.Author.Tests.{not-true, not-false}
 use mathlib.Core.Path.{◌≡◌, sym, ap, ◌∙◌}
 use Prim.Native.Nat.{ℕ}
 use Rattle.session_record.specs.declared.AwaitedResponse.{AwaitedResponse}
@@ -14,17 +12,15 @@ use Rattle.session.proofs.abort.Goals as goal
 pub returns-then-command-lt-LEAST_BUFFER : goal.returns-then-command-lt-LEAST_BUFFER
 returns-then-command-lt-LEAST_BUFFER c = did_without_command _ c.refuse_call.ensures (admitted_short _ _ _ c.if-command-lt-LEAST_BUFFER.true)
 
-
 pub returns-then-not-session_parts_in_ranges : goal.returns-then-not-session_parts_in_ranges
 returns-then-not-session_parts_in_ranges c = did_without_command _ c.refuse_call-then-not-session_parts_in_ranges.ensures
     (admitted_ranges _ _ _ c.if-command-lt-LEAST_BUFFER.false
     (sym c.session_parts_in_ranges.ensures ∙ c.if-not-session_parts_in_ranges.true))
 
-
 pub returns-in-Fresh : goal.returns-in-Fresh
 returns-in-Fresh c =
     let by_phase : (p : Phase) → let a = c.args in let s = session_of a.phase a.count a.bytes.now in a.phase ≡ p → abort_step s a.reason a.command.now ≡ step_of_effect s a.command.now (effect_if_running p (λ (w : AwaitedResponse). end (ending_for_reason a.reason) (held_cvm w) a.bytes.now)) =
-      λ p e. let a = c.args in
+    λ p e. let a = c.args in
     admitted_in _ _ _ c.if-command-lt-LEAST_BUFFER.false (sym c.session_parts_in_ranges.ensures ∙ c.if-not-session_parts_in_ranges.false)
     ∙ ap (λ (q : Phase). step_of_effect (session_of a.phase a.count a.bytes.now) a.command.now
     (effect_if_running q (λ (w : AwaitedResponse). end (ending_for_reason a.reason) (held_cvm w) a.bytes.now))) e in
@@ -34,7 +30,7 @@ returns-in-Fresh c =
 pub returns-in-Waiting : goal.returns-in-Waiting
 returns-in-Waiting c =
     let by_phase : (p : Phase) → let a = c.args in let s = session_of a.phase a.count a.bytes.now in a.phase ≡ p → abort_step s a.reason a.command.now ≡ step_of_effect s a.command.now (effect_if_running p (λ (w : AwaitedResponse). end (ending_for_reason a.reason) (held_cvm w) a.bytes.now)) =
-      λ p e. let a = c.args in
+    λ p e. let a = c.args in
     admitted_in _ _ _ c.if-command-lt-LEAST_BUFFER.false (sym c.session_parts_in_ranges.ensures ∙ c.if-not-session_parts_in_ranges.false)
     ∙ ap (λ (q : Phase). step_of_effect (session_of a.phase a.count a.bytes.now) a.command.now
     (effect_if_running q (λ (w : AwaitedResponse). end (ending_for_reason a.reason) (held_cvm w) a.bytes.now))) e in
@@ -46,7 +42,7 @@ returns-in-Waiting c =
 pub returns-in-Ended : goal.returns-in-Ended
 returns-in-Ended c =
     let by_phase : (p : Phase) → let a = c.args in let s = session_of a.phase a.count a.bytes.now in a.phase ≡ p → abort_step s a.reason a.command.now ≡ step_of_effect s a.command.now (effect_if_running p (λ (w : AwaitedResponse). end (ending_for_reason a.reason) (held_cvm w) a.bytes.now)) =
-      λ p e. let a = c.args in
+    λ p e. let a = c.args in
     admitted_in _ _ _ c.if-command-lt-LEAST_BUFFER.false (sym c.session_parts_in_ranges.ensures ∙ c.if-not-session_parts_in_ranges.false)
     ∙ ap (λ (q : Phase). step_of_effect (session_of a.phase a.count a.bytes.now) a.command.now
     (effect_if_running q (λ (w : AwaitedResponse). end (ending_for_reason a.reason) (held_cvm w) a.bytes.now))) e in

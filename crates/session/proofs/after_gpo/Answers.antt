@@ -26,20 +26,19 @@ returns-in_default c = did_end _ _ _ c.fail_session.ensures
     (gpo_missing _ (is_failed _ (omega arith) c.gpo_data_present.ensures
     c.in_default.is))
 
-
 pub returns-in_default-mode_in : goal.returns-in_default-mode_in
 returns-in_default-mode_in c =
     let there : let b = c.args.bytes.now in aip_and_afl_present b ≡ true =
-      is_passed _ (omega arith) c.gpo_data_present.ensures c.in-Passed.is in
+    is_passed _ (omega arith) c.gpo_data_present.ensures c.in-Passed.is in
     did_end _ _ _ c.fail_session-in_default-mode_in.ensures (gpo_mode _ (there)
     (is_failed _ (omega arith) c.mode_in.ensures c.in_default-mode_in.is))
 
 pub returns-in_default-check_afl : goal.returns-in_default-check_afl
 returns-in_default-check_afl c =
     let carried : emv_or_mag_stripe_mode c.args.bytes.now ≡ true =
-      is_passed _ (omega arith) c.mode_in.ensures c.in-Passed-mode_in.is in
+    is_passed _ (omega arith) c.mode_in.ensures c.in-Passed-mode_in.is in
     let there : let b = c.args.bytes.now in aip_and_afl_present b ≡ true =
-      is_passed _ (omega arith) c.gpo_data_present.ensures c.in-Passed.is in
+    is_passed _ (omega arith) c.gpo_data_present.ensures c.in-Passed.is in
     did_end _ _ _ c.fail_session-in_default-check_afl.ensures
     (gpo_afl _ (there) (carried)
     (located_no _ c.value-entries.ensures
@@ -48,11 +47,11 @@ returns-in_default-check_afl c =
 pub returns-in_default-kth_record_of_accepted_afl : goal.returns-in_default-kth_record_of_accepted_afl
 returns-in_default-kth_record_of_accepted_afl c =
     let carried : emv_or_mag_stripe_mode c.args.bytes.now ≡ true =
-      is_passed _ (omega arith) c.mode_in.ensures c.in-Passed-mode_in.is in
+    is_passed _ (omega arith) c.mode_in.ensures c.in-Passed-mode_in.is in
     let there : let b = c.args.bytes.now in aip_and_afl_present b ≡ true =
-      is_passed _ (omega arith) c.gpo_data_present.ensures c.in-Passed.is in
+    is_passed _ (omega arith) c.gpo_data_present.ensures c.in-Passed.is in
     let asked : (x : RecordFound) → let a = c.args in c.kth_record_of_accepted_afl.result ≡ x → next_after_gpo_read a.bytes.now ≡ request_kth_record_if_found (transaction_limit a.bytes.now) 1 a.bytes.now (end_for_reason reason_afl_invalid a.bytes.now) x =
-      λ x e. gpo_ask _ x (there) (carried)
+    λ x e. gpo_ask _ x (there) (carried)
     (located_yes _ c.value-entries.ensures (sym c.check_afl.ensures.said ∙
     c.in-Accepted.is)).0
     (found_as c.kth_record_of_accepted_afl.ensures e _ 1 c.value-entries.ensures refl) in
@@ -60,17 +59,20 @@ returns-in_default-kth_record_of_accepted_afl c =
     c.in_default-kth_record_of_accepted_afl.is)
 
 pub ask_record-requires : goal.ask_record-requires
-ask_record-requires c = record { least_buffer_in_bounds = search rules; sfi_bound = (found_there _ _ c.kth_record_of_accepted_afl.ensures
-      c.in-At.is).0 }
+ask_record-requires c = record {
+  least_buffer_in_bounds = search rules;
+  sfi_bound = (found_there _ _ c.kth_record_of_accepted_afl.ensures
+      c.in-At.is).0;
+}
 
 pub returns : goal.returns
 returns c =
     let carried : emv_or_mag_stripe_mode c.args.bytes.now ≡ true =
-      is_passed _ (omega arith) c.mode_in.ensures c.in-Passed-mode_in.is in
+    is_passed _ (omega arith) c.mode_in.ensures c.in-Passed-mode_in.is in
     let there : let b = c.args.bytes.now in aip_and_afl_present b ≡ true =
-      is_passed _ (omega arith) c.gpo_data_present.ensures c.in-Passed.is in
+    is_passed _ (omega arith) c.gpo_data_present.ensures c.in-Passed.is in
     let asked : (x : RecordFound) → let a = c.args in c.kth_record_of_accepted_afl.result ≡ x → next_after_gpo_read a.bytes.now ≡ request_kth_record_if_found (transaction_limit a.bytes.now) 1 a.bytes.now (end_for_reason reason_afl_invalid a.bytes.now) x =
-      λ x e. gpo_ask _ x (there) (carried)
+    λ x e. gpo_ask _ x (there) (carried)
     (located_yes _ c.value-entries.ensures (sym c.check_afl.ensures.said ∙
     c.in-Accepted.is)).0
     (found_as c.kth_record_of_accepted_afl.ensures e _ 1 c.value-entries.ensures refl) in

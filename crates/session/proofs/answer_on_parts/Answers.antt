@@ -3,7 +3,6 @@
 -- the phase decides.
 -- Assumes nothing.
 use borrow.Author.Rules.{rules}
-use borrow.Author.Tests.{not-true, not-false}
 use mathlib.Core.Path.{◌≡◌, sym, ap, ◌∙◌}
 use mathlib.Core.Bool.{true}
 use native.Mathlib.Omega.{arith}
@@ -20,25 +19,26 @@ use Rattle.session.proofs.answer_on_parts.Goals as goal
 pub returns-then-command-lt-LEAST_BUFFER : goal.returns-then-command-lt-LEAST_BUFFER
 returns-then-command-lt-LEAST_BUFFER c = did_without_command _ c.refuse_call.ensures (admitted_short _ _ _ c.if-command-lt-LEAST_BUFFER.true)
 
-
 pub returns-then-not-session_parts_in_ranges : goal.returns-then-not-session_parts_in_ranges
 returns-then-not-session_parts_in_ranges c =
     did_without_command _ c.refuse_call-then-not-session_parts_in_ranges.ensures
     (admitted_ranges _ _ _ c.if-command-lt-LEAST_BUFFER.false
     (sym c.session_parts_in_ranges.ensures ∙ c.if-not-session_parts_in_ranges.true))
 
-
 pub take_response-requires : goal.take_response-requires
 take_response-requires c = let ranged : let a = c.args in session_record_in_ranges (session_of a.phase a.count a.store.now) ≡ true =
-      sym c.session_parts_in_ranges.ensures ∙ c.if-not-session_parts_in_ranges.false in record { least_buffer_in_bounds = (search rules, omega (arith, count_most _ (ranged))); store_len = store_size_lem _
-      (ranged) }
+    sym c.session_parts_in_ranges.ensures ∙ c.if-not-session_parts_in_ranges.false in record {
+      least_buffer_in_bounds = (search rules, omega (arith, count_most _ (ranged)));
+      store_len = store_size_lem _
+          (ranged);
+    }
 
 pub returns-in-Fresh : goal.returns-in-Fresh
 returns-in-Fresh c =
     let ranged : let a = c.args in session_record_in_ranges (session_of a.phase a.count a.store.now) ≡ true =
-      sym c.session_parts_in_ranges.ensures ∙ c.if-not-session_parts_in_ranges.false in
+    sym c.session_parts_in_ranges.ensures ∙ c.if-not-session_parts_in_ranges.false in
     let by_phase : (p : Phase) → let a = c.args in a.phase ≡ p → answer_step (session_of a.phase a.count a.store.now) a.card.now a.command.now ≡ step_of_effect (session_of p a.count a.store.now) a.command.now (effect_if_running p (next_on_response a.store.now a.card.now)) =
-      λ p e. let a = c.args in
+    λ p e. let a = c.args in
     admitted_in _ _ _ c.if-command-lt-LEAST_BUFFER.false (ranged)
     ∙ ap (λ (q : Phase). step_of_effect (session_of q a.count a.store.now) a.command.now
     (effect_if_running q (next_on_response a.store.now a.card.now))) e in
@@ -51,9 +51,9 @@ returns-in-Fresh c =
 pub returns-in-Waiting : goal.returns-in-Waiting
 returns-in-Waiting c =
     let ranged : let a = c.args in session_record_in_ranges (session_of a.phase a.count a.store.now) ≡ true =
-      sym c.session_parts_in_ranges.ensures ∙ c.if-not-session_parts_in_ranges.false in
+    sym c.session_parts_in_ranges.ensures ∙ c.if-not-session_parts_in_ranges.false in
     let by_phase : (p : Phase) → let a = c.args in a.phase ≡ p → answer_step (session_of a.phase a.count a.store.now) a.card.now a.command.now ≡ step_of_effect (session_of p a.count a.store.now) a.command.now (effect_if_running p (next_on_response a.store.now a.card.now)) =
-      λ p e. let a = c.args in
+    λ p e. let a = c.args in
     admitted_in _ _ _ c.if-command-lt-LEAST_BUFFER.false (ranged)
     ∙ ap (λ (q : Phase). step_of_effect (session_of q a.count a.store.now) a.command.now
     (effect_if_running q (next_on_response a.store.now a.card.now))) e in
@@ -64,9 +64,9 @@ returns-in-Waiting c =
 pub returns-in-Ended : goal.returns-in-Ended
 returns-in-Ended c =
     let ranged : let a = c.args in session_record_in_ranges (session_of a.phase a.count a.store.now) ≡ true =
-      sym c.session_parts_in_ranges.ensures ∙ c.if-not-session_parts_in_ranges.false in
+    sym c.session_parts_in_ranges.ensures ∙ c.if-not-session_parts_in_ranges.false in
     let by_phase : (p : Phase) → let a = c.args in a.phase ≡ p → answer_step (session_of a.phase a.count a.store.now) a.card.now a.command.now ≡ step_of_effect (session_of p a.count a.store.now) a.command.now (effect_if_running p (next_on_response a.store.now a.card.now)) =
-      λ p e. let a = c.args in
+    λ p e. let a = c.args in
     admitted_in _ _ _ c.if-command-lt-LEAST_BUFFER.false (ranged)
     ∙ ap (λ (q : Phase). step_of_effect (session_of q a.count a.store.now) a.command.now
     (effect_if_running q (next_on_response a.store.now a.card.now))) e in

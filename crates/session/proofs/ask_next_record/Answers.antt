@@ -14,7 +14,7 @@ pub returns-in_default : goal.returns-in_default
 unfolding next_after_record_read
 returns-in_default c =
     let next : (x : RecordFound) → let a = c.args in c.kth_record_of_accepted_afl-found.result ≡ x → next_after_record_read a.place a.store.now ≡ request_kth_record_if_found a.place.limit (a.place.number + 1) a.store.now (next_after_last_record a.place.limit a.store.now) x =
-      λ x e. let a = c.args in
+    λ x e. let a = c.args in
     ap (request_kth_record_if_found a.place.limit (a.place.number + 1) a.store.now
     (next_after_last_record a.place.limit a.store.now))
     (found_as c.kth_record_of_accepted_afl-found.ensures e _ _ c.value.ensures
@@ -31,16 +31,18 @@ overflow_add-number c = omega (
   c.widen-k.ensures.0,
 )
 
-
 pub ask_record-requires : goal.ask_record-requires
-ask_record-requires c = record { least_buffer_in_bounds = search rules; sfi_bound = (found_there _ _ c.kth_record_of_accepted_afl-found.ensures
-      c.in-At.is).0 }
+ask_record-requires c = record {
+  least_buffer_in_bounds = search rules;
+  sfi_bound = (found_there _ _ c.kth_record_of_accepted_afl-found.ensures
+      c.in-At.is).0;
+}
 
 pub returns : goal.returns
 unfolding next_after_record_read
 returns c =
     let next : (x : RecordFound) → let a = c.args in c.kth_record_of_accepted_afl-found.result ≡ x → next_after_record_read a.place a.store.now ≡ request_kth_record_if_found a.place.limit (a.place.number + 1) a.store.now (next_after_last_record a.place.limit a.store.now) x =
-      λ x e. let a = c.args in
+    λ x e. let a = c.args in
     ap (request_kth_record_if_found a.place.limit (a.place.number + 1) a.store.now
     (next_after_last_record a.place.limit a.store.now))
     (found_as c.kth_record_of_accepted_afl-found.ensures e _ _ c.value.ensures

@@ -1,8 +1,6 @@
 -- `session::checksum_outcome` meets its contract: counter and code are present or not, and each way out has its law.
 -- Assumes nothing.
-use borrow.Author.Rules.{rules}
 use native.Mathlib.Omega.{arith}
-use borrow.Author.Tests.{not-true, not-false}
 use mathlib.Core.Path.{◌≡◌}
 use mathlib.Core.Bool.{true}
 use Rattle.dictionary.proofs.Named.{at_9f61}
@@ -16,11 +14,10 @@ returns-in_default c buf = did_end _ _ _ c.fail_session.ensures
     (counter_missing _ (is_failed _ (omega arith) c.atc_present.ensures
     c.in_default.is))
 
-
 pub returns-then-not-is_present : goal.returns-then-not-is_present
 returns-then-not-is_present c buf =
     let counted : has_object c.args.store.now 0x9F36 ≡ true =
-      is_passed _ (omega arith) c.atc_present.ensures c.in-Passed.is in
+    is_passed _ (omega arith) c.atc_present.ensures c.in-Passed.is in
     did_end _ _ _ c.end_session.ensures
     (code_missing _ (counted)
     (held_is _ _ _ at_9f61 c.is_present.ensures c.if-not-is_present.true))
@@ -28,7 +25,7 @@ returns-then-not-is_present c buf =
 pub returns : goal.returns
 returns c buf =
     let counted : has_object c.args.store.now 0x9F36 ≡ true =
-      is_passed _ (omega arith) c.atc_present.ensures c.in-Passed.is in
+    is_passed _ (omega arith) c.atc_present.ensures c.in-Passed.is in
     did_end _ _ _ c.end_session-2.ensures
     (digits_go_in _ (counted) (held_is _ _ _ at_9f61 c.is_present.ensures
     c.if-not-is_present.false) c.store_digits.ensures)

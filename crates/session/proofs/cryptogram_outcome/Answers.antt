@@ -1,6 +1,5 @@
 -- `session::cryptogram_outcome` meets its contract: the objects are present, and the type that was read decides.
 -- Assumes nothing.
-use borrow.Author.Rules.{rules}
 use native.Mathlib.Omega.{arith}
 use mathlib.Core.Path.{◌≡◌, sym, ap, ◌∙◌}
 use mathlib.Core.List.{List}
@@ -30,12 +29,10 @@ returns-in_default c buf =
     (is_failed _ (omega arith) c.cryptogram_present.ensures
     c.in_default.is)))
 
-
 pub returns-in_default-outcome_for_cryptogram_type : goal.returns-in_default-outcome_for_cryptogram_type
 returns-in_default-outcome_for_cryptogram_type c buf =
     let concludes : (o : Option Outcome) → let a = c.args in outcome_for_cryptogram_type a.asked.choice (c.byte_at-kind.result / 64) ≡ o → next_after_cryptogram_read a.asked a.bytes.now ≡ end (ending_for_decision o) (cvm_number a.asked.cvm) a.bytes.now =
-      λ o e. let a = c.args in
-    
+    λ o e. let a = c.args in
     ap (λ (x : Ending). end x (cvm_number a.asked.cvm) a.bytes.now)
     (cryptogram_decided _ _ (is_passed _ (omega arith) c.cryptogram_present.ensures
     c.in-Passed.is)
@@ -54,8 +51,7 @@ returns-in_default-outcome_for_cryptogram_type c buf =
 pub returns : goal.returns
 returns c buf =
     let concludes : (o : Option Outcome) → let a = c.args in outcome_for_cryptogram_type a.asked.choice (c.byte_at-kind.result / 64) ≡ o → next_after_cryptogram_read a.asked a.bytes.now ≡ end (ending_for_decision o) (cvm_number a.asked.cvm) a.bytes.now =
-      λ o e. let a = c.args in
-    
+    λ o e. let a = c.args in
     ap (λ (x : Ending). end x (cvm_number a.asked.cvm) a.bytes.now)
     (cryptogram_decided _ _ (is_passed _ (omega arith) c.cryptogram_present.ensures
     c.in-Passed.is)

@@ -3,7 +3,6 @@
 -- phase decides.
 -- Assumes nothing.
 use borrow.Author.Rules.{rules}
-use borrow.Author.Tests.{not-true, not-false}
 use mathlib.Core.Path.{◌≡◌, refl, sym, ap, ◌∙◌}
 use mathlib.Core.Bool.{true}
 use native.Mathlib.Omega.{arith}
@@ -20,20 +19,18 @@ use Rattle.session.proofs.start_on_parts.Goals as goal
 pub returns-then-command-lt-LEAST_BUFFER : goal.returns-then-command-lt-LEAST_BUFFER
 returns-then-command-lt-LEAST_BUFFER c = did_without_command _ c.refuse_call.ensures (admitted_short _ _ _ c.if-command-lt-LEAST_BUFFER.true)
 
-
 pub returns-then-not-session_parts_in_ranges : goal.returns-then-not-session_parts_in_ranges
 returns-then-not-session_parts_in_ranges c =
     did_without_command _ c.refuse_call-then-not-session_parts_in_ranges.ensures
     (admitted_ranges _ _ _ c.if-command-lt-LEAST_BUFFER.false
     (sym c.session_parts_in_ranges.ensures ∙ c.if-not-session_parts_in_ranges.true))
 
-
 pub returns-in_default : goal.returns-in_default
 returns-in_default c =
     let ranged : let a = c.args in session_record_in_ranges (session_of a.phase a.count a.store.now) ≡ true =
-      sym c.session_parts_in_ranges.ensures ∙ c.if-not-session_parts_in_ranges.false in
+    sym c.session_parts_in_ranges.ensures ∙ c.if-not-session_parts_in_ranges.false in
     let by_phase : (p : Phase) → let a = c.args in a.phase ≡ p → start_step (session_of a.phase a.count a.store.now) a.terminal.now a.command.now ≡ step_of_effect (session_of p a.count a.store.now) a.command.now (start_effect p a.store.now a.terminal.now) =
-      λ p e. let a = c.args in
+    λ p e. let a = c.args in
     admitted_in _ _ _ c.if-command-lt-LEAST_BUFFER.false (ranged) ∙ ap
     (λ (q : Phase). step_of_effect (session_of q a.count a.store.now) a.command.now
     (start_effect q a.store.now a.terminal.now)) e in
@@ -44,14 +41,14 @@ returns-in_default c =
 
 pub load_objects-requires : goal.load_objects-requires
 load_objects-requires c = let ranged : let a = c.args in session_record_in_ranges (session_of a.phase a.count a.store.now) ≡ true =
-      sym c.session_parts_in_ranges.ensures ∙ c.if-not-session_parts_in_ranges.false in record { least_buffer_in_bounds = (search rules, omega (arith, count_most _ (ranged))); store_value = (on_fresh_lem _ (ranged) c.in-Fresh.is).store }
+    sym c.session_parts_in_ranges.ensures ∙ c.if-not-session_parts_in_ranges.false in record { least_buffer_in_bounds = (search rules, omega (arith, count_most _ (ranged))); store_value = (on_fresh_lem _ (ranged) c.in-Fresh.is).store }
 
 pub returns : goal.returns
 returns c =
     let ranged : let a = c.args in session_record_in_ranges (session_of a.phase a.count a.store.now) ≡ true =
-      sym c.session_parts_in_ranges.ensures ∙ c.if-not-session_parts_in_ranges.false in
+    sym c.session_parts_in_ranges.ensures ∙ c.if-not-session_parts_in_ranges.false in
     let by_phase : (p : Phase) → let a = c.args in a.phase ≡ p → start_step (session_of a.phase a.count a.store.now) a.terminal.now a.command.now ≡ step_of_effect (session_of p a.count a.store.now) a.command.now (start_effect p a.store.now a.terminal.now) =
-      λ p e. let a = c.args in
+    λ p e. let a = c.args in
     admitted_in _ _ _ c.if-command-lt-LEAST_BUFFER.false (ranged) ∙ ap
     (λ (q : Phase). step_of_effect (session_of q a.count a.store.now) a.command.now
     (start_effect q a.store.now a.terminal.now)) e in

@@ -1,6 +1,5 @@
 -- `session::take_record` meets its contract: the record that was requested, then the reading, accepted or not.
 -- Assumes nothing.
-use borrow.Author.Rules.{rules}
 use mathlib.Core.Path.{◌≡◌, ap, ◌∙◌}
 use Rattle.afl.specs.declared.RecordFound.{RecordFound}
 use Rattle.reading.specs.declared.Awaited.{Awaited}
@@ -14,7 +13,7 @@ pub returns-in_default : goal.returns-in_default
 unfolding next_on_record_response
 returns-in_default c =
     let asked : (x : RecordFound) → let a = c.args in c.kth_record_of_accepted_afl-found.result ≡ x → next_on_record_response a.place a.store.now a.card.now ≡ next_on_response_for_record_found a.place a.store.now a.card.now x =
-      λ x e. let a = c.args in
+    λ x e. let a = c.args in
     ap (next_on_response_for_record_found a.place a.store.now a.card.now)
     (found_as c.kth_record_of_accepted_afl-found.ensures e _ _ c.value.ensures
     c.widen-k.ensures.0) in
@@ -25,7 +24,7 @@ pub returns-in_default-verdict : goal.returns-in_default-verdict
 unfolding next_on_record_response
 returns-in_default-verdict c =
     let asked : (x : RecordFound) → let a = c.args in c.kth_record_of_accepted_afl-found.result ≡ x → next_on_record_response a.place a.store.now a.card.now ≡ next_on_response_for_record_found a.place a.store.now a.card.now x =
-      λ x e. let a = c.args in
+    λ x e. let a = c.args in
     ap (next_on_response_for_record_found a.place a.store.now a.card.now)
     (found_as c.kth_record_of_accepted_afl-found.ensures e _ _ c.value.ensures
     c.widen-k.ensures.0) in
@@ -43,7 +42,7 @@ pub returns : goal.returns
 unfolding next_on_record_response
 returns c =
     let asked : (x : RecordFound) → let a = c.args in c.kth_record_of_accepted_afl-found.result ≡ x → next_on_record_response a.place a.store.now a.card.now ≡ next_on_response_for_record_found a.place a.store.now a.card.now x =
-      λ x e. let a = c.args in
+    λ x e. let a = c.args in
     ap (next_on_response_for_record_found a.place a.store.now a.card.now)
     (found_as c.kth_record_of_accepted_afl-found.ensures e _ _ c.value.ensures
     c.widen-k.ensures.0) in
@@ -57,4 +56,3 @@ returns c =
     c.read_answer-read.ensures.given
     c.in-Accepted.is)
     c.ask_next_record.ensures
-
