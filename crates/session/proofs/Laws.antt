@@ -120,6 +120,11 @@ module _ (s : Session) (buf : List ℕ) (x : CallEffect) where
   unfolding step_if_admitted
   admitted_in h e = if_no _ _ (le-ltb (length buf) least_buffer h) ∙ if_no _ _ (ap not e)
 
+-- past both the phase decides
+pub admitted_on : (s : Session) (buf : List ℕ) (f : Phase → CallEffect) {p : Phase} → least_buffer ≤ length buf
+    → session_record_in_ranges s ≡ true → s.phase ≡ p → step_if_admitted s buf (f s.phase) ≡ step_of_effect s buf (f p)
+admitted_on s buf f h e q = admitted_in s buf (f s.phase) h e ∙ ap (λ (x : Phase). step_of_effect s buf (f x)) q
+
 -- ---- an answer that is accepted, or not
 
 -- a verdict other than accepted has a number other than 0
