@@ -4,16 +4,15 @@
 use mathlib.Core.Path.{◌≡◌, refl, sym, ap, ◌∙◌}
 use mathlib.Core.Bool.{Bool, true, false, not}
 use mathlib.Core.Logic.{◌⊎◌, inl, inr}
-use mathlib.Core.List.{List, []}
-use mathlib.Core.Option.{Option, some}
+use mathlib.Core.List.{List}
+use mathlib.Core.Option.{Option}
 use Prim.Native.Nat.{ℕ, zero, suc, ◌%◌, ◌≤◌}
 use native.Mathlib.Omega.{arith}
-use lib.ListN.{get_or}
-use borrow.Author.Tests.{eq-eqb, ne_eqb, leb-true}
-use Rattle.basics.specs.Choice.{if, both, either, every}
+use borrow.Author.Tests.{eq-eqb, leb-true}
+use Rattle.basics.specs.Choice.{if, either, every}
 use Rattle.basics.specs.Number.{between}
 use Rattle.basics.specs.Reason.{reason_none}
-use Rattle.basics.proofs.Laws.{bool_cases, if_ind, if_yes, if_no, both_yes, both_left, both_right, either_false}
+use Rattle.basics.proofs.Laws.{bool_cases, if_ind, if_yes, both_yes, both_left, both_right, either_false}
 use Rattle.dictionary.specs.Named.{row_tac_default, row_tac_denial, row_tac_online}
 use Rattle.dictionary.specs.Rows.{dictionary_rows}
 use Rattle.dictionary.specs.TerminalType.{listed_terminal_type}

@@ -11,13 +11,12 @@ use Prim.Native.Nat.{ℕ, zero, suc, ◌≤◌, ◌<◌}
 use native.Mathlib.Nat.{zero-div}
 use native.Mathlib.Omega.{arith}
 use lib.ListN.{get_or}
-use lib.Dec.{eqb}
 use borrow.Author.Tests.{eq-eqb, ne_eqb, eqb-true, ltb-true, lt-ltb, le-ltb, not-false}
-use Rattle.basics.specs.Choice.{if, both, either, every}
+use Rattle.basics.specs.Choice.{both, every}
 use Rattle.basics.specs.Reason.{reason_none}
 use Rattle.basics.proofs.Laws.{bool_cases, if_ind, if_yes, if_no, both_yes, both_left, both_right, both_no_left}
 use Rattle.basics.proofs.Laws.{both_no_right, both_assoc, either_no}
-use Rattle.store.specs.Held.{has_object, lacks_object, stored_bytes}
+use Rattle.store.specs.Held.{has_object, stored_bytes}
 use Rattle.analysis.specs.Bits.{has_bit_counted_from_zero_at_byte1b8, value_has_bit}
 use Rattle.analysis.specs.Choice.{all_zeros_action_code, tvr_bit_is_in_either_action_code, lowest_tvr_bit_in_codes, is_some_bit}
 use Rattle.analysis.specs.Choice.{some_tvr_bit_in_codes_of_stage, denial_stage, online_stage, default_stage}
@@ -27,7 +26,6 @@ use Rattle.analysis.specs.declared.choice.OnlineCapability.{OnlineCapability}
 use Rattle.analysis.specs.declared.choice.Choice.{Choice}
 use Rattle.analysis.specs.declared.choice.LowestBit.{LowestBit}
 use Rattle.analysis.specs.declared.choice.ActionCodes.{ActionCodes}
-use Rattle.analysis.proofs.Lowest.{Found}
 use Rattle.analysis.proofs.Stages.{lowest_held, none_held, all_clear}
 use Rattle.session_record.specs.declared.RequestedCryptogram.{RequestedCryptogram}
 use Rattle.session_record.specs.declared.Ending.{Ending}
@@ -37,7 +35,7 @@ use Rattle.session_record.specs.declared.Phase.{Phase}
 use Rattle.session_record.specs.declared.Session.{Session}
 use Rattle.session_record.specs.Numbers.{outcome_number}
 use Rattle.session_record.specs.Session.{store_bytes}
-use Rattle.session_record.specs.Ranges.{mag_stripe_mode, session_record_in_ranges}
+use Rattle.session_record.specs.Ranges.{mag_stripe_mode}
 use Rattle.session.specs.Answer.{outcome_for_cryptogram_type}
 use Rattle.explain.specs.declared.Stage.{Stage}
 use Rattle.explain.specs.declared.DecidingStage.{DecidingStage}

@@ -7,7 +7,7 @@ use Rattle.std.specs.Prelude.{Bool, true, false, not, [], ◌∷◌, ℕ, ◌/�
 use Rattle.std.proofs.Math.Option.{Option, some, none}
 use Rattle.basics.specs.Choice.{if◌then◌else◌, every, ◌and◌, ◌<?◌, ◌=?◌}
 use Rattle.basics.specs.Reason.{reason_none}
-use Rattle.basics.specs.Types.{Byte, StoreBytes, TvrBytes, TagList}
+use Rattle.basics.specs.Types.{StoreBytes, TvrBytes, TagList}
 use Rattle.store.specs.Held.{has_object, lacks_object, stored_bytes, stored_byte}
 use Rattle.analysis.specs.Value.{first_bytes_zero_padded}
 use Rattle.analysis.specs.Bits.{has_bit_counted_from_zero_at_byte1b8}

@@ -11,11 +11,9 @@ pub returns-in-1 : goal.returns-in-1
 unfolding rank_of_cryptogram_type if
 returns-in-1 c = sym (ap rank_of_cryptogram_type c.in-1.is)
 
-
 pub returns-in-2 : goal.returns-in-2
 unfolding rank_of_cryptogram_type if
 returns-in-2 c = sym (ap rank_of_cryptogram_type c.in-2.is)
-
 
 pub returns-in_default : goal.returns-in_default
 unfolding rank_of_cryptogram_type

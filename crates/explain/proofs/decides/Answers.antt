@@ -1,5 +1,4 @@
 -- `explain::decides` meets its contract: no decision, or one whose outcome is compared by its number. Assumes nothing.
-use borrow.Author.Rules.{rules}
 use mathlib.Core.Path.{sym, ap, ap₂, ◌∙◌}
 use mathlib.Core.Option.{Option}
 use lib.Dec.{eqb}
@@ -16,13 +15,9 @@ returns-in_default c =
     (decides_nothing (outcome_for_cryptogram_type a.choice a.kind)
     c.outcome_for_cryptogram_type.ensures c.in_default.is))
 
-
 pub returns : goal.returns
 returns c =
-    
-    
     ap₂ eqb c.outcome_number.ensures c.outcome_number-2.ensures
     ∙ sym (ap (λ (d : Option Outcome). is_decision_outcome d c.args.outcome)
     (decides_on (outcome_for_cryptogram_type c.args.choice c.args.kind)
     c.outcome_for_cryptogram_type.ensures c.in-On.is))
-

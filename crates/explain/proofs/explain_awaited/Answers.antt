@@ -1,6 +1,5 @@
 -- `explain::explain_awaited` meets its contract: case by case.
 -- Assumes nothing.
-use borrow.Author.Rules.{rules}
 use mathlib.Core.Path.{sym, ap, ◌∙◌}
 use Rattle.session_record.specs.declared.AwaitedResponse.{AwaitedResponse}
 use Rattle.explain.specs.Explain.{explanation_while_awaiting}
@@ -11,4 +10,3 @@ returns-in-Cryptogram c =
     let a = c.args in
     c.waiting.ensures ∙ sym (ap (λ (w : AwaitedResponse). explanation_while_awaiting w a.bytes.now)
     c.in-Cryptogram.is)
-

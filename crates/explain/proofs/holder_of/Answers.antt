@@ -1,5 +1,4 @@
 -- `explain::holder_of` meets its contract: the two codes, one after the other. Assumes nothing.
-use borrow.Author.Rules.{rules}
 use mathlib.Core.Path.{ap₂, ◌∙◌}
 use Rattle.explain.specs.Explain.{holder_by_codes, action_code_holder_of_bit}
 use Rattle.explain.proofs.holder_of.Goals as goal
@@ -8,4 +7,3 @@ pub returns : goal.returns
 unfolding action_code_holder_of_bit
 returns c = c.holder_by.ensures ∙ ap₂ holder_by_codes c.has_bit.ensures
     c.has_bit-2.ensures
-

@@ -1,8 +1,6 @@
 -- `explain::is_complete` meets its contract: object by object, by row and by tag; past the first two the stage says
 -- what is left.
 -- Assumes nothing.
-use borrow.Author.Rules.{rules}
-use borrow.Author.Tests.{not-true, not-false}
 use mathlib.Core.Bool.{true}
 use mathlib.Core.List.{List}
 use mathlib.Core.Path.{◌≡◌, sym, ap, ◌∙◌}
@@ -29,7 +27,6 @@ pub returns-then-not-is_present : goal.returns-then-not-is_present
 unfolding every
 returns-then-not-is_present c = sym (both_no_left _ _ (held_is _ _ _ at_95 c.is_present.ensures c.if-not-is_present.true))
 
-
 pub returns-then-not-is_present-2 : goal.returns-then-not-is_present-2
 unfolding every
 returns-then-not-is_present-2 c =
@@ -37,38 +34,36 @@ returns-then-not-is_present-2 c =
     (both_no_right _ _
     (both_no_left _ _ (held_is _ _ _ at_df8121 c.is_present-2.ensures c.if-not-is_present-2.true)))
 
-
 pub returns-in-Denial : goal.returns-in-Denial
 unfolding every
 returns-in-Denial c =
     sym (
-      past _ _ Stage.Denial (held_is _ _ _ at_95 c.is_present.ensures c.if-not-is_present.false)
-      (held_is _ _ _ at_df8121 c.is_present-2.ensures c.if-not-is_present-2.false) c.in-Denial.is
+    past _ _ Stage.Denial (held_is _ _ _ at_95 c.is_present.ensures c.if-not-is_present.false)
+    (held_is _ _ _ at_df8121 c.is_present-2.ensures c.if-not-is_present-2.false) c.in-Denial.is
     )
 
 pub returns-in-OnlineOnly : goal.returns-in-OnlineOnly
 unfolding every
 returns-in-OnlineOnly c =
     sym (
-      past _ _ Stage.OnlineOnly (held_is _ _ _ at_95 c.is_present.ensures c.if-not-is_present.false)
-      (held_is _ _ _ at_df8121 c.is_present-2.ensures c.if-not-is_present-2.false) c.in-OnlineOnly.is
+    past _ _ Stage.OnlineOnly (held_is _ _ _ at_95 c.is_present.ensures c.if-not-is_present.false)
+    (held_is _ _ _ at_df8121 c.is_present-2.ensures c.if-not-is_present-2.false) c.in-OnlineOnly.is
     )
 
 pub returns-in-Default : goal.returns-in-Default
 unfolding every
 returns-in-Default c =
     there_by_row _ 0xDF8120 at_df8120 c.is_present-in-Default.ensures ∙ sym (
-      past _ _ Stage.Default (held_is _ _ _ at_95 c.is_present.ensures c.if-not-is_present.false)
-      (held_is _ _ _ at_df8121 c.is_present-2.ensures c.if-not-is_present-2.false) c.in-Default.is
-      ∙ every_one (has_object c.args.bytes.now) 0xDF8120
+    past _ _ Stage.Default (held_is _ _ _ at_95 c.is_present.ensures c.if-not-is_present.false)
+    (held_is _ _ _ at_df8121 c.is_present-2.ensures c.if-not-is_present-2.false) c.in-Default.is
+    ∙ every_one (has_object c.args.bytes.now) 0xDF8120
     )
 
 pub returns-in-Online : goal.returns-in-Online
 unfolding every
 returns-in-Online c =
     there_by_row _ 0xDF8122 at_df8122 c.is_present-in-Online.ensures ∙ sym (
-      past _ _ Stage.Online (held_is _ _ _ at_95 c.is_present.ensures c.if-not-is_present.false)
-      (held_is _ _ _ at_df8121 c.is_present-2.ensures c.if-not-is_present-2.false) c.in-Online.is
-      ∙ every_one (has_object c.args.bytes.now) 0xDF8122
+    past _ _ Stage.Online (held_is _ _ _ at_95 c.is_present.ensures c.if-not-is_present.false)
+    (held_is _ _ _ at_df8121 c.is_present-2.ensures c.if-not-is_present-2.false) c.in-Online.is
+    ∙ every_one (has_object c.args.bytes.now) 0xDF8122
     )
-

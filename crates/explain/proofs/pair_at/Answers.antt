@@ -1,5 +1,4 @@
 -- `explain::pair_at` meets its contract: the stage's place among the three pairs. Assumes nothing.
-use borrow.Author.Rules.{rules}
 use mathlib.Core.Path.{sym, ap, ◌∙◌}
 use mathlib.Core.List.{List}
 use lib.ListN.{get_or}
@@ -16,12 +15,10 @@ returns-in-Denial c =
     c.action_codes_of-pairs.ensures ∙ sym
     (ap (action_codes_of_stage a.bytes.now) c.in-Denial.is)
 
-
 pub returns-in-OnlineOnly : goal.returns-in-OnlineOnly
 unfolding action_codes_of_stage
 returns-in-OnlineOnly c = sym (ap (action_codes_of_stage c.args.bytes.now)
     c.in-OnlineOnly.is)
-
 
 pub returns-in-Default : goal.returns-in-Default
 unfolding action_codes_of_stage
@@ -31,7 +28,6 @@ returns-in-Default c =
     c.action_codes_of-pairs.ensures ∙ sym
     (ap (action_codes_of_stage a.bytes.now) c.in-Default.is)
 
-
 pub returns-in-Online : goal.returns-in-Online
 unfolding action_codes_of_stage
 returns-in-Online c =
@@ -39,4 +35,3 @@ returns-in-Online c =
     ap (λ (l : List ActionCodes). get_or l online_stage no_action_codes)
     c.action_codes_of-pairs.ensures ∙ sym
     (ap (action_codes_of_stage a.bytes.now) c.in-Online.is)
-

@@ -1,6 +1,5 @@
 -- `explain::reason_at` meets its contract: the lowest bit that the stage's codes hold, which is below 40, or none.
 -- Assumes nothing.
-use borrow.Author.Rules.{rules}
 use mathlib.Core.Path.{sym, ap, ◌∙◌}
 use native.Mathlib.Omega.{arith}
 use Rattle.analysis.specs.declared.choice.ActionCodes.{ActionCodes}
@@ -13,24 +12,18 @@ use Rattle.explain.proofs.reason_at.Goals as goal
 pub returns-in_default : goal.returns-in_default
 unfolding explanation_at_stage
 returns-in_default c =
-    
     let a = c.args in
     sym (ap (explanation_by_bit a.stage (action_codes_of_stage a.bytes.now a.stage))
     (found_at _ c.lowest_tvr_bit_in_codes.ensures c.result_in.ensures _
     c.pair_at-pair.ensures c.in_default.is))
 
-
 pub overflow_cast-bit : goal.overflow_cast-bit
 overflow_cast-bit c =
-    
     omega (arith, bit_within _ _ c.lowest_tvr_bit_in_codes.ensures c.in-Bit.is)
-
 
 pub returns : goal.returns
 unfolding explanation_at_stage
 returns c =
-    
-    
     let a = c.args in
     ap (λ (h : ActionCodeHolder). Explanation.Forced (record { stage = a.stage; bit = c.in-Bit.i; holder = h }))
     (c.holder_of-holder.ensures ∙ ap (λ (p : ActionCodes). action_code_holder_of_bit p c.in-Bit.i)
@@ -38,4 +31,3 @@ returns c =
     ∙ sym (ap (explanation_by_bit a.stage (action_codes_of_stage a.bytes.now a.stage))
     (found_at _ c.lowest_tvr_bit_in_codes.ensures c.result_in.ensures _
     c.pair_at-pair.ensures c.in-Bit.is))
-

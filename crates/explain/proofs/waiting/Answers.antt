@@ -1,5 +1,4 @@
 -- `explain::waiting` meets its contract: the stage, and then the two choices by their P1. Assumes nothing.
-use borrow.Author.Rules.{rules}
 use borrow.Author.Tests.{eq-eqb, ne_eqb}
 use mathlib.Core.Path.{◌≡◌, sym, ap, ◌∙◌}
 use Rattle.basics.proofs.Laws.{if_yes, if_no}
@@ -14,13 +13,11 @@ returns-in_default c =
     sym (ap (explanation_awaiting_cryptogram a.asked a.bytes.now)
     (sym c.deciding_in.ensures ∙ c.in_default.is))
 
-
 pub returns-then-generate_ac_p1 : goal.returns-then-generate_ac_p1
 returns-then-generate_ac_p1 c =
     let decided : deciding_stage_if_its_data_present c.args.bytes.now ≡ DecidingStage.At c.in-At.stage =
-      sym c.deciding_in.ensures ∙ c.in-At.is in
+    sym c.deciding_in.ensures ∙ c.in-At.is in
     let a = c.args in
-    
     sym (ap (explanation_awaiting_cryptogram a.asked a.bytes.now) (decided)
     ∙ if_no _ _
     (ne_eqb _ _
@@ -30,9 +27,8 @@ returns-then-generate_ac_p1 c =
 pub returns : goal.returns
 returns c =
     let decided : deciding_stage_if_its_data_present c.args.bytes.now ≡ DecidingStage.At c.in-At.stage =
-      sym c.deciding_in.ensures ∙ c.in-At.is in
+    sym c.deciding_in.ensures ∙ c.in-At.is in
     let a = c.args in
-    
     c.reason_at.ensures
     ∙ sym (ap (explanation_awaiting_cryptogram a.asked a.bytes.now) (decided)
     ∙ if_yes _ _
