@@ -10,7 +10,21 @@ import os
 import re
 import sys
 
-IF = re.compile(r"(?<![\w'◌()\-.])if(?![\w'◌\-]|\))")
+IF = re.compile(r"(?<![\w'◌\-.])if(?![\w'◌\-]|\))")
+TOKEN = re.compile(r"[(\[{]|[)\]}]|(?<![\w'◌\-.])then(?![\w'◌\-])")
+
+
+def has_then(rest):
+    """Whether a `then` follows before the brackets that are open there end."""
+    depth = 0
+    for m in TOKEN.finditer(rest):
+        word = m.group(0)
+        depth += (word in "([{") - (word in ")]}")
+        if depth < 0:
+            return False
+        if word == "then" and depth == 0:
+            return True
+    return False
 
 
 def turned(code):
@@ -24,7 +38,7 @@ def turned(code):
         rest = rest[:stop.start()] if stop else rest
         if re.match(r"(unfolding|use|pub use)\b", line) or not line.strip() and re.match(r"\s*(:|true|false)", rest):
             continue
-        if re.search(r"\bthen\b", rest):
+        if has_then(rest):
             out += [code[at:m.start()], "when"]
             at = m.end()
     return "".join(out + [code[at:]])

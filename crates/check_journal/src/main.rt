@@ -71,7 +71,11 @@ fn asked_for(rt: &HostRuntime) -> CheckJournalArguments {
 }
 
 // One more argument.
-fn with_argument(rt: &HostRuntime, arguments: CheckJournalArguments, i: usize) -> CheckJournalArguments {
+fn with_argument(
+    rt: &HostRuntime,
+    arguments: CheckJournalArguments,
+    i: usize,
+) -> CheckJournalArguments {
     let mut space = [0u8; LONGEST_ARGUMENT];
     let n = program::argument(rt, i, &mut space);
     let word = &space[..n];
@@ -90,7 +94,11 @@ fn with_argument(rt: &HostRuntime, arguments: CheckJournalArguments, i: usize) -
     out
 }
 
-fn not_understood(rt: &HostRuntime, arguments: CheckJournalArguments, words: &[u8]) -> CheckJournalArguments {
+fn not_understood(
+    rt: &HostRuntime,
+    arguments: CheckJournalArguments,
+    words: &[u8],
+) -> CheckJournalArguments {
     let err = rt.stderr();
     print::print_text(&err, b"journal: ");
     print::print_text(&err, words);
@@ -146,12 +154,7 @@ fn read_part(rt: &HostRuntime, state: CheckProgress, source: &mut impl Read) -> 
         Ok(0) => ended(state, false),
         Ok(n) => fed(journal::feed(state.checker, &part[..n])),
         Err(error) => {
-            program::print_failure(
-                rt,
-                &rt.stderr(),
-                b"journal: the file cannot be read",
-                error,
-            );
+            program::print_failure(rt, &rt.stderr(), b"journal: the file cannot be read", error);
             ended(state, true)
         }
     }
@@ -241,7 +244,8 @@ fn right_record(rt: &HostRuntime, checker: JournalChecker) {
         print::print_result_in_words(rt, command_in(&bytes), body_in(&bytes));
         print::print_text(rt, b", zeros behind");
     } else {
-        print::print_outcome_in_words(rt, 
+        print::print_outcome_in_words(
+            rt,
             outcome_of(basics::byte_at(&bytes, 1)),
             basics::byte_at(&bytes, 2),
         );

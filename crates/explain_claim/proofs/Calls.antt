@@ -281,7 +281,7 @@ module _ (s : Session) (card buf : List ℕ) (i : session_record_in_ranges s ≡
   abbrev c : Call
   c = answer card buf
 
-  gpo_leaves : {st : Step} (b : List ℕ) → is_early s.phase ≡ true → GpoWay (ways.with_store s b) buf st → Leaves s c st
+  gpo_leaves : (b : List ℕ) {st : Step} → is_early s.phase ≡ true → GpoWay (ways.with_store s b) buf st → Leaves s c st
   gpo_leaves b y (GpoWay.failed n r) = failed s c buf _ n b r
   gpo_leaves b y (GpoWay.first r m a e) =
       early s c buf (awaited_record_with_limit (transaction_limit b) 1) b (read_record_command r) refl (λ z. y)
@@ -319,7 +319,7 @@ module _ (s : Session) (card buf : List ℕ) (i : session_record_in_ranges s ≡
       sent : Asks (generate_ac_p1 (requested_cryptogram m b).choice) x
       sent = generate_sent (generate_ac_p1 (requested_cryptogram m b).choice) (store_with_findings b (findings_of b)) x g
 
-  records_leaves : {st : Step} (m : ℕ) (b : List ℕ) → length b ≡ store_size → is_early s.phase ≡ true
+  records_leaves : (m : ℕ) (b : List ℕ) {st : Step} → length b ≡ store_size → is_early s.phase ≡ true
       → RecordsWay m (ways.with_store s b) buf st → Leaves s c st
   records_leaves m b l y (RecordsWay.failed n r x) = failed s c buf _ n b r
   records_leaves m b l y RecordsWay.unlisted = failed s c buf _ reason_dol_broken_or_bad_length _

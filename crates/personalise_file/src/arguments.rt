@@ -24,7 +24,11 @@ pub fn personalise_arguments(rt: &HostRuntime) -> PersonaliseArguments {
 }
 
 // One more argument.
-fn with_argument(rt: &HostRuntime, arguments: PersonaliseArguments, i: usize) -> PersonaliseArguments {
+fn with_argument(
+    rt: &HostRuntime,
+    arguments: PersonaliseArguments,
+    i: usize,
+) -> PersonaliseArguments {
     let mut space = [0u8; LONGEST_ARGUMENT];
     let n = program::argument(rt, i, &mut space);
     let word = &space[..n];
@@ -43,7 +47,11 @@ fn with_argument(rt: &HostRuntime, arguments: PersonaliseArguments, i: usize) ->
     out
 }
 
-fn not_understood(rt: &HostRuntime, arguments: PersonaliseArguments, words: &[u8]) -> PersonaliseArguments {
+fn not_understood(
+    rt: &HostRuntime,
+    arguments: PersonaliseArguments,
+    words: &[u8],
+) -> PersonaliseArguments {
     complain(rt, b"personalise: ");
     complain(rt, words);
     complain(rt, b"\n");

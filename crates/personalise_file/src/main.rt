@@ -105,7 +105,10 @@ fn answered_of(rt: &HostRuntime, source: &mut impl Read) -> u8 {
         return NEITHER;
     }
     if MOST < filled.size {
-        complain(rt, b"personalise: expected a file of at most 65,536 characters\n");
+        complain(
+            rt,
+            b"personalise: expected a file of at most 65,536 characters\n",
+        );
         return NEITHER;
     }
     laid_out(rt, front(&space, filled.size))
@@ -172,7 +175,13 @@ fn laid_out(rt: &HostRuntime, chars: &[u8]) -> u8 {
     let mut objects = [0u8; BYTES];
     let mut entries = [0u8; BYTES];
     let mut placements = [0u8; BYTES];
-    let given = text::parse_personalise_lines(rt, chars, &mut objects, &mut entries, &mut placements);
+    let given = text::parse_personalise_lines(
+        rt,
+        chars,
+        &mut objects,
+        &mut entries,
+        &mut placements,
+    );
     if !text::check_request_and_print_missing(rt, given) {
         return NEITHER;
     }

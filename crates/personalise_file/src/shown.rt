@@ -7,7 +7,12 @@ use personalise::PersonaliseResult;
 use tlv::ObjectFront;
 
 // Shows an answer with what is written at the front of the buffers: whether anything is.
-pub fn print_personalise_result(rt: &impl Print, answer: PersonaliseResult, records: &[u8], afl: &[u8]) -> bool {
+pub fn print_personalise_result(
+    rt: &impl Print,
+    answer: PersonaliseResult,
+    records: &[u8],
+    afl: &[u8],
+) -> bool {
     match answer {
         PersonaliseResult::Written(sizes) => {
             print::print_text(rt, b"locator");
@@ -63,10 +68,14 @@ fn refused(rt: &impl Print, answer: PersonaliseResult) -> bool {
     print::print_text(rt, b"refused: ");
     match answer {
         PersonaliseResult::Written(_) => print::print_text(rt, b"nothing"),
-        PersonaliseResult::ShortRecords => print::print_text(rt, 
+        PersonaliseResult::ShortRecords => print::print_text(
+            rt,
             b"records buffer shorter than 32,768 bytes",
         ),
-        PersonaliseResult::ShortAfl => print::print_text(rt, b"locator buffer shorter than 248 bytes"),
+        PersonaliseResult::ShortAfl => print::print_text(
+            rt,
+            b"locator buffer shorter than 248 bytes",
+        ),
         PersonaliseResult::BadList => list_words(rt),
         PersonaliseResult::BadEntry(i) => entry_words(rt, i),
         PersonaliseResult::BadRecord(k) => record_words(rt, k),
@@ -76,17 +85,25 @@ fn refused(rt: &impl Print, answer: PersonaliseResult) -> bool {
 }
 
 fn list_words(rt: &impl Print) {
-    print::print_text(rt, b"list: every object must be whole, of a tag for template 70, ");
-    print::print_text(rt, b"of a length and digits that fit, there once and placed once");
+    print::print_text(
+        rt,
+        b"list: every object must be whole, of a tag for template 70, ",
+    );
+    print::print_text(
+        rt,
+        b"of a length and digits that fit, there once and placed once",
+    );
 }
 
 fn entry_words(rt: &impl Print, number: usize) {
     print::print_text(rt, b"entry ");
     print::print_number(rt, number);
-    print::print_text(rt, 
+    print::print_text(
+        rt,
         b": must be there, whole and among the first 62, byte 1 eight times a file 1 to 10, ",
     );
-    print::print_text(rt, 
+    print::print_text(
+        rt,
         b"first record not 0, last not below it, byte 4 zero, no record named before, at most 128 in all",
     );
 }
@@ -94,6 +111,9 @@ fn entry_words(rt: &impl Print, number: usize) {
 fn record_words(rt: &impl Print, number: usize) {
     print::print_text(rt, b"record ");
     print::print_number(rt, number);
-    print::print_text(rt, b": must be one of the locator's, hold objects of the list only, ");
+    print::print_text(
+        rt,
+        b": must be one of the locator's, hold objects of the list only, ",
+    );
     print::print_text(rt, b"with at most 253 bytes of content");
 }

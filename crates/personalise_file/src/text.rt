@@ -32,7 +32,8 @@ enum PartKeyword {
 }
 
 // Reads all lines, up to one that is wrong, which is reported by its number.
-pub fn parse_personalise_lines(rt: &HostRuntime, 
+pub fn parse_personalise_lines(
+    rt: &HostRuntime,
     chars: &[u8],
     objects: &mut [u8],
     entries: &mut [u8],
@@ -79,7 +80,8 @@ fn line_end(s: &[u8]) -> usize
 }
 
 // One more line; nothing after a wrong one is examined.
-fn with_line(rt: &HostRuntime, 
+fn with_line(
+    rt: &HostRuntime,
     given: PersonaliseRequestText,
     line: &[u8],
     objects: &mut [u8],
@@ -96,8 +98,13 @@ fn with_line(rt: &HostRuntime,
         PartKeyword::Absent => next_line(given),
         PartKeyword::Objects => with_objects(rt, given, text_line::decode_hex(rest, objects)),
         PartKeyword::Entries => with_entries(rt, given, text_line::decode_hex(rest, entries)),
-        PartKeyword::Placements => with_placements(rt, given, text_line::decode_hex(rest, placements)),
-        PartKeyword::Unknown => wrong(rt, 
+        PartKeyword::Placements => with_placements(
+            rt,
+            given,
+            text_line::decode_hex(rest, placements),
+        ),
+        PartKeyword::Unknown => wrong(
+            rt,
             given,
             b"unknown word; expected objects HEX, entries HEX or placements HEX",
         ),
@@ -123,19 +130,31 @@ fn word_named(w: &[u8]) -> PartKeyword {
 
 // ---- one more line of each kind
 
-fn with_objects(rt: &HostRuntime, given: PersonaliseRequestText, d: HexDecoded) -> PersonaliseRequestText {
+fn with_objects(
+    rt: &HostRuntime,
+    given: PersonaliseRequestText,
+    d: HexDecoded,
+) -> PersonaliseRequestText {
     let mut out = checked(rt, given, given.objects.there, &d);
     out.objects = brought(&d);
     out
 }
 
-fn with_entries(rt: &HostRuntime, given: PersonaliseRequestText, d: HexDecoded) -> PersonaliseRequestText {
+fn with_entries(
+    rt: &HostRuntime,
+    given: PersonaliseRequestText,
+    d: HexDecoded,
+) -> PersonaliseRequestText {
     let mut out = checked(rt, given, given.entries.there, &d);
     out.entries = brought(&d);
     out
 }
 
-fn with_placements(rt: &HostRuntime, given: PersonaliseRequestText, d: HexDecoded) -> PersonaliseRequestText {
+fn with_placements(
+    rt: &HostRuntime,
+    given: PersonaliseRequestText,
+    d: HexDecoded,
+) -> PersonaliseRequestText {
     let mut out = checked(rt, given, given.placements.there, &d);
     out.placements = brought(&d);
     out
@@ -149,14 +168,24 @@ fn brought(d: &HexDecoded) -> RequestPartGiven {
 }
 
 // The next line, unless this one comes twice or what follows its word spells no bytes.
-fn checked(rt: &HostRuntime, given: PersonaliseRequestText, twice: bool, d: &HexDecoded) -> PersonaliseRequestText {
+fn checked(
+    rt: &HostRuntime,
+    given: PersonaliseRequestText,
+    twice: bool,
+    d: &HexDecoded,
+) -> PersonaliseRequestText {
     if twice {
-        return wrong(rt, given, b"this word for the second time; expected it once");
+        return wrong(
+            rt,
+            given,
+            b"this word for the second time; expected it once",
+        );
     }
     let problem = d.problem;
     match problem {
         0 => next_line(given),
-        text_line::HEX => wrong(rt, 
+        text_line::HEX => wrong(
+            rt,
             given,
             b"expected bytes, each two hexadecimal digits side by side",
         ),
@@ -194,16 +223,30 @@ pub fn check_request_and_print_missing(rt: &HostRuntime, given: PersonaliseReque
     if given.wrong {
         return false;
     }
-    is_there(rt, given, given.objects, b"expected objects HEX; the file ends")
-        && is_there(rt, given, given.entries, b"expected entries HEX; the file ends")
-        && is_there(rt, 
-            given,
-            given.placements,
-            b"expected placements HEX; the file ends",
-        )
+    is_there(
+        rt,
+        given,
+        given.objects,
+        b"expected objects HEX; the file ends",
+    ) && is_there(
+        rt,
+        given,
+        given.entries,
+        b"expected entries HEX; the file ends",
+    ) && is_there(
+        rt,
+        given,
+        given.placements,
+        b"expected placements HEX; the file ends",
+    )
 }
 
-fn is_there(rt: &HostRuntime, given: PersonaliseRequestText, part: RequestPartGiven, words: &[u8]) -> bool {
+fn is_there(
+    rt: &HostRuntime,
+    given: PersonaliseRequestText,
+    part: RequestPartGiven,
+    words: &[u8],
+) -> bool {
     if !part.there {
         wrong(rt, given, words);
     }

@@ -77,7 +77,8 @@ fn two_digits(high: usize, low: usize) -> u32 {
 
 // Application Interchange Profile.
 fn aip(rt: &impl Print, byte: usize, bit: usize) {
-    bit_words(rt, 
+    bit_words(
+        rt,
         byte,
         bit,
         b"
@@ -100,7 +101,8 @@ pub fn print_tvr_bit_name(rt: &impl Print, bit: usize) {
 
 // Terminal Verification Results, by the Book's names.
 fn result(rt: &impl Print, byte: usize, bit: usize) {
-    bit_words(rt, 
+    bit_words(
+        rt,
         byte,
         bit,
         b"
@@ -139,7 +141,8 @@ fn result(rt: &impl Print, byte: usize, bit: usize) {
 
 // Application Usage Control.
 fn usage(rt: &impl Print, byte: usize, bit: usize) {
-    bit_words(rt, 
+    bit_words(
+        rt,
         byte,
         bit,
         b"
@@ -158,7 +161,8 @@ fn usage(rt: &impl Print, byte: usize, bit: usize) {
 
 // Kernel Configuration, of one byte.
 fn configuration(rt: &impl Print, bit: usize) {
-    bit_words(rt, 
+    bit_words(
+        rt,
         1,
         bit,
         b"

@@ -225,7 +225,8 @@ fn numbered(rt: &impl Print, n: u8) {
 }
 
 fn outcome_words(rt: &impl Print, outcome: Outcome) {
-    print_words_of_decimal(rt, 
+    print_words_of_decimal(
+        rt,
         session_record::outcome_number(outcome),
         b"
      0 approved
@@ -238,7 +239,8 @@ fn outcome_words(rt: &impl Print, outcome: Outcome) {
 
 // A reason in words.
 pub fn print_reason_words(rt: &impl Print, reason: u8) {
-    print_words_of_decimal(rt, 
+    print_words_of_decimal(
+        rt,
         reason,
         b"
      0 none
@@ -258,7 +260,8 @@ pub fn print_reason_words(rt: &impl Print, reason: u8) {
 
 // The CVMs by their numbers (Book C-2, A.1.117; 4 is the kernel's own).
 fn cvm_words(rt: &impl Print, number: u8) {
-    print_words_of_decimal(rt, 
+    print_words_of_decimal(
+        rt,
         number,
         b"
      0 no CVM
@@ -271,7 +274,8 @@ fn cvm_words(rt: &impl Print, number: u8) {
 }
 
 fn refusal_words(rt: &impl Print, number: u8) {
-    print_words_of_decimal(rt, 
+    print_words_of_decimal(
+        rt,
         number,
         b"
     20 more than 1,024 start bytes, or other than whole primitive objects
@@ -294,7 +298,12 @@ pub fn print_objects_without_bits(rt: &impl Print, store: &[u8]) {
 pub fn print_stored_objects(rt: &impl Print, store: &[u8], in_bits: bool) {
     for row in 0..dictionary::ROWS {
         if store::is_present(store, row) {
-            held_object(rt, dictionary::row_tag(row), store::value(store, row), in_bits);
+            held_object(
+                rt,
+                dictionary::row_tag(row),
+                store::value(store, row),
+                in_bits,
+            );
         }
     }
 }

@@ -17,7 +17,8 @@ pub fn print_tag_name(rt: &impl Print, tag: u32) {
 }
 
 fn to_5fff(rt: &impl Print, tag: u32) {
-    print_words_of_number(rt, 
+    print_words_of_number(
+        rt,
         tag,
         b"
     50 Application Label
@@ -54,7 +55,8 @@ fn to_5fff(rt: &impl Print, tag: u32) {
 }
 
 fn to_9f3f(rt: &impl Print, tag: u32) {
-    print_words_of_number(rt, 
+    print_words_of_number(
+        rt,
         tag,
         b"
   9F01 Acquirer Identifier
@@ -93,7 +95,8 @@ fn to_9f3f(rt: &impl Print, tag: u32) {
 }
 
 fn to_ffff(rt: &impl Print, tag: u32) {
-    print_words_of_number(rt, 
+    print_words_of_number(
+        rt,
         tag,
         b"
   9F40 Additional Terminal Capabilities
@@ -152,7 +155,8 @@ fn to_ffff(rt: &impl Print, tag: u32) {
 }
 
 fn private(rt: &impl Print, tag: u32) {
-    print_words_of_number(rt, 
+    print_words_of_number(
+        rt,
         tag,
         b"
 DF8101 DS Summary 2

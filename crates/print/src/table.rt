@@ -22,7 +22,8 @@ pub fn print_words_of_number(rt: &impl Print, number: u32, table: &[u8], other: 
 
 // The same by a number's decimal digits, from a table that has those; unknown where it has no line for it.
 pub fn print_words_of_decimal(rt: &impl Print, number: u8, table: &[u8]) {
-    print_words_of_number(rt, 
+    print_words_of_number(
+        rt,
         basics::widen32(number / 10) * 16 + basics::widen32(number % 10),
         table,
         b"unknown",

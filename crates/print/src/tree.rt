@@ -131,7 +131,8 @@ fn met(rt: &impl Print, w: TreeWalk, h: TlvHeader, rest: &[u8], view: TreeView) 
     let end = plus(start, h.len);
     if !h.template {
         if view.tree {
-            primitive(rt, 
+            primitive(
+                rt,
                 h.tag,
                 part(rest, h.start, plus(h.start, h.len)),
                 w.open,

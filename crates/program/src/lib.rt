@@ -7,9 +7,8 @@ ghost use Rattle.std.specs.Prelude.{◌≡◌, ◌≤◌, length};
 
 use std::env::{Env, FillError};
 use std::fs::{Files, OpenFile, OpenOptions};
-use std::io;
 use std::io::{ErrorKind, Write};
-use std::str;
+use std::{io, str};
 
 // Room for the longest name of a file, and for an argument: a longer one counts as empty.
 pub const LONGEST_ARGUMENT: usize = 4096;

@@ -10,7 +10,8 @@ pub fn print_explanation_line(rt: &impl Print, session: Session) {
         Explanation::Refused => print::print_text(rt, b"refused 25, the record does not tell why"),
         Explanation::Reason(reason) => ended(rt, reason),
         Explanation::NoChoice => print::print_text(rt, b"no choice was made"),
-        Explanation::LowerCryptogram => print::print_text(rt, 
+        Explanation::LowerCryptogram => print::print_text(
+            rt,
             b"the card gave a lower cryptogram than asked for",
         ),
         Explanation::Forced(cause) => forced(rt, cause),

@@ -127,12 +127,7 @@ fn kept(rt: &HostRuntime, source: &mut impl Read, asked: ReplayArguments) -> u8 
 // ---- the file's lines
 
 // Plays all of a file. A proved loop has to end, so it has a number of iterations that no file uses up.
-fn play(
-    rt: &HostRuntime,
-    source: &mut impl Read,
-    view: TreeView,
-    journal: Option<&File>,
-) -> u8 {
+fn play(rt: &HostRuntime, source: &mut impl Read, view: TreeView, journal: Option<&File>) -> u8 {
     let mut line = [0u8; ROOM];
     let mut state = beginning(view);
     for _ in 0..u64::MAX {
@@ -173,12 +168,7 @@ fn play_part(
         Ok(0) => finish(rt, play_line(rt, state, line, journal)),
         Ok(n) => play_lines(rt, state, &part[..n], line, journal),
         Err(error) => {
-            program::print_failure(
-                rt,
-                &rt.stderr(),
-                b"replay: the file cannot be read",
-                error,
-            );
+            program::print_failure(rt, &rt.stderr(), b"replay: the file cannot be read", error);
             failed(state, WRONG)
         }
     }
@@ -445,7 +435,10 @@ fn session_line(rt: &HostRuntime, state: ReplayProgress, journal: bool) -> Repla
     if journal && (state.renewed || !is_fresh(state.session)) {
         complain(rt, b"replay: line ");
         print::print_number(&rt.stderr(), state.number);
-        complain(rt, b": expected no further session, since a journal is of one\n");
+        complain(
+            rt,
+            b": expected no further session, since a journal is of one\n",
+        );
         return failed(state, WRONG);
     }
     next_line(renewed(rt, state))
@@ -496,10 +489,14 @@ fn report(rt: &HostRuntime, number: usize, problem: u8) {
     print::print_number(&rt.stderr(), number);
     match problem {
         text_line::LONG => complain(rt, b": expected at most 8,192 characters"),
-        text_line::WORD => complain(rt, 
+        text_line::WORD => complain(
+            rt,
             b": unknown word; expected start HEX, answer HEX, link-failed, stop, buffer N or session",
         ),
-        text_line::HEX => complain(rt, b": expected bytes, each two hexadecimal digits side by side"),
+        text_line::HEX => complain(
+            rt,
+            b": expected bytes, each two hexadecimal digits side by side",
+        ),
         text_line::BEHIND => complain(rt, b": expected nothing more but a comment, which # starts"),
         text_line::NUMBER => complain(rt, b": expected a number up to 4,096 behind buffer"),
         _ => complain(rt, b": expected at most 4,096 bytes"),

@@ -27,10 +27,14 @@ pub fn append_to_journal(
 // The record of a call, with its bytes at the front of `bytes`.
 fn call(rt: &HostRuntime, journal: &File, said: &Line, bytes: &[u8]) -> bool {
     match said {
-        Line::Start(brought) => put(rt, journal,
+        Line::Start(brought) => put(
+            rt,
+            journal,
             &journal::writer::start_record(front(bytes, brought.size)),
         ),
-        Line::Answer(brought) => put(rt, journal,
+        Line::Answer(brought) => put(
+            rt,
+            journal,
             &journal::writer::answer_record(front(bytes, brought.size)),
         ),
         Line::LinkFailed => put(rt, journal, &journal::writer::link_failed_record()),
@@ -41,7 +45,9 @@ fn call(rt: &HostRuntime, journal: &File, said: &Line, bytes: &[u8]) -> bool {
 // The record of a reply.
 fn reply(rt: &HostRuntime, journal: &File, answer: CallResult, command: &[u8]) -> bool {
     match answer {
-        CallResult::Command(issued) => put(rt, journal,
+        CallResult::Command(issued) => put(
+            rt,
+            journal,
             &journal::writer::command_record(issued.size, command),
         ),
         CallResult::Outcome(end) => put(rt, journal, &journal::writer::outcome_record(end)),

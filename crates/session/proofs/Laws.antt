@@ -5,9 +5,8 @@ use mathlib.Core.Path.{◌≡◌, refl, sym, ap, ap₂, ◌∙◌}
 use mathlib.Core.Bool.{Bool, true, false, not}
 use mathlib.Core.List.{List, [], ◌∷◌}
 use mathlib.Core.Option.{Option, some, none}
-use Prim.Native.Nat.{ℕ, suc, ◌+◌, ◌-◌, ◌/◌, ◌≤◌, ◌<◌}
+use Prim.Native.Nat.{ℕ, ◌+◌, ◌-◌, ◌/◌, ◌≤◌, ◌<◌}
 use native.Mathlib.Omega.{arith}
-use lib.Dec.{eqb}
 use lib.ListN.{length, take, drop, length-take}
 use borrow.Author.Tests.{lt-ltb, le-ltb, eq-eqb, ne_eqb, not-true, not-false}
 use Rattle.basics.specs.Choice.{if}
@@ -62,7 +61,7 @@ use Rattle.start_data.proofs.Laws.{was_taken, was_refused}
 use Rattle.session.specs.declared.Check.{Check}
 use Rattle.session.specs.declared.CryptogramOutcome.{CryptogramOutcome}
 use Rattle.session.specs.declared.Decision.{Decision}
-use Rattle.session.specs.Steps.{NextAction, ask, end, end_for_reason, held_cvm, request_command_or_end_for_dol}
+use Rattle.session.specs.Steps.{NextAction, end, end_for_reason, held_cvm, request_command_or_end_for_dol}
 use Rattle.session.specs.Steps.{read_response_then, store_with_tvr, store_with_findings}
 use Rattle.session.specs.Steps.{Step, ReturnsStep, CallEffect, refuse, step_of_next, refused_step, step_of_effect}
 use Rattle.session.specs.Steps.{least_buffer, step_if_admitted}
@@ -120,6 +119,11 @@ module _ (s : Session) (buf : List ℕ) (x : CallEffect) where
       → step_if_admitted s buf x ≡ step_of_effect s buf x
   unfolding step_if_admitted
   admitted_in h e = if_no _ _ (le-ltb (length buf) least_buffer h) ∙ if_no _ _ (ap not e)
+
+-- past both the phase decides
+pub admitted_on : (s : Session) (buf : List ℕ) (f : Phase → CallEffect) {p : Phase} → least_buffer ≤ length buf
+    → session_record_in_ranges s ≡ true → s.phase ≡ p → step_if_admitted s buf (f s.phase) ≡ step_of_effect s buf (f p)
+admitted_on s buf f h e q = admitted_in s buf (f s.phase) h e ∙ ap (λ (x : Phase). step_of_effect s buf (f x)) q
 
 -- ---- an answer that is accepted, or not
 

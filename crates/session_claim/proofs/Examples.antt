@@ -47,7 +47,7 @@ use Rattle.start_data.specs.StartData.{is_listed_if_terminal_type, start_may_set
 use Rattle.start_data.specs.StartData.{load_start_bytes}
 use Rattle.session.specs.Steps.{read_response_then, store_with_tvr, store_with_findings}
 use Rattle.session.specs.Start.{request_gpo}
-use Rattle.session.specs.MagStripe.{request_checksum, next_after_records_in_mag_stripe_mode, store_with_track_digits}
+use Rattle.session.specs.MagStripe.{request_checksum, next_after_records_in_mag_stripe_mode}
 use Rattle.session.specs.MagStripe.{next_after_checksum_read, next_if_track_takes_digits, next_on_checksum_response}
 use Rattle.mag_stripe.specs.Track.{nibbles_before, discretionary_data_in_nibbles}
 use Rattle.mag_stripe.specs.Bitmap.{bitmap_places_counted_from, bitmap_places_from_one, bitmap_within, track_can_take_digits}
@@ -57,7 +57,7 @@ use Rattle.session_claim.specs.Calls.{commands_sent, calls_accepted}
 use Rattle.session.specs.Calls.{Call, start, answer, link_failed, stop, CallMade, play_calls, final_session, call_result}
 use Rattle.session_claim.specs.Order.{first_non_empty_value_directly_inside77, afl_in_gpo_response, aip_in_gpo_response}
 use Rattle.session_claim.specs.Order.{first_answer, afl_accepted_from_gpo_answer, gpo, record_command_kind, cryptogram}
-use Rattle.session_claim.specs.Order.{checksum, final_command_kind_for_aip, final_command_kind_by_gpo_answer}
+use Rattle.session_claim.specs.Order.{checksum, final_command_kind_for_aip}
 use Rattle.session_claim.specs.Order.{published_order}
 use Rattle.basics.specs.Alike.{bytes_equal}
 use Rattle.tlv.specs.Tree.{object_count, next_in_template, prepend_leaf, prepend_node, parse_tree}

@@ -41,7 +41,7 @@ use Rattle.session.specs.Steps.{end, held_cvm, Step, refused_step, step_of_effec
 use Rattle.session.specs.Steps.{step_if_admitted, effect_if_running, abort_step}
 use Rattle.session.specs.Start.{start_step}
 use Rattle.session.specs.Answer.{awaited_record_with_limit, gpo_reason, answer_step}
-use Rattle.session.specs.MagStripe.{awaited_checksum_with_limit, store_with_track_digits}
+use Rattle.session.specs.MagStripe.{awaited_checksum_with_limit}
 use Rattle.step_laws.proofs.Kept.{read_fits, read_mode, mode_bytes, read_afl}
 use Rattle.step_laws.proofs.Ways as ways
 use Rattle.step_laws.proofs.Ways.{without_command, ended_reply, command_step, GpoWay, RecordsWay, MagStripeWay, RecordWay}

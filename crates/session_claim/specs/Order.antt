@@ -14,7 +14,7 @@ use Rattle.reading.specs.Taking.{PrimitiveItem, primitive_items}
 use Rattle.reading.specs.Answer.{ResponseBody, primitive, template, parse_response_body}
 use Rattle.session_record.specs.Session.{store_bytes}
 use Rattle.session.specs.Answer.{gpo_reason}
-use Rattle.session_claim.specs.Calls.{calls_accepted, is_answer}
+use Rattle.session_claim.specs.Calls.{is_answer}
 use Rattle.session.specs.Calls.{Call, start, answer, link_failed, stop, CallMade}
 
 -- ---- the AFL and the AIP that card bytes bring: read from their objects alone, not from the store

@@ -9,7 +9,7 @@ use Prim.Native.Nat.{ℕ, ◌+◌, ◌≤◌}
 use native.Mathlib.Omega.{arith}
 use lib.ListN.{length, drop, length-append, length-drop}
 use lib.Seq.{drop_at}
-use Rattle.dictionary.specs.Named.{row_afl, row_track2_data}
+use Rattle.dictionary.specs.Named.{row_afl}
 use Rattle.dictionary.specs.Rows.{store_size}
 use Rattle.dictionary.proofs.Named.{at_94}
 use Rattle.store.specs.Place.{StoredValue, bytes_or_empty_if_absent, object_value}

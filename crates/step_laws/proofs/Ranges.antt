@@ -52,8 +52,8 @@ use Rattle.session.specs.Steps.{Step, store_with_tvr, store_with_findings, abort
 use Rattle.session.specs.Start.{start_step}
 use Rattle.session.specs.Answer.{awaited_record_with_limit, requested_cryptogram, answer_step}
 use Rattle.session.specs.MagStripe.{awaited_checksum_with_limit, store_with_track_digits}
-use Rattle.step_laws.proofs.Kept.{Waits, gpo_plain, record_plain, read_waits, read_fits, read_mode, read_either}
-use Rattle.step_laws.proofs.Kept.{read_afl, read_limit, bits_size, bits_fits, bits_runs, bits_here, bits_other}
+use Rattle.step_laws.proofs.Kept.{Waits, gpo_plain, record_plain, read_waits, read_fits, read_either}
+use Rattle.step_laws.proofs.Kept.{read_afl, read_limit, bits_size, bits_fits, bits_here, bits_other}
 use Rattle.step_laws.proofs.Kept.{bits_hold, found_size, found_fits, found_runs, found_9f34, found_other}
 use Rattle.step_laws.proofs.Kept.{found_limit, digits_size, digits_fits}
 use Rattle.step_laws.proofs.Ways.{Reason, with_store, taken, GpoWay, RecordsWay, MagStripeWay, RecordWay}

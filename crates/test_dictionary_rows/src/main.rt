@@ -9,7 +9,11 @@ use dictionary::{ROWS, RowAttributes};
 
 fn main(rt: HostRuntime) {
     for row in 0..ROWS {
-        line(&rt, dictionary::row_tag(row), dictionary::attributes_of(row));
+        line(
+            &rt,
+            dictionary::row_tag(row),
+            dictionary::attributes_of(row),
+        );
     }
 }
 

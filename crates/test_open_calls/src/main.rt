@@ -29,20 +29,24 @@ fn main(rt: HostRuntime) {
 
 fn statements(rt: &impl Print) {
     line(rt, b"bench::rows", bench_rows::proved_bench_row_count());
-    line(rt, 
+    line(
+        rt,
         b"trace::most_commands",
         session_claim::every_session_follows_published_order(),
     );
     line(rt, b"laws::most_contents", laws::records_in_any_order());
-    word(rt, 
+    word(
+        rt,
         b"explain_calls::refusal_word",
         explain_claim::explanation_refused_word(),
     );
-    line(rt, 
+    line(
+        rt,
         b"rank::rank, of offline",
         basics::widen(rank_of(Choice::Offline)),
     );
-    found(rt, 
+    found(
+        rt,
         b"cabinet_calls::most_approved",
         cabinet_claim::approved_within_cap(),
     );
@@ -50,7 +54,8 @@ fn statements(rt: &impl Print) {
     worked_examples::examples_hold();
     worked_words::word_examples_hold();
     let rows = dictionary::used_rows();
-    line(rt, 
+    line(
+        rt,
         b"dictionary::used_rows, the last",
         rows[dictionary::USED - 1],
     );
@@ -63,7 +68,8 @@ fn rank_of(choice: Choice) -> u8 {
 // ---- the record
 
 fn parts(rt: &impl Print) {
-    line(rt, 
+    line(
+        rt,
         b"run::said_number",
         basics::widen(said_number(PlayResult::Played)),
     );
@@ -96,18 +102,29 @@ fn readers(rt: &impl Print) {
     let read = both(Awaited::Gpo, b"\x77\x00\x90\x00");
     let first = read.recursive;
     let second = read.flat;
-    line(rt, b"reading::read_both, the first's objects", first.objects);
-    line(rt, b"reading::read_both, the second's objects", second.objects);
-    line(rt, 
+    line(
+        rt,
+        b"reading::read_both, the first's objects",
+        first.objects,
+    );
+    line(
+        rt,
+        b"reading::read_both, the second's objects",
+        second.objects,
+    );
+    line(
+        rt,
         b"reading::flat::judge_answer",
         basics::widen(judged(Awaited::Gpo, b"\x90\x01")),
     );
     let mut store = [0u8; SIZE];
-    word(rt, 
+    word(
+        rt,
         b"emv_test_read",
         test_read(&mut store, 1, 1, b"\x70\x00\x90\x00"),
     );
-    word(rt, 
+    word(
+        rt,
         b"emv_test_read_flat",
         test_read_flat(&mut store, 1, 1, b"\x70\x00\x90\x00"),
     );
@@ -140,11 +157,16 @@ fn calls(rt: &impl Print) {
     line(rt, b"emv_session_size", host::emv_session_size());
     word(rt, b"emv_open", open(&mut session));
     word(rt, b"emv_start", start(&mut session, b"", &mut command));
-    word(rt, 
+    word(
+        rt,
         b"emv_answer",
         answer(&mut session, b"\x90\x00", &mut command),
     );
-    word(rt, b"emv_link_failed", link_failed(&mut session, &mut command));
+    word(
+        rt,
+        b"emv_link_failed",
+        link_failed(&mut session, &mut command),
+    );
     word(rt, b"emv_stop", stop(&mut session, &mut command));
     word(rt, b"emv_count", count(&session));
     word(rt, b"emv_explain", explain(&session));
@@ -213,24 +235,29 @@ fn cabinet(rt: &impl Print) {
     line(rt, b"cabinet_size", cabinet::cabinet_size());
     word(rt, b"cabinet_open", cabinet_open(&mut state, 1000));
     found(rt, b"cabinet_left", cabinet_left(&state));
-    word(rt, 
+    word(
+        rt,
         b"cabinet_start",
         cabinet_start(&mut state, b"", &mut command),
     );
-    word(rt, 
+    word(
+        rt,
         b"cabinet_answer",
         cabinet_answer(&mut state, b"\x90\x00", &mut command),
     );
-    word(rt, 
+    word(
+        rt,
         b"cabinet_link_failed",
         cabinet_link_failed(&mut state, &mut command),
     );
     word(rt, b"cabinet_stop", cabinet_stop(&mut state, &mut command));
-    found(rt, 
+    found(
+        rt,
         b"cabinet_find",
         cabinet_find(b"\x9C\x01\x00", b"\x9F\x35\x01\x22", 0x9F35),
     );
-    line(rt, 
+    line(
+        rt,
         b"cabinet_lookup::lookup, its length",
         looked_up(b"\x9C\x01\x00", b"\x9F\x35\x01\x22", 0x9F35),
     );
@@ -272,7 +299,8 @@ fn looked_up<'a>(site: &'a [u8], defaults: &'a [u8], tag: u32) -> usize {
 fn card(rt: &impl Print) {
     let mut records = [0u8; 32768];
     let mut afl = [0u8; 248];
-    found(rt, 
+    found(
+        rt,
         b"emv_personalise",
         write_card(b"", b"\x08\x01\x02\x00", b"", &mut records, &mut afl),
     );

@@ -22,11 +22,14 @@ fn reply_with(rt: &impl Print, answer: CallResult) {
 
 // An outcome with a reason, whether they go together or not, and no CVM.
 fn ending(rt: &impl Print, outcome: Outcome, reason: u8) {
-    reply_with(rt, CallResult::Outcome(OutcomeParameters {
-        outcome,
-        reason,
-        cvm: NOT_APPLICABLE,
-    }));
+    reply_with(
+        rt,
+        CallResult::Outcome(OutcomeParameters {
+            outcome,
+            reason,
+            cvm: NOT_APPLICABLE,
+        }),
+    );
 }
 
 fn outcomes(rt: &impl Print) {
@@ -40,7 +43,11 @@ fn outcomes(rt: &impl Print) {
 // Every reason with its outcome, and a number that is no reason.
 fn reasons(rt: &impl Print) {
     for reason in 1..13u8 {
-        ending(rt, session_record::outcome_of_nonzero_reason(reason), reason);
+        ending(
+            rt,
+            session_record::outcome_of_nonzero_reason(reason),
+            reason,
+        );
     }
 }
 
@@ -48,11 +55,14 @@ fn reasons(rt: &impl Print) {
 fn cvms(rt: &impl Print) {
     let outcome = Outcome::Approved;
     for cvm in 0..17u8 {
-        reply_with(rt, CallResult::Outcome(OutcomeParameters {
-            outcome,
-            reason: 0,
-            cvm,
-        }));
+        reply_with(
+            rt,
+            CallResult::Outcome(OutcomeParameters {
+                outcome,
+                reason: 0,
+                cvm,
+            }),
+        );
     }
 }
 

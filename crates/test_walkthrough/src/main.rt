@@ -82,7 +82,8 @@ fn decisions(rt: &impl Print) {
     let offline =
         b"\x70\x1C\x5F\x24\x03\x30\x12\x31\x5A\x08\x47\x61\x73\x90\x01\x01\x00\x10\x8C\x02\x95\x05\x9F\x0F\x05\x00\x00\x00\x00\x00\x90\x00";
     print::print_text(rt, b"approved offline\n");
-    purchase(rt, 
+    purchase(
+        rt,
         0x22,
         0,
         gpo,
@@ -90,7 +91,8 @@ fn decisions(rt: &impl Print) {
         b"\x80\x0B\x40\x00\x01\x01\x02\x03\x04\x05\x06\x07\x08\x90\x00",
     );
     print::print_text(rt, b"sent online\n");
-    purchase(rt, 
+    purchase(
+        rt,
         0x22,
         0,
         gpo,
@@ -98,7 +100,8 @@ fn decisions(rt: &impl Print) {
         b"\x80\x0B\x80\x00\x01\x01\x02\x03\x04\x05\x06\x07\x08\x90\x00",
     );
     print::print_text(rt, b"declined by the terminal\n");
-    purchase(rt, 
+    purchase(
+        rt,
         0x23,
         0,
         gpo,
@@ -106,7 +109,8 @@ fn decisions(rt: &impl Print) {
         b"\x80\x0B\x00\x00\x01\x01\x02\x03\x04\x05\x06\x07\x08\x90\x00",
     );
     print::print_text(rt, b"declined by the card\n");
-    purchase(rt, 
+    purchase(
+        rt,
         0x22,
         0,
         gpo,
@@ -120,27 +124,33 @@ fn decisions(rt: &impl Print) {
 // 82 indicates that the card supports verification; 8C requests 95 and 9F34.
 fn cvms(rt: &impl Print) {
     print::print_text(rt, b"online PIN\n");
-    verified(rt, 
+    verified(
+        rt,
         b"\x70\x25\x5F\x24\x03\x30\x12\x31\x5A\x08\x47\x61\x73\x90\x01\x01\x00\x10\x8C\x05\x95\x05\x9F\x34\x03\x8E\x0C\x00\x00\x00\x00\x00\x00\x00\x00\x42\x03\x5E\x03\x90\x00",
     );
     print::print_text(rt, b"signature\n");
-    verified(rt, 
+    verified(
+        rt,
         b"\x70\x23\x5F\x24\x03\x30\x12\x31\x5A\x08\x47\x61\x73\x90\x01\x01\x00\x10\x8C\x05\x95\x05\x9F\x34\x03\x8E\x0A\x00\x00\x00\x00\x00\x00\x00\x00\x5E\x03\x90\x00",
     );
     print::print_text(rt, b"no list\n");
-    verified(rt, 
+    verified(
+        rt,
         b"\x70\x17\x5F\x24\x03\x30\x12\x31\x5A\x08\x47\x61\x73\x90\x01\x01\x00\x10\x8C\x05\x95\x05\x9F\x34\x03\x90\x00",
     );
     print::print_text(rt, b"a list that fails\n");
-    verified(rt, 
+    verified(
+        rt,
         b"\x70\x23\x5F\x24\x03\x30\x12\x31\x5A\x08\x47\x61\x73\x90\x01\x01\x00\x10\x8C\x05\x95\x05\x9F\x34\x03\x8E\x0A\x00\x00\x00\x00\x00\x00\x00\x00\x00\x00\x90\x00",
     );
     print::print_text(rt, b"reason 7 after the choice of the method\n");
-    verified(rt, 
+    verified(
+        rt,
         b"\x70\x1F\x5F\x24\x03\x30\x12\x31\x5A\x08\x47\x61\x73\x90\x01\x01\x00\x10\x8C\x01\x95\x8E\x0A\x00\x00\x00\x00\x00\x00\x00\x00\x5E\x03\x90\x00",
     );
     print::print_text(rt, b"a failed link after the choice of the method\n");
-    unlinked(rt, 
+    unlinked(
+        rt,
         b"\x70\x23\x5F\x24\x03\x30\x12\x31\x5A\x08\x47\x61\x73\x90\x01\x01\x00\x10\x8C\x05\x95\x05\x9F\x34\x03\x8E\x0A\x00\x00\x00\x00\x00\x00\x00\x00\x5E\x03\x90\x00",
     );
 }
@@ -148,7 +158,8 @@ fn cvms(rt: &impl Print) {
 // A purchase that the card sends online.
 fn verified(rt: &impl Print, record: &[u8]) {
     let gpo = b"\x80\x06\x10\x80\x08\x01\x01\x00\x90\x00";
-    purchase(rt, 
+    purchase(
+        rt,
         0x22,
         0,
         gpo,
@@ -193,7 +204,8 @@ fn limited(rt: &impl Print, hundreds: u8, gpo: &[u8], record: &[u8]) {
     print::print_transaction_limit_of_phase(rt, phase);
     print::print_text(rt, b"\n");
     let read = next(rt, asked, record);
-    next(rt, 
+    next(
+        rt,
         read,
         b"\x80\x0B\x80\x00\x01\x01\x02\x03\x04\x05\x06\x07\x08\x90\x00",
     );
@@ -224,7 +236,8 @@ fn striped(rt: &impl Print, record: &[u8], checksum: &[u8]) {
     let ended = next(rt, read, checksum);
     let session = ended.session;
     let store = session.store;
-    print::print_object_line(rt, 
+    print::print_object_line(
+        rt,
         0x9F6B,
         store::value(&store.bytes, dictionary::ROW_TRACK2_DATA),
     );
@@ -258,12 +271,14 @@ fn later_reasons(rt: &impl Print) {
     print::print_text(rt, b"reason 6\n");
     purchase(rt, 0x22, 2, gpo, record, b"\x90\x00");
     print::print_text(rt, b"reason 7\n");
-    reads(rt, 
+    reads(
+        rt,
         gpo,
         b"\x70\x13\x5F\x24\x03\x30\x12\x31\x5A\x08\x47\x61\x73\x90\x01\x01\x00\x10\x8C\x01\x95\x90\x00",
     );
     print::print_text(rt, b"reason 8\n");
-    purchase(rt, 
+    purchase(
+        rt,
         0x22,
         0,
         gpo,
@@ -290,23 +305,27 @@ fn broken_off(rt: &impl Print) {
 fn refusals(rt: &impl Print) {
     let mut command = [0u8; 261];
     print::print_text(rt, b"a template in the start bytes\n");
-    print::print_reply_with_cvm(rt, 
+    print::print_reply_with_cvm(
+        rt,
         session::start(session_record::fresh_session(), b"\xE1\x00", &mut command),
         &command,
     );
     print::print_text(rt, b"an answer to a fresh session\n");
-    print::print_reply_with_cvm(rt, 
+    print::print_reply_with_cvm(
+        rt,
         session::answer(session_record::fresh_session(), b"\x90\x00", &mut command),
         &command,
     );
     print::print_text(rt, b"a command buffer of 260 bytes\n");
     let mut short = [0u8; 260];
-    print::print_reply_with_cvm(rt, 
+    print::print_reply_with_cvm(
+        rt,
         session::start(session_record::fresh_session(), b"", &mut short),
         &short,
     );
     print::print_text(rt, b"result bits in the start bytes\n");
-    print::print_reply_with_cvm(rt, 
+    print::print_reply_with_cvm(
+        rt,
         session::start(
             session_record::fresh_session(),
             b"\x95\x05\x00\x00\x00\x00\x00",
@@ -315,7 +334,8 @@ fn refusals(rt: &impl Print) {
         &command,
     );
     print::print_text(rt, b"no start bytes\n");
-    print::print_reply_with_cvm(rt, 
+    print::print_reply_with_cvm(
+        rt,
         session::start(session_record::fresh_session(), b"", &mut command),
         &command,
     );
@@ -337,11 +357,13 @@ fn longest(rt: &impl Print) {
     for _ in 0..127u8 {
         reply = next(rt, reply, b"\x70\x00\x90\x00");
     }
-    reply = next(rt, 
+    reply = next(
+        rt,
         reply,
         b"\x70\x14\x5F\x24\x03\x30\x12\x31\x5A\x08\x47\x61\x73\x90\x01\x01\x00\x10\x8C\x02\x95\x05\x90\x00",
     );
-    reply = next(rt, 
+    reply = next(
+        rt,
         reply,
         b"\x80\x0B\x80\x00\x01\x01\x02\x03\x04\x05\x06\x07\x08\x90\x00",
     );

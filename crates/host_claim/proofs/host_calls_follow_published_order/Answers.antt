@@ -6,4 +6,4 @@ use Rattle.host_claim.proofs.Bytes.{as_session}
 use Rattle.host_claim.proofs.host_calls_follow_published_order.Goals as goal
 
 pub returns : goal.returns
-returns c = record { claim = always; open = (λ l. record { word = refl; session = refl }); session = as_session }
+returns c = record { claim = always; «open» = (λ l. record { word = refl; session = refl }); session = as_session }

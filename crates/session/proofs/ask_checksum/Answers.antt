@@ -1,6 +1,5 @@
 -- `session::ask_checksum` meets its contract: what was written determines which way `request_command_or_end_for_dol` goes.
 -- Assumes nothing.
-use borrow.Author.Rules.{rules}
 use Rattle.command.specs.WithList.{compute_cryptographic_checksum}
 use Rattle.session.specs.MagStripe.{awaited_checksum_with_limit, request_checksum}
 use Rattle.session.proofs.Laws.{handed_none, handed_some}
@@ -15,7 +14,6 @@ returns-in_default c =
     (compute_cryptographic_checksum a.bytes.now) g.said g.kept c.in_default.is
     c.fail_session.ensures
 
-
 pub returns : goal.returns
 unfolding request_checksum
 returns c =
@@ -24,4 +22,3 @@ returns c =
     handed_some a.count a.bytes.now (awaited_checksum_with_limit a.limit) a.command.now
     (compute_cryptographic_checksum a.bytes.now) g.said g.kept c.in-Command.is
     c.issue_command.ensures
-

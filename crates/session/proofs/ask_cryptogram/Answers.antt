@@ -1,6 +1,5 @@
 -- `session::ask_cryptogram` meets its contract: what was written determines which way `request_command_or_end_for_dol` goes.
 -- Assumes nothing.
-use borrow.Author.Rules.{rules}
 use mathlib.Core.Path.{ap, ◌∙◌}
 use Prim.Native.Nat.{ℕ}
 use Rattle.basics.specs.Reason.{reason_dol_broken_or_bad_length}
@@ -15,7 +14,6 @@ use Rattle.session.proofs.ask_cryptogram.Goals as goal
 pub returns-in_default : goal.returns-in_default
 unfolding request_cryptogram
 returns-in_default c =
-    
     let a = c.args in
     let p = c.generate_ac_p1-p1.ensures in
     handed_none a.count a.bytes.now (AwaitedResponse.Cryptogram a.asked) a.command.now
@@ -27,11 +25,9 @@ returns-in_default c =
     (c.fail_session.ensures ∙ ap (λ (m : ℕ). failing_transition m a.count reason_dol_broken_or_bad_length)
     c.requested_cvm.ensures)
 
-
 pub returns : goal.returns
 unfolding request_cryptogram
 returns c =
-    
     let a = c.args in
     let p = c.generate_ac_p1-p1.ensures in
     handed_some a.count a.bytes.now (AwaitedResponse.Cryptogram a.asked) a.command.now
@@ -40,4 +36,3 @@ returns c =
     (c.generate_ac.ensures.kept ∙ ap (λ (n : ℕ). buffer_with_command (generate_ac n a.bytes.now) a.command.now)
     p)
     c.in-Command.is c.issue_command.ensures
-

@@ -1,6 +1,5 @@
 -- `session::ask_gpo` meets its contract: what was written determines which way `request_command_or_end_for_dol` goes.
 -- Assumes nothing.
-use borrow.Author.Rules.{rules}
 use Rattle.command.specs.WithList.{get_processing_options}
 use Rattle.session_record.specs.declared.AwaitedResponse.{AwaitedResponse}
 use Rattle.session.specs.Start.{request_gpo}
@@ -15,7 +14,6 @@ returns-in_default c =
     handed_none a.count a.bytes.now AwaitedResponse.Gpo a.command.now (get_processing_options a.bytes.now)
     g.said g.kept c.in_default.is c.fail_session.ensures
 
-
 pub returns : goal.returns
 unfolding request_gpo
 returns c =
@@ -23,4 +21,3 @@ returns c =
     let g = c.get_processing_options.ensures in
     handed_some a.count a.bytes.now AwaitedResponse.Gpo a.command.now (get_processing_options a.bytes.now)
     g.said g.kept c.in-Command.is c.issue_command.ensures
-

@@ -1,7 +1,6 @@
 -- `session::ask_record` meets its contract: the record's file has five bits and the buffer is long enough, so the
 -- command is written.
 -- Assumes nothing.
-use borrow.Author.Rules.{rules}
 use mathlib.Core.Path.{ap, ◌∙◌}
 use Prim.Native.Nat.{◌+◌}
 use native.Mathlib.Omega.{arith}

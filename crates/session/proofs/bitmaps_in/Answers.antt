@@ -1,6 +1,5 @@
 -- `session::bitmaps_in` meets its contract: each part is the bytes of its row.
 -- Assumes nothing.
-use borrow.Author.Rules.{rules}
 use mathlib.Core.Path.{◌∙◌}
 use Rattle.dictionary.proofs.Named.{at_9f65, at_9f66, at_9f67}
 use Rattle.session_record.proofs.Tags.{bytes_are}
@@ -14,4 +13,3 @@ returns c =
     ∙ three bitmaps_of (c.value-pcvc3.ensures ∙ bytes_are _ _ _ at_9f65)
     (c.value-punatc.ensures ∙ bytes_are _ _ _ at_9f66)
     (c.value.ensures ∙ bytes_are _ _ _ at_9f67)
-

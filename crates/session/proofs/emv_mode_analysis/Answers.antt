@@ -1,6 +1,5 @@
 -- `session::emv_mode_analysis` meets its contract: two tests in turn, each the law of its way out.
 -- Assumes nothing.
-use borrow.Author.Rules.{rules}
 use native.Mathlib.Omega.{arith}
 use mathlib.Core.Path.{◌≡◌}
 use mathlib.Core.Bool.{false}
@@ -16,11 +15,10 @@ returns-in_default c =
     (records_limit a.store.now a.limit (is_above _ c.limit_in.ensures
     c.in_default.is))
 
-
 pub returns-in_default-card_complete : goal.returns-in_default-card_complete
 returns-in_default-card_complete c =
     let within : let a = c.args in stored_amount_above_limit a.limit a.store.now ≡ false =
-      is_within _ c.limit_in.ensures c.in-Passed.is in
+    is_within _ c.limit_in.ensures c.in-Passed.is in
     let a = c.args in
     did_end _ _ _ c.fail_session-in_default-card_complete.ensures
     (records_missing a.store.now a.limit (within)
@@ -29,7 +27,7 @@ returns-in_default-card_complete c =
 pub returns : goal.returns
 returns c =
     let within : let a = c.args in stored_amount_above_limit a.limit a.store.now ≡ false =
-      is_within _ c.limit_in.ensures c.in-Passed.is in
+    is_within _ c.limit_in.ensures c.in-Passed.is in
     let a = c.args in
     did_next _ _ (records_analysed a.store.now a.limit (within)
     (is_passed _ (omega arith) c.card_complete.ensures

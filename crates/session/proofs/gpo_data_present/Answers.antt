@@ -1,6 +1,5 @@
 -- `session::gpo_data_present` meets its contract: object by object, by row and by tag.
 -- Assumes nothing.
-use borrow.Author.Rules.{rules}
 use mathlib.Core.Path.{sym}
 use Rattle.basics.proofs.Laws.{if_yes, if_no, both_yes, both_no_left, both_no_right}
 use Rattle.dictionary.proofs.Named.{at_82, at_94}
@@ -9,16 +8,12 @@ use Rattle.session.proofs.gpo_data_present.Goals as goal
 
 pub returns-then-is_present-2 : goal.returns-then-is_present-2
 returns-then-is_present-2 c =
-    
     sym
     (if_yes _ _ (both_yes _ _ (held_is _ _ _ at_82 c.is_present.ensures c.if-is_present.true)
     (held_is _ _ _ at_94 c.is_present-then-is_present.ensures c.if-is_present-2.true)))
 
-
 pub returns-else-is_present-2 : goal.returns-else-is_present-2
 returns-else-is_present-2 c = sym (if_no _ _ (both_no_right _ _ (held_is _ _ _ at_94 c.is_present-then-is_present.ensures c.if-is_present-2.false)))
 
-
 pub returns-else-is_present : goal.returns-else-is_present
 returns-else-is_present c = sym (if_no _ _ (both_no_left _ _ (held_is _ _ _ at_82 c.is_present.ensures c.if-is_present.false)))
-

@@ -1,6 +1,5 @@
 -- `session::load_objects` meets its contract: a loading is refused or taken, and each has its law.
 -- Assumes nothing.
-use borrow.Author.Rules.{rules}
 use mathlib.Core.Path.{ap, ◌∙◌}
 use native.Mathlib.Omega.{arith}
 use Rattle.session_record.specs.declared.Phase.{Phase}
@@ -16,7 +15,6 @@ returns-in_default c =
     (loading_refused a.count a.store.now _ _
     c.load-said.ensures.given c.in_default.is)
 
-
 pub put-requires : goal.put-requires
 put-requires c = record { bytes_len = c.load-said.ensures.sized; row_lt_row_count = (omega arith, omega (arith, results_fit)) }
 
@@ -30,4 +28,3 @@ returns c =
     c.in-Loaded.is
     c.put.ensures.stored)
     c.ask_gpo.ensures
-

@@ -1,6 +1,5 @@
 -- `session::outcome_for_cryptogram_type` meets its contract: type by type, and then by what was requested.
 -- Assumes nothing.
-use borrow.Author.Rules.{rules}
 use borrow.Author.Tests.{eq-eqb, ne_eqb}
 use mathlib.Core.Path.{◌≡◌, sym, ap, ◌∙◌}
 use Prim.Native.Nat.{ℕ}
@@ -25,37 +24,29 @@ pub returns-then-kind-eq-CID_AAC : goal.returns-then-kind-eq-CID_AAC
 unfolding outcome_for_cryptogram_type
 returns-then-kind-eq-CID_AAC c = ap ending_for_decision (sym (if_yes _ _ (eq-eqb _ 0 c.if-kind-eq-CID_AAC.true)))
 
-
 pub returns-in-Decline : goal.returns-in-Decline
 returns-in-Decline c = online c.if-kind-eq-CID_AAC.false c.if-kind-eq-CID_ARQC.true c.in-Decline.is
-
 
 pub returns-in-Online : goal.returns-in-Online
 returns-in-Online c = online c.if-kind-eq-CID_AAC.false c.if-kind-eq-CID_ARQC.true c.in-Online.is
 
-
 pub returns-in-Offline : goal.returns-in-Offline
 returns-in-Offline c = online c.if-kind-eq-CID_AAC.false c.if-kind-eq-CID_ARQC.true c.in-Offline.is
-
 
 pub returns-in-Decline-choice : goal.returns-in-Decline-choice
 returns-in-Decline-choice c = approved c.if-kind-eq-CID_AAC.false c.if-kind-eq-CID_ARQC.false
     c.if-kind-eq-CID_TC.true c.in-Decline-choice.is
 
-
 pub returns-in-Online-choice : goal.returns-in-Online-choice
 returns-in-Online-choice c = approved c.if-kind-eq-CID_AAC.false c.if-kind-eq-CID_ARQC.false
     c.if-kind-eq-CID_TC.true c.in-Online-choice.is
 
-
 pub returns-in-Offline-choice : goal.returns-in-Offline-choice
 returns-in-Offline-choice c = approved c.if-kind-eq-CID_AAC.false c.if-kind-eq-CID_ARQC.false
     c.if-kind-eq-CID_TC.true c.in-Offline-choice.is
-
 
 pub returns : goal.returns
 unfolding outcome_for_cryptogram_type
 returns c = ap ending_for_decision
     (sym (if_no _ _ (ne_eqb _ 0 c.if-kind-eq-CID_AAC.false) ∙ if_no _ _ (ne_eqb _ 2 c.if-kind-eq-CID_ARQC.false) ∙ if_no
     _ _ (ne_eqb _ 1 c.if-kind-eq-CID_TC.false)))
-

@@ -13,12 +13,14 @@ use Rattle.session.proofs.Laws.{did_next, did_end, read_goes, read_ends, is_pass
 use Rattle.session.proofs.take_checksum.Goals as goal
 
 pub refuse_track-requires : goal.refuse_track-requires
-refuse_track-requires c = record { bytes_len = search rules; bytes_value = is_failed _ (omega arith) c.track_in.ensures
-      c.in_default.is }
+refuse_track-requires c = record {
+  bytes_len = search rules;
+  bytes_value = is_failed _ (omega arith) c.track_in.ensures
+      c.in_default.is;
+}
 
 pub returns-in_default : goal.returns-in_default
 returns-in_default c buf = c.refuse_track.ensures buf
-
 
 pub returns-in_default-verdict : goal.returns-in_default-verdict
 unfolding next_on_checksum_response
@@ -31,12 +33,11 @@ returns-in_default-verdict c buf =
     (next_if_track_takes_digits a.store.now) c.read_answer-read.ensures.given
     c.in_default-verdict.not-Accepted)
 
-
 pub returns : goal.returns
 unfolding next_on_checksum_response
 returns c buf =
     let sound : stored_track_can_take_digits c.args.store.now ≡ true =
-      is_passed _ (omega arith) c.track_in.ensures c.in-Passed.is in
+    is_passed _ (omega arith) c.track_in.ensures c.in-Passed.is in
     let a =
     c.args in
     did_next _ _

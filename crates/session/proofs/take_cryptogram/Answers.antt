@@ -1,6 +1,5 @@
 -- `session::take_cryptogram` meets its contract: the reading is accepted or not, and each has its law.
 -- Assumes nothing.
-use borrow.Author.Rules.{rules}
 use mathlib.Core.Path.{ap₂, ◌∙◌}
 use Prim.Native.Nat.{ℕ}
 use Rattle.reading.specs.declared.Awaited.{Awaited}
@@ -20,7 +19,6 @@ returns-in_default c buf =
     (next_after_cryptogram_read a.asked) c.read_answer-read.ensures.given
     c.in_default.not-Accepted)
 
-
 pub returns : goal.returns
 unfolding next_on_cryptogram_response
 returns c buf =
@@ -30,4 +28,3 @@ returns c buf =
     (next_after_cryptogram_read a.asked) c.read_answer-read.ensures.given
     c.in-Accepted.is)
     (c.cryptogram_outcome.ensures buf)
-

@@ -1,6 +1,5 @@
 -- `session::take_gpo` meets its contract: the reading is accepted or not, and each has its law.
 -- Assumes nothing.
-use borrow.Author.Rules.{rules}
 use mathlib.Core.Path.{ap, ◌∙◌}
 use Rattle.reading.specs.declared.Awaited.{Awaited}
 use Rattle.analysis.specs.Cvm.{cvm_number_not_applicable}
@@ -18,7 +17,6 @@ returns-in_default c =
     (read_ends Awaited.Gpo cvm_number_not_applicable a.store.now a.card.now next_after_gpo_read
     c.read_answer-read.ensures.given c.in_default.not-Accepted)
 
-
 pub returns : goal.returns
 unfolding next_on_gpo_response
 returns c =
@@ -29,4 +27,3 @@ returns c =
     c.read_answer-read.ensures.given
     c.in-Accepted.is)
     c.after_gpo.ensures
-

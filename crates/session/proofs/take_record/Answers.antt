@@ -1,60 +1,49 @@
 -- `session::take_record` meets its contract: the record that was requested, then the reading, accepted or not.
 -- Assumes nothing.
-use borrow.Author.Rules.{rules}
 use mathlib.Core.Path.{◌≡◌, ap, ◌∙◌}
+use mathlib.Core.List.{List}
 use Rattle.afl.specs.declared.RecordFound.{RecordFound}
+use Rattle.afl.specs.Records.{kth_record_of_accepted_afl}
 use Rattle.reading.specs.declared.Awaited.{Awaited}
 use Rattle.analysis.specs.Cvm.{cvm_number_not_applicable}
+use Rattle.session_record.specs.declared.AwaitedRecord.{AwaitedRecord}
+use Rattle.session_record.specs.Ranges.{stored_afl}
 use Rattle.session_record.specs.Session.{failing_transition}
 use Rattle.session.specs.Answer.{next_on_response_for_record_found, next_after_record_read, next_on_record_response}
 use Rattle.session.proofs.Laws.{did_next, did_end, found_as, read_goes, read_ends}
 use Rattle.session.proofs.take_record.Goals as goal
+use Prim.Native.Nat.{ℕ}
+
+-- the record that was requested decides how its answer is read
+asked : (p : AwaitedRecord) (b card : List ℕ) {x : RecordFound} → kth_record_of_accepted_afl (stored_afl b) p.number ≡ x
+    → next_on_record_response p b card ≡ next_on_response_for_record_found p b card x
+unfolding next_on_record_response
+asked p b card e = ap (next_on_response_for_record_found p b card) e
 
 pub returns-in_default : goal.returns-in_default
-unfolding next_on_record_response
 returns-in_default c =
-    let asked : (x : RecordFound) → let a = c.args in c.kth_record_of_accepted_afl-found.result ≡ x → next_on_record_response a.place a.store.now a.card.now ≡ next_on_response_for_record_found a.place a.store.now a.card.now x =
-      λ x e. let a = c.args in
-    ap (next_on_response_for_record_found a.place a.store.now a.card.now)
-    (found_as c.kth_record_of_accepted_afl-found.ensures e _ _ c.value.ensures
-    c.widen-k.ensures.0) in
-    did_end _ _ _ c.fail_session.ensures (asked RecordFound.Nothing
-    c.in_default.is)
+    let a = c.args in
+    did_end _ _ _ c.fail_session.ensures
+    (asked a.place a.store.now a.card.now
+    (found_as c.kth_record_of_accepted_afl-found.ensures c.in_default.is _ _ c.value.ensures c.widen-k.ensures.0))
 
 pub returns-in_default-verdict : goal.returns-in_default-verdict
-unfolding next_on_record_response
 returns-in_default-verdict c =
-    let asked : (x : RecordFound) → let a = c.args in c.kth_record_of_accepted_afl-found.result ≡ x → next_on_record_response a.place a.store.now a.card.now ≡ next_on_response_for_record_found a.place a.store.now a.card.now x =
-      λ x e. let a = c.args in
-    ap (next_on_response_for_record_found a.place a.store.now a.card.now)
-    (found_as c.kth_record_of_accepted_afl-found.ensures e _ _ c.value.ensures
-    c.widen-k.ensures.0) in
-    let a =
-    c.args in
-    did_end _ _ _ (c.fail_session-in_default-verdict.ensures ∙ ap (failing_transition cvm_number_not_applicable a.count)
-    c.verdict_number.ensures)
-    (asked (RecordFound.At c.in-At.asked)
-    c.in-At.is
+    let a = c.args in
+    did_end _ _ _
+    (c.fail_session-in_default-verdict.ensures
+    ∙ ap (failing_transition cvm_number_not_applicable a.count) c.verdict_number.ensures)
+    (asked a.place a.store.now a.card.now
+    (found_as c.kth_record_of_accepted_afl-found.ensures c.in-At.is _ _ c.value.ensures c.widen-k.ensures.0)
     ∙ read_ends (Awaited.Record (record { number = c.in-At.asked.sfi })) cvm_number_not_applicable a.store.now a.card.now
-    (next_after_record_read a.place) c.read_answer-read.ensures.given
-    c.in_default-verdict.not-Accepted)
+    (next_after_record_read a.place) c.read_answer-read.ensures.given c.in_default-verdict.not-Accepted)
 
 pub returns : goal.returns
-unfolding next_on_record_response
 returns c =
-    let asked : (x : RecordFound) → let a = c.args in c.kth_record_of_accepted_afl-found.result ≡ x → next_on_record_response a.place a.store.now a.card.now ≡ next_on_response_for_record_found a.place a.store.now a.card.now x =
-      λ x e. let a = c.args in
-    ap (next_on_response_for_record_found a.place a.store.now a.card.now)
-    (found_as c.kth_record_of_accepted_afl-found.ensures e _ _ c.value.ensures
-    c.widen-k.ensures.0) in
-    let w = c.in-At.asked in
-    let a =
-    c.args in
+    let a = c.args in
     did_next _ _
-    (asked (RecordFound.At w) c.in-At.is
-    ∙ read_goes (Awaited.Record (record { number = w.sfi })) cvm_number_not_applicable a.store.now a.card.now
-    (next_after_record_read a.place)
-    c.read_answer-read.ensures.given
-    c.in-Accepted.is)
+    (asked a.place a.store.now a.card.now
+    (found_as c.kth_record_of_accepted_afl-found.ensures c.in-At.is _ _ c.value.ensures c.widen-k.ensures.0)
+    ∙ read_goes (Awaited.Record (record { number = c.in-At.asked.sfi })) cvm_number_not_applicable a.store.now a.card.now
+    (next_after_record_read a.place) c.read_answer-read.ensures.given c.in-Accepted.is)
     c.ask_next_record.ensures
-

@@ -1,9 +1,6 @@
 -- `session::track_after` meets its contract: the stored track is copied whole, and the digits of the store go in.
 -- Assumes nothing.
-use borrow.Author.Rules.{rules}
-use mathlib.Core.Path.{◌≡◌, sym, ap, ◌∙◌}
-use mathlib.Core.List.{List}
-use Prim.Native.Nat.{ℕ}
+use mathlib.Core.Path.{sym, ap, ◌∙◌}
 use native.Mathlib.Omega.{arith}
 use lib.ListN.{length}
 use Rattle.dictionary.proofs.Named.{at_9f6b}
@@ -18,7 +15,6 @@ copy-requires c = omega (
   ap length (c.value.ensures ∙ bytes_are _ _ _ at_9f6b),
   c.requires,
 )
-
 
 pub returns : goal.returns
 returns c =

@@ -1,6 +1,5 @@
 -- `session::track_in` meets its contract: the answer is the test that was made of the stored track and bitmaps.
 -- Assumes nothing.
-use borrow.Author.Rules.{rules}
 use mathlib.Core.Path.{◌≡◌, sym, ap₂, ◌∙◌}
 use mathlib.Core.List.{List}
 use Prim.Native.Nat.{ℕ}
@@ -15,7 +14,7 @@ use Rattle.session.proofs.track_in.Goals as goal
 pub returns-then-can_take_digits : goal.returns-then-can_take_digits
 returns-then-can_take_digits c =
     let tested : c.can_take_digits.result ≡ stored_track_can_take_digits c.args.bytes.now =
-      c.can_take_digits.ensures
+    c.can_take_digits.ensures
     ∙ ap₂ (λ (t : List ℕ) (b : Bitmaps). track_can_take_digits t b) (c.value.ensures ∙ bytes_are _ _ _ at_9f6b)
     c.bitmaps_in-bitmaps.ensures in
     sym (if_yes _ _ (sym (tested) ∙ c.if-can_take_digits.true))
@@ -23,7 +22,7 @@ returns-then-can_take_digits c =
 pub returns : goal.returns
 returns c =
     let tested : c.can_take_digits.result ≡ stored_track_can_take_digits c.args.bytes.now =
-      c.can_take_digits.ensures
+    c.can_take_digits.ensures
     ∙ ap₂ (λ (t : List ℕ) (b : Bitmaps). track_can_take_digits t b) (c.value.ensures ∙ bytes_are _ _ _ at_9f6b)
     c.bitmaps_in-bitmaps.ensures in
     sym (if_no _ _ (sym (tested) ∙ c.if-can_take_digits.false))

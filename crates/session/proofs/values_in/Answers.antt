@@ -1,6 +1,5 @@
 -- `session::values_in` meets its contract: each part is the bytes of its row.
 -- Assumes nothing.
-use borrow.Author.Rules.{rules}
 use mathlib.Core.Path.{◌∙◌}
 use Rattle.dictionary.proofs.Named.{at_9f36, at_9f61, at_9f6a}
 use Rattle.session_record.proofs.Tags.{bytes_are}
@@ -14,4 +13,3 @@ returns c =
     ∙ three digit_values_of (c.value-code.ensures ∙ bytes_are _ _ _ at_9f61)
     (c.value-number.ensures ∙ bytes_are _ _ _ at_9f6a)
     (c.value.ensures ∙ bytes_are _ _ _ at_9f36)
-
