@@ -1,7 +1,7 @@
 -- The bench table's marked rows (document 01, "Bench table"), a field for each, over the definitions that the calls'
 -- promises cite.
 -- Assumes nothing.
-use Rattle.std.specs.Prelude.{◌≡◌, List, [], ◌∷◌, ◌++◌, ◌≤◌, length}
+use Rattle.std.specs.Prelude.{◌≡◌, [], ◌∷◌, ◌++◌, ◌≤◌, length}
 use Rattle.std.proofs.Math.Option.{some}
 use Rattle.basics.specs.Types.{Bytes, StoreBytes, Value, Response, StartBytes, CommandBytes, Buffer, TvrBytes, Count}
 use Rattle.basics.specs.Front.{written_over_front}

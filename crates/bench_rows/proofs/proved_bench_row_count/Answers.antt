@@ -5,4 +5,3 @@ use Rattle.bench_rows.proofs.proved_bench_row_count.Goals as goal
 
 pub returns : goal.returns
 returns c = (refl, table)
-
