@@ -10,7 +10,6 @@ pub slice_bounds-make-end : goal.slice_bounds-make-end
 slice_bounds-make-end c = sym (length-take-le c.least-n.result c.first_bytes-incoming.result
     (search rules))
 
-
 pub returns : goal.returns
 returns c = let a = c.args in
     placed a.session a.header a.calls.now c.first_bytes-incoming.result
@@ -18,4 +17,3 @@ returns c = let a = c.args in
     c.requires
     c.least-n.ensures
     c.first_bytes-incoming.ensures c.make.ensures
-

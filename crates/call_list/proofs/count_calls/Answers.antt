@@ -6,7 +6,6 @@ use mathlib.Core.Option.{Option}
 use Prim.Native.Nat.{ℕ, ◌+◌, ◌≤◌}
 use native.Mathlib.Omega.{arith}
 use lib.ListN.{length, length-take, length-drop}
-use borrow.Author.Rules.{rules}
 use Rattle.tlv.proofs.Laws.{tail-is}
 use Rattle.session.specs.Calls.{Call}
 use Rattle.call_list.specs.declared.CallFront.{CallFront}
@@ -19,79 +18,76 @@ use Rattle.call_list.proofs.count_calls.Goals as goal
 pub loop-rest-init : goal.loop-rest-init
 loop-rest-init c = (sym (more_none _), omega arith)
 
-
 pub returns-in_default : goal.returns-in_default
 returns-in_default c = let lp = c.loop-rest in
     sym (lp.invariant.0 ∙ ap (λ (x : Option (List Call)). more lp.n (calls_counted_in x))
     (calls_malformed lp.rest.now c.loop-rest-test.true
     (sym c.front_of.ensures ∙ c.in_default.is)))
 
-
 pub overflow_add-end : goal.overflow_add-end
 overflow_add-end c =
     let at_call : call_front_in c.loop-rest.rest.now ≡ CallFront.Call c.in-Call.header =
-      sym c.front_of.ensures ∙ c.in-Call.is in
+    sym c.front_of.ensures ∙ c.in-Call.is in
     let inside : call_end_offset c.in-Call.header ≤ length c.loop-rest.rest.now =
-      front-end _ _ (at_call) in
+    front-end _ _ (at_call) in
     let i = inside in omega arith
 
 pub overflow_add-end-in-loop-rest : goal.overflow_add-end-in-loop-rest
 overflow_add-end-in-loop-rest c =
     let at_call : call_front_in c.loop-rest.rest.now ≡ CallFront.Call c.in-Call.header =
-      sym c.front_of.ensures ∙ c.in-Call.is in
+    sym c.front_of.ensures ∙ c.in-Call.is in
     let inside : call_end_offset c.in-Call.header ≤ length c.loop-rest.rest.now =
-      front-end _ _ (at_call) in
+    front-end _ _ (at_call) in
     let i = inside in omega arith
 
 pub slice_bounds-rest-count : goal.slice_bounds-rest-count
 slice_bounds-rest-count c =
     let at_call : call_front_in c.loop-rest.rest.now ≡ CallFront.Call c.in-Call.header =
-      sym c.front_of.ensures ∙ c.in-Call.is in
+    sym c.front_of.ensures ∙ c.in-Call.is in
     let inside : call_end_offset c.in-Call.header ≤ length c.loop-rest.rest.now =
-      front-end _ _ (at_call) in
+    front-end _ _ (at_call) in
     let i = inside in omega arith
 
 pub slice_bounds-rest-start : goal.slice_bounds-rest-start
 slice_bounds-rest-start c =
     let at_call : call_front_in c.loop-rest.rest.now ≡ CallFront.Call c.in-Call.header =
-      sym c.front_of.ensures ∙ c.in-Call.is in
+    sym c.front_of.ensures ∙ c.in-Call.is in
     let inside : call_end_offset c.in-Call.header ≤ length c.loop-rest.rest.now =
-      front-end _ _ (at_call) in
+    front-end _ _ (at_call) in
     let i = inside in omega arith
 
 pub slice_bounds-rest-end : goal.slice_bounds-rest-end
 slice_bounds-rest-end c =
     let at_call : call_front_in c.loop-rest.rest.now ≡ CallFront.Call c.in-Call.header =
-      sym c.front_of.ensures ∙ c.in-Call.is in
+    sym c.front_of.ensures ∙ c.in-Call.is in
     let inside : call_end_offset c.in-Call.header ≤ length c.loop-rest.rest.now =
-      front-end _ _ (at_call) in
+    front-end _ _ (at_call) in
     let i = inside in omega arith
 
 pub overflow_add-n : goal.overflow_add-n
 overflow_add-n c =
     let at_call : call_front_in c.loop-rest.rest.now ≡ CallFront.Call c.in-Call.header =
-      sym c.front_of.ensures ∙ c.in-Call.is in
+    sym c.front_of.ensures ∙ c.in-Call.is in
     let inside : call_end_offset c.in-Call.header ≤ length c.loop-rest.rest.now =
-      front-end _ _ (at_call) in
+    front-end _ _ (at_call) in
     let i = inside in omega arith
 
 pub loop-rest-smaller : goal.loop-rest-smaller
 loop-rest-smaller c =
     let at_call : call_front_in c.loop-rest.rest.now ≡ CallFront.Call c.in-Call.header =
-      sym c.front_of.ensures ∙ c.in-Call.is in
+    sym c.front_of.ensures ∙ c.in-Call.is in
     let inside : call_end_offset c.in-Call.header ≤ length c.loop-rest.rest.now =
-      front-end _ _ (at_call) in
+    front-end _ _ (at_call) in
     let i = inside in simp (length-take, length-drop) (omega arith)
 
 pub loop-rest-preserved : goal.loop-rest-preserved
 loop-rest-preserved c =
     let at_call : call_front_in c.loop-rest.rest.now ≡ CallFront.Call c.in-Call.header =
-      sym c.front_of.ensures ∙ c.in-Call.is in
+    sym c.front_of.ensures ∙ c.in-Call.is in
     let inside : call_end_offset c.in-Call.header ≤ length c.loop-rest.rest.now =
-      front-end _ _ (at_call) in
+    front-end _ _ (at_call) in
     let lp = c.loop-rest in
-    let i = inside in
-    (
+    let i = inside in (
       lp.invariant.0 ∙ counted_call lp.n lp.rest.now c.in-Call.header
           c.loop-rest-test.true
           (at_call)
@@ -105,4 +101,3 @@ returns c = let lp = c.loop-rest in
     let z : lp.n + 0 ≡ lp.n = omega arith in
     sym (lp.invariant.0 ∙ ap (λ (x : Option (List Call)). more lp.n (calls_counted_in x))
     (calls_end lp.rest.now (omega arith)) ∙ ap CallsCounted.Calls z)
-

@@ -14,7 +14,6 @@ slice_bounds-copy-end-2 c =
     sym (length-take-le c.args.n c.no_bytes-incoming.result
     (search rules))
 
-
 pub copy-requires : goal.copy-requires
 copy-requires c = let n = c.args.n in
     omega (
@@ -23,7 +22,6 @@ copy-requires c = let n = c.args.n in
       length-take-le n c.no_bytes-incoming.result (search rules),
     )
 
-
 pub returns : goal.returns
 returns c = let a = c.args in
     let v = take (17 + a.n - 17) (drop 17 a.calls.now) in
@@ -31,4 +29,3 @@ returns c = let a = c.args in
     let l : length v ≡ a.n = length-take (17 + a.n - 17) (drop 17 a.calls.now) ∙ omega
     (arith, length-drop 17 a.calls.now, c.requires) in
     front_copied v _ _ _ a.n l c.copy.ensures.1 ∙ ap (λ (k : ℕ). take k (drop 17 a.calls.now)) e
-

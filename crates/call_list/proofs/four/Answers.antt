@@ -1,7 +1,6 @@
 -- `four`: the bytes of a slice of four as a number.
 -- Assumes nothing.
 use native.Mathlib.Omega.{arith}
-use borrow.Author.Rules.{rules}
 use Rattle.call_list.proofs.Number.{four_from}
 use Rattle.call_list.proofs.four.Goals as goal
 
@@ -14,4 +13,3 @@ returns c = (
   ),
   omega arith,
 )
-

@@ -1,8 +1,6 @@
 -- `header_of`: the kind, and the two lengths by `eight`.
 -- Assumes nothing.
-use borrow.Author.Rules.{rules}
 use Rattle.call_list.proofs.header_of.Goals as goal
 
 pub returns : goal.returns
 returns c = cc
-

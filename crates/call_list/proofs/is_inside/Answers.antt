@@ -11,13 +11,10 @@ use Rattle.call_list.proofs.is_inside.Goals as goal
 pub returns-then-size-lt-HEADER : goal.returns-then-size-lt-HEADER
 returns-then-size-lt-HEADER c = let a = c.args in sym (lt-leb (call_end_offset a.header) a.size (omega arith))
 
-
 pub returns-then-behind-header : goal.returns-then-behind-header
 returns-then-behind-header c = let a = c.args in
     sym (lt-leb (call_end_offset a.header) a.size (omega arith))
 
-
 pub returns : goal.returns
 returns c = let a = c.args in same_test a.header.capacity
     (a.size - 17 - a.header.incoming) (call_end_offset a.header) a.size (λ x. omega arith) (λ x. omega arith)
-

@@ -4,7 +4,6 @@ use mathlib.Core.Path.{sym, subst}
 use Prim.Native.Nat.{◌≤◌}
 use native.Mathlib.Omega.{arith}
 use lib.ListN.{length}
-use borrow.Author.Rules.{rules}
 use Rattle.call_list.specs.declared.CallHeader.{CallHeader}
 use Rattle.call_list.specs.Encoding.{call_end_offset}
 use Rattle.call_list.proofs.Read.{whole_size, whole_end}
@@ -14,18 +13,17 @@ use Rattle.call_list.proofs.one_call.Goals as goal
 pub header_of-header-requires : goal.header_of-header-requires
 header_of-header-requires c = whole_size _ c.requires.0
 
-
 pub call_in-reply-requires : goal.call_in-reply-requires
 call_in-reply-requires c =
     let inside : call_end_offset c.header_of-header.result ≤ length c.args.calls.now =
-      subst (λ (x : CallHeader). call_end_offset x ≤ length c.args.calls.now) (sym c.header_of-header.ensures)
+    subst (λ (x : CallHeader). call_end_offset x ≤ length c.args.calls.now) (sym c.header_of-header.ensures)
     (whole_end _ c.requires.0) in
     inside
 
 pub overflow_add-result : goal.overflow_add-result
 overflow_add-result c =
     let inside : call_end_offset c.header_of-header.result ≤ length c.args.calls.now =
-      subst (λ (x : CallHeader). call_end_offset x ≤ length c.args.calls.now) (sym c.header_of-header.ensures)
+    subst (λ (x : CallHeader). call_end_offset x ≤ length c.args.calls.now) (sym c.header_of-header.ensures)
     (whole_end _ c.requires.0) in
     let i =
     inside in
@@ -34,7 +32,7 @@ overflow_add-result c =
 pub overflow_add-result-2 : goal.overflow_add-result-2
 overflow_add-result-2 c =
     let inside : call_end_offset c.header_of-header.result ≤ length c.args.calls.now =
-      subst (λ (x : CallHeader). call_end_offset x ≤ length c.args.calls.now) (sym c.header_of-header.ensures)
+    subst (λ (x : CallHeader). call_end_offset x ≤ length c.args.calls.now) (sym c.header_of-header.ensures)
     (whole_end _ c.requires.0) in
     let i =
     inside
@@ -49,4 +47,3 @@ returns c = let a =
     c.call_in-reply.ensures
     c.reply_bytes.ensures
     c.copy.ensures.1
-

@@ -1,11 +1,9 @@
 -- `reply_bytes`: by what the call returned.
 -- Assumes nothing.
-use borrow.Author.Rules.{rules}
 use Rattle.call_list.proofs.reply_bytes.Goals as goal
 
 pub returns-in-Command : goal.returns-in-Command
 returns-in-Command c = simp (c.in-Command.is, c.command_count-count.ensures)
-
 
 pub returns-in-Outcome : goal.returns-in-Outcome
 returns-in-Outcome c = simp (
@@ -14,7 +12,5 @@ returns-in-Outcome c = simp (
   c.outcome_number.ensures,
 )
 
-
 pub returns-in-Refused : goal.returns-in-Refused
 returns-in-Refused c = simp (c.in-Refused.is, c.command_count-count.ensures)
-
