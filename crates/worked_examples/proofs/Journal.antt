@@ -1,6 +1,6 @@
 -- Records written and read are computed; the calls of a whole journal by the law that a played session stays in its
 -- ranges, and the verdict on it by the law that every journal of a conforming kernel is accepted. Assumes nothing.
-use mathlib.Core.Path.{◌≡◌, refl, sym, ap, subst, ◌∙◌}
+use mathlib.Core.Path.{◌≡◌, refl, sym, ap, subst}
 use mathlib.Core.List.{List}
 use Prim.Native.Nat.{ℕ, ◌≤◌}
 use lib.Dec.{lit≤}
@@ -30,7 +30,7 @@ use Rattle.session_record.specs.Ranges.{is_present_if_required_at_start, all_req
 use Rattle.session_record.specs.Ranges.{expiry_pan_and_cdol1_non_empty, track2_and_bitmaps_non_empty}
 use Rattle.start_data.specs.StartData.{is_listed_if_terminal_type, start_may_set_object_in_row, set_start_object, set_start_objects}
 use Rattle.start_data.specs.StartData.{load_start_bytes}
-use Rattle.session.specs.Steps.{read_response_then, store_with_tvr, store_with_findings}
+use Rattle.session.specs.Steps.{store_with_tvr, store_with_findings}
 use Rattle.session.specs.Start.{request_gpo}
 use Rattle.session_record.specs.Session.{fresh_session}
 use Rattle.session_record.proofs.Phases.{fresh_keeps}

@@ -1,7 +1,6 @@
 -- Which of the sessions keep their ranges, each by one walk over its store. Assumes nothing.
 use mathlib.Core.Path.{◌≡◌}
 use mathlib.Core.Bool.{true, false}
-use mathlib.Core.List.{List}
 use Rattle.basics.specs.Choice.{if, both, either, every}
 use Rattle.basics.specs.Number.{nibbles}
 use Rattle.dictionary.specs.Rows.{dictionary_rows, row_found_shifted, find_row}

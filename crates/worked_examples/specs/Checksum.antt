@@ -2,8 +2,8 @@
 -- track that cannot take the digits (3), the counter missing (4), declined where the code is missing. Each field is
 -- named by the two that its answer gives, or by the later one; a body under 80 is refused.
 -- Assumes nothing.
-use Rattle.std.specs.Prelude.{◌≡◌, List, [], ◌∷◌, ◌++◌}
-use Rattle.basics.specs.Types.{Bytes, Response}
+use Rattle.std.specs.Prelude.{◌≡◌, [], ◌∷◌, ◌++◌}
+use Rattle.basics.specs.Types.{Bytes}
 use Rattle.tlv.specs.Encoding.{object_bytes}
 use Rattle.store.specs.Place.{present}
 use Rattle.session_record.specs.declared.Outcome.{Outcome}

@@ -2,7 +2,7 @@
 -- an object missing (4), the mode (11), the AFL (5). Each field but the last has an answer that gives two reasons, and
 -- is named by both, or by the later one: the session ends with the first.
 -- Assumes nothing.
-use Rattle.std.specs.Prelude.{◌≡◌, List, [], ◌∷◌, ◌++◌, map, replicate}
+use Rattle.std.specs.Prelude.{◌≡◌, [], ◌∷◌, ◌++◌, map, replicate}
 use Rattle.basics.specs.Types.{Bytes, Value, AflBytes}
 use Rattle.tlv.specs.Encoding.{object_bytes}
 use Rattle.worked_examples.specs.Sessions.{emv_aip, mag_stripe_aip, one_record_afl, afl_of_file_zero, waits_on_gpo}

@@ -2,7 +2,7 @@
 -- status (1), encoding (2), outer tag or body (2), objects (3). An answer gives two reasons, which name its field; the
 -- session ends with the first. The session s awaits an answer of one outer tag and ends as `ended` says.
 -- Assumes nothing.
-use Rattle.std.specs.Prelude.{◌≡◌, List, [], ◌∷◌, ◌++◌}
+use Rattle.std.specs.Prelude.{◌≡◌, [], ◌++◌}
 use Rattle.basics.specs.Types.{Bytes, Tag, Reason}
 use Rattle.tlv.specs.Encoding.{object_bytes}
 use Rattle.session_record.specs.declared.CallResult.{CallResult}

@@ -2,7 +2,7 @@
 -- (21), and of start bytes no run of primitive objects (20), an object that may not be set (23), a mandatory object
 -- absent (24). Each field is named by the two refusals that its call gives: the first is the one returned.
 -- Assumes nothing.
-use Rattle.std.specs.Prelude.{◌≡◌, List, [], ◌∷◌, ◌++◌}
+use Rattle.std.specs.Prelude.{◌≡◌, [], ◌∷◌, ◌++◌}
 use Rattle.basics.specs.Types.{StartBytes, Response, Buffer}
 use Rattle.session_record.specs.Session.{fresh_session}
 use Rattle.session.specs.Calls.{Call, start, answer, link_failed, stop}
