@@ -40,13 +40,13 @@ use Rattle.session_record.specs.declared.Phase.{Phase}
 use Rattle.session_record.specs.declared.AwaitedRecord.{AwaitedRecord}
 use Rattle.session_record.specs.declared.Reply.{Reply}
 use Rattle.session_record.specs.declared.Session.{Session}
-use Rattle.session_record.specs.Session.{store_bytes, session_of, ending_of, ending_for_reason}
-use Rattle.session_record.specs.Ranges.{mag_stripe_mode, emv_or_mag_stripe_mode, session_record_in_ranges}
+use Rattle.session_record.specs.Session.{store_bytes, ending_of, ending_for_reason}
+use Rattle.session_record.specs.Ranges.{mag_stripe_mode, session_record_in_ranges}
 use Rattle.session_record.proofs.Phases.{store_size_lem, store_fits, on_cryptogram_lem, on_checksum_lem}
 use Rattle.session.specs.Steps.{NextAction, end, read_response_then, store_with_findings, Step, step_of_next, step_of_effect}
 use Rattle.session.specs.Steps.{step_if_admitted, effect_if_running, abort_step}
 use Rattle.session.specs.Start.{start_step}
-use Rattle.session.specs.MagStripe.{awaited_checksum_with_limit, store_with_track_digits}
+use Rattle.session.specs.MagStripe.{awaited_checksum_with_limit}
 use Rattle.session.specs.Answer.{awaited_record_with_limit, requested_cryptogram, outcome_for_cryptogram_type}
 use Rattle.session.specs.Answer.{ending_for_decision, cid_atc_and_cryptogram_present, cryptogram_ending}
 use Rattle.session.specs.Answer.{next_on_cryptogram_response, next_on_response, answer_step}
@@ -63,11 +63,10 @@ use Rattle.step_laws.proofs.Ways.{BrokenWay, broken_way}
 use Rattle.explain.specs.declared.Explanation.{Explanation}
 use Rattle.explain.specs.Explain.{recomputed_choice, stored_cryptogram_type, aip_indicates_mag_stripe, explanation_in_phase}
 use Rattle.explain.specs.Explain.{explanation_of}
-use Rattle.explain.specs.Promise.{StoredCryptogramDecidesOutcome}
 use Rattle.explain.proofs.Laws.{mag_stripe_mode_is}
-use Rattle.explain.proofs.Complete.{Complete, running_complete, waiting_answers, ended_answers, reason_answers}
+use Rattle.explain.proofs.Complete.{running_complete, waiting_answers, ended_answers, reason_answers}
 use Rattle.explain.proofs.Complete.{mag_stripe_answers, phase_answers}
-use Rattle.explain_claim.specs.Explained.{awaits_cryptogram, is_ended_with_reason_none, some_iac_appears}
+use Rattle.explain_claim.specs.Explained.{awaits_cryptogram}
 use Rattle.explain_claim.specs.Explained.{is_final_ac_answer_bringing_iac, last_call_is_final_ac_answer_bringing_iac}
 use Rattle.explain_claim.specs.Explained.{generate_ac_p1s, stores_when_generate_ac_sent}
 use Rattle.explain_claim.specs.Explained.{ExplanationTrueUnlessLastCallBringsIac}

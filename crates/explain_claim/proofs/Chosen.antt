@@ -46,7 +46,6 @@ use Rattle.session_claim.specs.Order.{begins_with_two_bytes}
 use Rattle.explain.specs.declared.ForcedChoiceCause.{ForcedChoiceCause}
 use Rattle.explain.specs.declared.DecidingStage.{DecidingStage}
 use Rattle.explain.specs.declared.Explanation.{Explanation}
-use Rattle.explain.specs.declared.ActionCodeHolder.{ActionCodeHolder}
 use Rattle.explain.specs.declared.Stage.{Stage}
 use Rattle.explain.specs.Explain.{stored_tvr, recomputed_choice, deciding_stage_by_denial_bit, deciding_stage_in}
 use Rattle.explain.specs.Explain.{deciding_stage_if_its_data_present, action_code_holder_of_bit, action_codes_of_stage}

@@ -26,7 +26,6 @@ use Rattle.dictionary.specs.Form.{is_compressed_numeric}
 use Rattle.dictionary.specs.TerminalType.{listed_terminal_type}
 use Rattle.store.specs.Place.{row_offset, row_place_bytes, value_in_place, row_value, put_row, object_value_in}
 use Rattle.store.specs.Place.{row_length_plus_one_or_zero}
-use Rattle.store.specs.Held.{stored_length_plus_one_or_zero}
 use Rattle.afl.specs.Entry.{valid_entry}
 use Rattle.afl.specs.Records.{afl_entries as entries_of, afl_length_is_multiple_of4, consecutive_records as run_of}
 use Rattle.afl.specs.Records.{records_of_entries, sum_over_entries, accepts_afl, record_at_index, kth_record_from_one}
@@ -66,12 +65,12 @@ use Rattle.start_data.specs.StartData.{is_listed_if_terminal_type, start_may_set
 use Rattle.start_data.specs.StartData.{load_start_bytes}
 use Rattle.session.specs.Steps.{read_response_then, store_with_tvr, store_with_findings}
 use Rattle.session.specs.Start.{request_gpo}
-use Rattle.session.specs.Answer.{next_after_gpo_read, next_on_gpo_response, gpo_reason, next_on_record_response}
+use Rattle.session.specs.Answer.{next_after_gpo_read, next_on_gpo_response, next_on_record_response}
 use Rattle.session.specs.Answer.{next_after_record_read, next_after_last_record, next_after_records_in_emv_mode}
 use Rattle.session.specs.Answer.{requested_cryptogram, request_cryptogram, outcome_for_cryptogram_type, cryptogram_ending}
 use Rattle.session.specs.Answer.{next_on_cryptogram_response}
 use Rattle.session_claim.specs.Calls.{commands_sent, calls_accepted, last_element}
-use Rattle.session.specs.Calls.{Call, start, answer, CallMade, play_calls, final_session}
+use Rattle.session.specs.Calls.{Call, start, answer, call_step, CallMade, play_calls, final_session}
 use Rattle.session_claim.proofs.Trace.{call_keeps}
 use Rattle.session_claim.proofs.InRanges.{play_in, final_in, play_in_lem, final_in_lem}
 use Rattle.explain.specs.declared.Stage.{Stage}
@@ -142,7 +141,7 @@ kept : (s : Session) → session_record_in_ranges s ≡ true → (cs : List Call
     ≡ true
 unfolding final_session
 kept s e [] = e
-kept s e (c ∷ cs) = kept _ (call_keeps s c e) cs
+kept s e (c ∷ cs) = kept (call_step s c).reply.session (call_keeps s c e) cs
 
 by_phase : (cs : List Call) → explanation_of (final_session fresh_session cs) ≡ explanation_in_phase
     (final_in fresh_session cs).phase (store_bytes (final_in fresh_session cs))

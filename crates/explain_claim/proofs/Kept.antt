@@ -2,14 +2,14 @@
 -- may not set, so the choice stays unless the answer brings an action code; and the choice that is requested is the one
 -- of the store that the analysis leaves.
 -- Assumes nothing.
-use mathlib.Core.Path.{◌≡◌, refl, sym, ap, ap₂, ◌∙◌}
+use mathlib.Core.Path.{◌≡◌, refl, sym, ap, ◌∙◌}
 use mathlib.Core.Bool.{Bool, true, false, not}
 use mathlib.Core.Logic.{inl, inr}
 use mathlib.Core.List.{List}
 use Prim.Native.Nat.{ℕ, ◌≤◌}
 use native.Mathlib.Omega.{arith}
 use lib.ListN.{length, get_or}
-use Rattle.basics.specs.Choice.{both, either}
+use Rattle.basics.specs.Choice.{either}
 use Rattle.basics.proofs.Laws.{bool_cases, both_true}
 use Rattle.dictionary.specs.Named.{row_tvr, row_iac_default, row_iac_denial, row_iac_online, row_cvm_results, row_terminal_type}
 use Rattle.dictionary.specs.Named.{row_kernel_configuration, row_tac_default, row_tac_denial, row_tac_online}
@@ -19,9 +19,9 @@ use Rattle.dictionary.specs.declared.RowFound.TheVariants.{At}
 use Rattle.dictionary.proofs.Fit.{fits_length}
 use Rattle.dictionary.proofs.Named.{at_95, at_9f0d, at_9f0e, at_9f0f, at_9f35, at_df811b, at_df8120, at_df8121}
 use Rattle.dictionary.proofs.Named.{at_df8122}
-use Rattle.store.specs.Place.{StoredValue, absent, present, bytes_or_empty_if_absent, is_present, row_value, object_value}
+use Rattle.store.specs.Place.{StoredValue, bytes_or_empty_if_absent, is_present, row_value, object_value}
 use Rattle.store.specs.Place.{put_row}
-use Rattle.store.specs.Held.{has_object, lacks_object, stored_bytes}
+use Rattle.store.specs.Held.{has_object, stored_bytes}
 use Rattle.store.proofs.Laws.{by_row, put_other}
 use Rattle.store.proofs.Rows.{fits_row}
 use Rattle.reading.specs.declared.Awaited.{Awaited}

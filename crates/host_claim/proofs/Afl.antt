@@ -16,7 +16,6 @@ use Rattle.session_record.specs.Session.{store_bytes, fresh_session}
 use Rattle.session.specs.Steps.{Step, step_of_effect, step_if_admitted, effect_if_running}
 use Rattle.session.specs.Answer.{gpo_reason, next_on_response, answer_step}
 use Rattle.session.proofs.Results.{is_command}
-use Rattle.layout.specs.Word.{result_word}
 use Rattle.session_claim.specs.Calls.{is_answer, calls_accepted}
 use Rattle.session.specs.Calls.{Call, start, answer, link_failed, stop, call_step, CallMade, call_made, play_calls}
 use Rattle.session.specs.Calls.{is_refusal, call_refused}

@@ -1,6 +1,5 @@
 -- The claim is proofs/Calls', for every list of calls.
 -- Assumes nothing.
-use borrow.Author.Rules.{rules}
 use Rattle.explain_claim.proofs.Chosen.{one_rank}
 use Rattle.explain_claim.proofs.Calls.{always}
 use Rattle.explain_claim.proofs.explanation_refused_word.Goals as goal
