@@ -50,7 +50,7 @@ use Rattle.step_laws.proofs.Refusals.{answer_goes, answer_idle, broken_goes, bro
 use Rattle.step_laws.proofs.Ways.{command_step, failed_step, load_most}
 use Rattle.cabinet.specs.State.{Cabinet, cabinet, greatest_twelve_digit_amount, cabinet_state_size, cabinet_written_over_front}
 use Rattle.cabinet.specs.State.{stored_amount_authorized, running_session_amount_or_zero, decoded_cabinet_if_valid}
-use Rattle.cabinet.specs.Calls.{CabinetResult, refused_amount_over_remaining, refused_cap_too_large, cabinet_refusal}
+use Rattle.cabinet.specs.Calls.{CabinetResult, refused_amount_over_remaining, refused_cap_too_large}
 use Rattle.cabinet.specs.Calls.{apply_to_cabinet_or_refuse, admit_cabinet_call, remaining_after_outcome}
 use Rattle.cabinet.specs.Calls.{cabinet_result_with_amounts_settled, kernel_step_on_cabinet, cabinet_start_if_amount_remains}
 use Rattle.cabinet.specs.Calls.{cabinet_start_by_result, start_on_cabinet, cabinet_open_word, cabinet_open_state}

@@ -1,9 +1,8 @@
 -- The words of the calls in C, computed; a session in bytes is read back by law, and its answer is the step of its
 -- phase by the laws of worked_examples. Assumes nothing.
 use mathlib.Core.Path.{◌≡◌, refl, ap, ◌∙◌}
-use mathlib.Core.Bool.{true}
 use mathlib.Core.List.{List, [], ◌∷◌}
-use mathlib.Core.Option.{Option, some}
+use mathlib.Core.Option.{Option}
 use Prim.Native.Nat.{ℕ}
 use lib.ListN.{length}
 use Rattle.basics.specs.Recursion.{recurse_with_fuel_from_length, recurse_with_fuel}
@@ -46,7 +45,6 @@ use Rattle.session.specs.Answer.{next_on_cryptogram_response}
 use Rattle.session_record.specs.declared.CallResult.{CallResult}
 use Rattle.session_record.specs.declared.Session.{Session}
 use Rattle.session_record.specs.Session.{fresh_session, store_bytes}
-use Rattle.session_record.specs.Ranges.{session_record_in_ranges}
 use Rattle.session_record.proofs.Phases.{fresh_keeps}
 use Rattle.layout.specs.Layout.{has_at_least_record_length_and_canonical_head, decoded_session}
 use Rattle.layout.specs.Word.{command_word, result_word}

@@ -1,8 +1,7 @@
 -- The words of the calls in C (docs/HOST.md): emv_open, emv_start, emv_answer, emv_count, emv_object, emv_explain,
 -- emv_find and emv_version.
 -- Assumes nothing.
-use Rattle.std.specs.Prelude.{◌≡◌, List, [], ◌∷◌, ◌++◌, map, ◌-◌, replicate}
-use Rattle.std.proofs.Math.Option.{some, none}
+use Rattle.std.specs.Prelude.{◌≡◌, [], ◌∷◌, ◌++◌, map, ◌-◌, replicate}
 use Rattle.basics.specs.Types.{Bytes, StoreBytes, Response, ResultWord}
 use Rattle.session_record.specs.declared.Outcome.{Outcome}
 use Rattle.session_record.specs.declared.Session.{Session}

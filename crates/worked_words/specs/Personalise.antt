@@ -1,7 +1,7 @@
 -- The words of emv_personalise (document 02, Item 4): the kind in bits 48 to 55, the AFL's length in bits 32 to 47, and
 -- in bits 0 to 31 the records' length, the number of the bad entry or that of the bad record.
 -- Assumes nothing.
-use Rattle.std.specs.Prelude.{◌≡◌, List, [], ◌∷◌, ◌++◌, ℕ, replicate}
+use Rattle.std.specs.Prelude.{◌≡◌, [], ◌∷◌, ℕ, replicate}
 use Rattle.basics.specs.Types.{Bytes, AflBytes, Length}
 use Rattle.personalise.specs.Outcome.{card_plan, personalise_result}
 use Rattle.personalise.specs.Word.{personalise_word}

@@ -1,11 +1,10 @@
 -- `test_journal::emv_test_journal` meets its contract: the checker follows the bytes up to the place that is reached.
 -- Assumes nothing.
-use borrow.Author.Rules.{rules}
 use native.Mathlib.Omega.{arith}
 use mathlib.Core.Path.{◌≡◌, sym, ap, subst, ◌∙◌}
 use mathlib.Core.List.{List, [], ◌++◌}
-use Prim.Native.Nat.{ℕ, ◌+◌, ◌-◌, ◌≤◌, ◌<◌}
-use lib.ListN.{length, take, drop, length-take}
+use Prim.Native.Nat.{ℕ, ◌+◌, ◌-◌, ◌<◌}
+use lib.ListN.{take, drop, length-take}
 use lib.Seq.{take_all, take-add}
 use Rattle.journal.specs.Inner.{CheckerWasFed}
 use Rattle.journal.specs.Verdict.{journal_verdict_of}
@@ -23,7 +22,6 @@ pub loop-at-init : goal.loop-at-init
 loop-at-init c =
     (c.least-at.ensures, c.feed-checker.ensures.follows [] c.begin.ensures.follows)
 
-
 pub loop-at-preserved : goal.loop-at-preserved
 loop-at-preserved c =
     let b = c.args.bytes.now in
@@ -34,7 +32,6 @@ loop-at-preserved c =
           (c.feed-checker-in-loop-at.ensures.follows (take lp.at b) lp.invariant.1),
     )
 
-
 pub returns : goal.returns
 returns c =
     let b = c.args.bytes.now in
@@ -43,4 +40,3 @@ returns c =
     ∙ ap verdict_word (c.finish-verdict.ensures.follows (take lp.at b) lp.invariant.1)
     ∙ ap (λ (s : List ℕ). verdict_word (journal_verdict_of s))
     (take_all lp.at b (omega (arith, c.loop-at-test.false)))
-

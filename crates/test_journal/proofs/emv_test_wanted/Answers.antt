@@ -1,7 +1,6 @@
 -- `test_journal::emv_test_wanted` meets its contract: the checker follows the bytes, and what is expected is
 -- copied whole.
 -- Assumes nothing.
-use borrow.Author.Rules.{rules}
 use mathlib.Core.Path.{subst, ◌∙◌}
 use mathlib.Core.List.{List, []}
 use Prim.Native.Nat.{ℕ}
@@ -16,4 +15,3 @@ returns c =
     c.begin.ensures.follows) in
     subst (λ (v : List ℕ). GivesBytesIfRoom c.put.result c.put.new.out v
     a.out.now) (c.front.ensures ∙ w) c.put.ensures
-

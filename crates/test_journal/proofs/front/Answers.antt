@@ -1,6 +1,5 @@
 -- `test_journal::front` meets its contract: a front that is longer than the bytes is all of them.
 -- Assumes nothing.
-use borrow.Author.Rules.{rules}
 use native.Mathlib.Omega.{arith}
 use mathlib.Core.Path.{sym}
 use lib.ListN.{length-take}
@@ -12,4 +11,3 @@ slice_bounds-result-end c = simp length-take (omega arith)
 
 pub returns : goal.returns
 returns c = let a = c.args in sym (take_all a.n a.s.now (omega (arith, c.if-n-s.false)))
-

@@ -1,6 +1,5 @@
 -- `test_journal::put` meets its contract: the copy is at the front of what was there.
 -- Assumes nothing.
-use borrow.Author.Rules.{rules}
 use borrow.Author.Tests.{lt-ltb, le-ltb}
 use native.Mathlib.Omega.{arith}
 use mathlib.Core.Path.{sym, ap, ◌∙◌}
@@ -14,7 +13,6 @@ use Rattle.test_journal.proofs.put.Goals as goal
 pub returns-then-out-s : goal.returns-then-out-s
 returns-then-out-s c = let f = lt-ltb _ _ c.if-out-s.true in record { size = sym (if_yes _ _ f); bytes = sym (if_yes _ _ f) }
 
-
 pub returns : goal.returns
 returns c =
     let a = c.args in
@@ -26,4 +24,3 @@ returns c =
       bytes = e.1 ∙ ap (λ (t : List ℕ). t ++ drop (length a.s.now) a.out.now) (take-length a.s.now) ∙ sym
           (if_no _ _ f);
     }
-
