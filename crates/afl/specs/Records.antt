@@ -3,7 +3,7 @@
 -- Assumes nothing.
 use Rattle.std.specs.Prelude.{Bool, List, [], ◌∷◌, ◌++◌, ℕ, zero, suc, ◌+◌, ◌%◌, length}
 use Rattle.basics.specs.Types.{AflBytes, Count, Reason, RecordNumber, SfiNumber}
-use Rattle.basics.specs.Choice.{if◌then◌else◌, ◌and◌, ◌=?◌, every}
+use Rattle.basics.specs.Choice.{when◌then◌else◌, ◌and◌, ◌=?◌, every}
 use Rattle.basics.specs.Reason.{reason_none, reason_afl_invalid}
 use Rattle.afl.specs.declared.AflEntry.{AflEntry}
 use Rattle.afl.specs.declared.CardRecord.{CardRecord}
@@ -59,7 +59,7 @@ accepts_afl s = afl_length_is_multiple_of4 s and every valid_entry (afl_entries 
 
 -- what a check of an AFL reports: R if it is accepted
 unfoldable pub afl_checked : AflBytes → AflCheck
-afl_checked s = if accepts_afl s then Accepted (record { records = afl_record_count s }) else Rejected
+afl_checked s = when accepts_afl s then Accepted (record { records = afl_record_count s }) else Rejected
 
 -- the number of a check's answer (document 01, "Calls and their numbers"): 0 where it gives no reason, else 5, an AFL
 -- that breaks its rules
@@ -80,4 +80,4 @@ kth_record_from_one (suc i) l = record_at_index i l
 
 -- the k-th record of an accepted AFL, k from 1 to R
 unfoldable pub kth_record_of_accepted_afl : AflBytes → RecordNumber → RecordFound
-kth_record_of_accepted_afl s k = if accepts_afl s then kth_record_from_one k (afl_records s) else Nothing
+kth_record_of_accepted_afl s k = when accepts_afl s then kth_record_from_one k (afl_records s) else Nothing

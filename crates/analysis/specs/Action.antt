@@ -10,7 +10,7 @@
 use Rattle.std.specs.Prelude.{◌≡◌, Bool, true, false, List, [], ◌∷◌}
 use Rattle.basics.specs.Types.{Amount, Byte, StoreBytes, Tag, TvrBytes}
 use Rattle.basics.specs.Alike.{bytes_equal}
-use Rattle.basics.specs.Choice.{if◌then◌else◌, ◌<?◌, ◌=?◌}
+use Rattle.basics.specs.Choice.{when◌then◌else◌, ◌<?◌, ◌=?◌}
 use Rattle.store.specs.Place.{StoredValue, absent, present, object_value}
 use Rattle.store.specs.Held.{stored_bytes, stored_byte}
 use Rattle.analysis.specs.Choice.{denial_stage, online_stage, default_stage, action_codes_at, terminal_action_analysis}
@@ -49,7 +49,7 @@ card_and_kernel_support_on_device_cvm store =
 -- on-device CVM, else DF8124
 unfoldable pub transaction_limit : StoreBytes → Amount
 transaction_limit store =
-    if card_and_kernel_support_on_device_cvm store then amount_of (stored_bytes store 0xDF8125)
+    when card_and_kernel_support_on_device_cvm store then amount_of (stored_bytes store 0xDF8125)
     else amount_of (stored_bytes store 0xDF8124)
 
 -- reason 6 (Book C-2, S456.14): the amount is above a limit; an equal one is not
@@ -107,7 +107,7 @@ cvm_conditions_in store =
 -- the CVM: with on-device CVM by the limit DF8126 alone, else by the AIP (82) and the CVM List (8E)
 unfoldable pub cvm_result_in : StoreBytes → CvmResult
 cvm_result_in store =
-    if card_and_kernel_support_on_device_cvm store then on_device_cvm_result_by_above_limit
+    when card_and_kernel_support_on_device_cvm store then on_device_cvm_result_by_above_limit
     (first_amount_is_above (stored_bytes store 0x9F02) (stored_bytes store 0xDF8126))
     else cvm_processing (stored_byte store 0x82 1) (object_value store 0x8E) (cvm_conditions_in store)
 

@@ -3,7 +3,7 @@
 -- Assumes nothing.
 use Rattle.std.specs.Prelude.{Bool, ℕ, ◌+◌, ◌-◌, ◌/◌, ◌%◌, ◌^◌, get_or}
 use Rattle.basics.specs.Types.{Byte, Value}
-use Rattle.basics.specs.Choice.{if◌then◌else◌}
+use Rattle.basics.specs.Choice.{when◌then◌else◌}
 use Rattle.basics.specs.Number.{has_bit_of_weight}
 
 -- bit b of a byte is set: b8 is the highest, b1 the lowest
@@ -12,7 +12,7 @@ byte_has_bit x b = has_bit_of_weight x (2 ^ (b - 1))
 
 -- what bit b adds to a byte where a test sets it
 abbrev pub bit_weight_if_set : ℕ → Bool → Byte
-bit_weight_if_set b set = if set then 2 ^ (b - 1) else 0
+bit_weight_if_set b set = when set then 2 ^ (b - 1) else 0
 
 -- bit b of byte n of a value is set: the first byte is byte 1; past the end no bit is set
 abbrev pub value_has_bit : Value → ℕ → ℕ → Bool

@@ -3,7 +3,7 @@
 -- Assumes nothing.
 use Rattle.std.specs.Prelude.{Bool, true, false, List, [], ◌∷◌, ℕ, zero, suc, ◌%◌, get_or}
 use Rattle.basics.specs.Types.{Byte, TvrBytes, Value}
-use Rattle.basics.specs.Choice.{if◌then◌else◌, ◌and◌, ◌or◌, ◌=?◌}
+use Rattle.basics.specs.Choice.{when◌then◌else◌, ◌and◌, ◌or◌, ◌=?◌}
 use Rattle.analysis.specs.Bits.{has_bit_counted_from_zero_at_byte1b8}
 use Rattle.analysis.specs.Digits.{is_one_of}
 use Rattle.store.specs.Place.{StoredValue, absent, present}
@@ -28,7 +28,7 @@ tvr_bit_is_in_either_action_code result pair i =
 -- the lowest of the n numbers from i on that passes a test
 unfoldable pub lowest_bit_from_start_within_count : (ℕ → Bool) → ℕ → ℕ → LowestBit
 lowest_bit_from_start_within_count f i zero = NoBit
-lowest_bit_from_start_within_count f i (suc n) = if f i then Bit i else lowest_bit_from_start_within_count f (suc i) n
+lowest_bit_from_start_within_count f i (suc n) = when f i then Bit i else lowest_bit_from_start_within_count f (suc i) n
 
 -- the lowest bit, 0 to 39, that a stage holds, or none
 unfoldable pub lowest_tvr_bit_in_codes : TvrBytes → ActionCodes → LowestBit
@@ -61,7 +61,7 @@ all_ones_action_code = 0xFF ∷ 0xFF ∷ 0xFF ∷ 0xFF ∷ 0xFF ∷ []
 -- the card's code for a stage: an absent one is zeros for denial and ones for the others (Book C-2's ones end in FC;
 -- document 01 decides)
 unfoldable pub iac_or_default : ℕ → StoredValue → Value
-iac_or_default stage absent = if stage =? denial_stage then all_zeros_action_code else all_ones_action_code
+iac_or_default stage absent = when stage =? denial_stage then all_zeros_action_code else all_ones_action_code
 iac_or_default stage (present s) = first_bytes_zero_padded 5 s
 
 -- the pair of a stage: the card's code, which may be absent, and the terminal's
@@ -83,9 +83,9 @@ some_tvr_bit_in_codes_of_stage result pairs stage = is_some_bit (lowest_tvr_bit_
 -- session has a type with another ending
 unfoldable pub online_capability_by_digit : ℕ → OnlineCapability
 online_capability_by_digit digit =
-    if is_one_of digit 1 4 then OnlineOnly
-    else if is_one_of digit 2 5 then OnlineCapable
-    else if is_one_of digit 3 6 then OfflineOnly
+    when is_one_of digit 1 4 then OnlineOnly
+    else when is_one_of digit 2 5 then OnlineCapable
+    else when is_one_of digit 3 6 then OfflineOnly
     else Unlisted
 
 -- the terminal's type is two digits in a byte: the last one decides
@@ -126,10 +126,10 @@ generate_ac_p1 Online = 0x80
 -- the same rule with P1 itself, case by case: `generate_ac_p1_for` is P1 of `terminal_action_analysis` (law `p1_is`)
 unfoldable pub generate_ac_p1_for : TvrBytes → Byte → List ActionCodes → Byte
 generate_ac_p1_for result kind pairs =
-    if some_tvr_bit_in_codes_of_stage result pairs denial_stage then 0x00
-    else if is_one_of (terminal_type_last_digit kind) 1 4 then 0x80
-    else if is_one_of (terminal_type_last_digit kind) 3 6 then (if some_tvr_bit_in_codes_of_stage result pairs default_stage
+    when some_tvr_bit_in_codes_of_stage result pairs denial_stage then 0x00
+    else when is_one_of (terminal_type_last_digit kind) 1 4 then 0x80
+    else when is_one_of (terminal_type_last_digit kind) 3 6 then (when some_tvr_bit_in_codes_of_stage result pairs default_stage
     then 0x00 else 0x40)
-    else if is_one_of (terminal_type_last_digit kind) 2 5 then (if some_tvr_bit_in_codes_of_stage result pairs online_stage
+    else when is_one_of (terminal_type_last_digit kind) 2 5 then (when some_tvr_bit_in_codes_of_stage result pairs online_stage
     then 0x80 else 0x40)
     else 0x00

@@ -4,7 +4,7 @@
 -- Assumes nothing.
 use Rattle.std.specs.Prelude.{Bool, true, false, not, List, [], ◌∷◌, ◌+◌, ◌%◌, drop}
 use Rattle.basics.specs.Types.{Amount, Byte, Bytes, CvmNumber, TvrBytes, Value}
-use Rattle.basics.specs.Choice.{if◌then◌else◌, ◌and◌, ◌or◌, ◌≤?◌, ◌<?◌, ◌=?◌}
+use Rattle.basics.specs.Choice.{when◌then◌else◌, ◌and◌, ◌or◌, ◌≤?◌, ◌<?◌, ◌=?◌}
 use Rattle.basics.specs.Number.{big_endian_number}
 use Rattle.store.specs.Place.{StoredValue, absent, present}
 use Rattle.analysis.specs.Bits.{byte_has_bit, bit_weight_if_set}
@@ -96,16 +96,16 @@ cvm_recognised code =
 -- PIN, b4 no CVM; of a combination both are needed; to fail is always supported
 unfoldable pub cvm_supported : Byte → Byte → Bool
 cvm_supported capabilities code =
-    if cvm_method_of code =? cvm_code_fail then true
-    else if cvm_method_of code =? cvm_code_plaintext_pin then byte_has_bit capabilities 8
-    else if cvm_method_of code =? cvm_code_online_pin then byte_has_bit capabilities 7
-    else if cvm_method_of code =? cvm_code_plaintext_pin_and_signature then byte_has_bit capabilities 8
+    when cvm_method_of code =? cvm_code_fail then true
+    else when cvm_method_of code =? cvm_code_plaintext_pin then byte_has_bit capabilities 8
+    else when cvm_method_of code =? cvm_code_online_pin then byte_has_bit capabilities 7
+    else when cvm_method_of code =? cvm_code_plaintext_pin_and_signature then byte_has_bit capabilities 8
     and byte_has_bit capabilities 6
-    else if cvm_method_of code =? cvm_code_enciphered_pin then byte_has_bit capabilities 5
-    else if cvm_method_of code =? cvm_code_enciphered_pin_and_signature then byte_has_bit capabilities 5
+    else when cvm_method_of code =? cvm_code_enciphered_pin then byte_has_bit capabilities 5
+    else when cvm_method_of code =? cvm_code_enciphered_pin_and_signature then byte_has_bit capabilities 5
     and byte_has_bit capabilities 6
-    else if cvm_method_of code =? cvm_code_signature then byte_has_bit capabilities 6
-    else if cvm_method_of code =? cvm_code_no_cvm then byte_has_bit capabilities 4
+    else when cvm_method_of code =? cvm_code_signature then byte_has_bit capabilities 6
+    else when cvm_method_of code =? cvm_code_no_cvm then byte_has_bit capabilities 4
     else false
 
 -- CVM.17: a supported CVM other than fail is taken
@@ -122,17 +122,17 @@ cvm_condition_always = 0
 -- over it
 unfoldable pub cvm_condition_met : CvmConditions → Byte → Byte → Bool
 cvm_condition_met t code condition =
-    if condition =? cvm_condition_always then true
-    else if condition =? 1 then t.cash and t.atm  -- unattended cash
-    else if condition =? 2 then not t.cash and not t.cashback  -- neither cash nor cashback
-    else if condition =? 3 then cvm_supported t.capabilities code  -- the terminal supports the CVM
-    else if condition =? 4 then t.cash and not t.atm  -- manual cash
-    else if condition =? 5 then t.cashback  -- purchase with cashback
-    else if not t.currency then false  -- the others are for amounts in the application's currency
-    else if condition =? 6 then t.amount <? t.x  -- under X
-    else if condition =? 7 then t.x <? t.amount  -- over X
-    else if condition =? 8 then t.amount <? t.y  -- under Y
-    else if condition =? 9 then t.y <? t.amount  -- over Y
+    when condition =? cvm_condition_always then true
+    else when condition =? 1 then t.cash and t.atm  -- unattended cash
+    else when condition =? 2 then not t.cash and not t.cashback  -- neither cash nor cashback
+    else when condition =? 3 then cvm_supported t.capabilities code  -- the terminal supports the CVM
+    else when condition =? 4 then t.cash and not t.atm  -- manual cash
+    else when condition =? 5 then t.cashback  -- purchase with cashback
+    else when not t.currency then false  -- the others are for amounts in the application's currency
+    else when condition =? 6 then t.amount <? t.x  -- under X
+    else when condition =? 7 then t.x <? t.amount  -- over X
+    else when condition =? 8 then t.amount <? t.y  -- under Y
+    else when condition =? 9 then t.y <? t.amount  -- over Y
     else false
 
 -- ---- what comes of it
@@ -163,9 +163,9 @@ cvm_result c d r bits m = record { code = c; condition = d; result = r; tvr1 = 0
 unfoldable pub cvm_result_of_supported : Byte → Byte → Bool → CvmResult
 cvm_result_of_supported code condition unrecognised =
     let bits : Bool → Byte = λ pin. tvr_byte3_failed_unrecognised_online_pin false unrecognised pin in
-    if cvm_method_of code =? cvm_code_online_pin then cvm_result code condition cvm_result_unknown (bits true) OnlinePin
-    else if cvm_method_of code =? cvm_code_signature then cvm_result code condition cvm_result_unknown (bits false) Signature
-    else if cvm_method_of code =? cvm_code_no_cvm then cvm_result code condition cvm_result_successful (bits false) NoCvm
+    when cvm_method_of code =? cvm_code_online_pin then cvm_result code condition cvm_result_unknown (bits true) OnlinePin
+    else when cvm_method_of code =? cvm_code_signature then cvm_result code condition cvm_result_unknown (bits false) Signature
+    else when cvm_method_of code =? cvm_code_no_cvm then cvm_result code condition cvm_result_successful (bits false) NoCvm
     else cvm_result code condition cvm_result_unknown (bits false) OfflinePin
 
 -- CVM.14 and CVM.25: no rule is left, or an unsuccessful one, other than fail, ends the list
@@ -177,7 +177,7 @@ cvm_result_no_rule_succeeded unrecognised =
 -- CVM.22 to CVM.25: fail keeps its code and condition
 unfoldable pub cvm_result_of_unsuccessful : Byte → Byte → Bool → CvmResult
 cvm_result_of_unsuccessful code condition unrecognised =
-    if cvm_method_of code =? cvm_code_fail then cvm_result code condition cvm_result_failed
+    when cvm_method_of code =? cvm_code_fail then cvm_result code condition cvm_result_failed
     (tvr_byte3_failed_unrecognised_online_pin true unrecognised false) NoCvm
     else cvm_result_no_rule_succeeded unrecognised
 
@@ -190,9 +190,9 @@ next_cvm_rule_applies code (r ∷ rs) = byte_has_bit code 7
 unfoldable pub cvm_result_by_rules : CvmConditions → Bool → List CvmRule → CvmResult
 cvm_result_by_rules t u [] = cvm_result_no_rule_succeeded u
 cvm_result_by_rules t u (r ∷ rs) =
-    if not (cvm_condition_met t r.code r.condition) then cvm_result_by_rules t u rs
-    else if cvm_supported_not_fail t.capabilities r.code then cvm_result_of_supported r.code r.condition u
-    else if next_cvm_rule_applies r.code rs then cvm_result_by_rules t (u or not (cvm_recognised r.code)) rs
+    when not (cvm_condition_met t r.code r.condition) then cvm_result_by_rules t u rs
+    else when cvm_supported_not_fail t.capabilities r.code then cvm_result_of_supported r.code r.condition u
+    else when next_cvm_rule_applies r.code rs then cvm_result_by_rules t (u or not (cvm_recognised r.code)) rs
     else cvm_result_of_unsuccessful r.code r.condition (u or not (cvm_recognised r.code))
 
 -- CVM.6 and CVM.8: no CVM, of which nothing is known; a list that is missing is byte 1 b6 of 95
@@ -216,7 +216,7 @@ cvm_result_by_list (present (b ∷ s)) t = cvm_result_by_rules t false (cvm_rule
 
 -- CVM.5: byte 1 b5 of the AIP (82) indicates whether verification is supported
 unfoldable pub cvm_processing : Byte → StoredValue → CvmConditions → CvmResult
-cvm_processing aip list t = if byte_has_bit aip 5 then cvm_result_by_list list t else cvm_result_not_performed false
+cvm_processing aip list t = when byte_has_bit aip 5 then cvm_result_by_list list t else cvm_result_not_performed false
 
 -- ---- with on-device CVM
 
@@ -228,7 +228,7 @@ aip_and_configuration_support_on_device_cvm aip configuration = byte_has_bit aip
 -- else there is no CVM; either is successful, and adds no bit to 95
 unfoldable pub on_device_cvm_result_by_above_limit : Bool → CvmResult
 on_device_cvm_result_by_above_limit above =
-    if above then cvm_result cvm_code_plaintext_pin cvm_condition_always cvm_result_successful 0 ConfirmationCode
+    when above then cvm_result cvm_code_plaintext_pin cvm_condition_always cvm_result_successful 0 ConfirmationCode
     else cvm_result cvm_code_not_performed cvm_condition_always cvm_result_successful 0 NoCvm
 
 -- ---- where it is stored

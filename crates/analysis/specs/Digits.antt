@@ -3,7 +3,7 @@
 -- Assumes nothing.
 use Rattle.std.specs.Prelude.{Bool, [], ◌∷◌, ℕ, ◌+◌, ◌*◌, drop}
 use Rattle.basics.specs.Types.{Amount, Bytes, Digits, Value}
-use Rattle.basics.specs.Choice.{if◌then◌else◌, ◌or◌, ◌<?◌, ◌=?◌}
+use Rattle.basics.specs.Choice.{when◌then◌else◌, ◌or◌, ◌<?◌, ◌=?◌}
 use Rattle.basics.specs.Number.{nibbles}
 use Rattle.analysis.specs.Value.{first_bytes_zero_padded}
 
@@ -26,7 +26,7 @@ date_year_two_digits s = bcd_number (first_bytes_zero_padded 1 s)
 
 -- the year of two digits: 00 to 49 are 2000 to 2049, 50 to 99 are 1950 to 1999
 unfoldable pub four_digit_year : ℕ → ℕ
-four_digit_year yy = if yy <? 50 then 2000 + yy else 1900 + yy
+four_digit_year yy = when yy <? 50 then 2000 + yy else 1900 + yy
 
 -- a date, three bytes YYMMDD, as a number of eight digits, YYYYMMDD; month and day are not checked
 unfoldable pub date_as_number : Value → ℕ

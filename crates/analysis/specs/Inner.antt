@@ -6,7 +6,7 @@
 -- Assumes nothing.
 use Rattle.std.specs.Prelude.{Bool, false, [], ◌∷◌, ℕ, ◌+◌, ◌-◌, ◌*◌, ◌/◌, ◌%◌, get_or}
 use Rattle.basics.specs.Types.{Byte, Bytes, Offset}
-use Rattle.basics.specs.Choice.{if◌then◌else◌, ◌and◌, ◌or◌, ◌<?◌, ◌=?◌}
+use Rattle.basics.specs.Choice.{when◌then◌else◌, ◌and◌, ◌or◌, ◌<?◌, ◌=?◌}
 use Rattle.analysis.specs.Bits.{byte_has_bit}
 use Rattle.analysis.specs.Choice.{denial_stage, online_stage, default_stage}
 use Rattle.analysis.specs.Digits.{bcd_number}
@@ -49,7 +49,7 @@ stage_consulted r stage = stage =? denial_stage or consulted_after_denial r stag
 
 -- what a bit held at a stage forces
 abbrev pub choice_forced_at_stage : ℕ → Choice
-choice_forced_at_stage stage = if stage =? online_stage then Online else Decline
+choice_forced_at_stage stage = when stage =? online_stage then Online else Decline
 
 -- what is requested where no stage that is consulted holds a bit
 abbrev pub choice_without_forcing_bit : OnlineCapability → Choice
@@ -63,8 +63,8 @@ choice_without_forcing_bit Unlisted = Decline
 -- the amount is under or over X or Y, by the code of the condition
 abbrev pub cvm_amount_condition_met : CvmConditions → Byte → Bool
 cvm_amount_condition_met t condition =
-    if condition =? 6 then t.amount <? t.x
-    else if condition =? 7 then t.x <? t.amount
-    else if condition =? 8 then t.amount <? t.y
-    else if condition =? 9 then t.y <? t.amount
+    when condition =? 6 then t.amount <? t.x
+    else when condition =? 7 then t.x <? t.amount
+    else when condition =? 8 then t.amount <? t.y
+    else when condition =? 9 then t.y <? t.amount
     else false

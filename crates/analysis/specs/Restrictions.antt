@@ -3,7 +3,7 @@
 -- Assumes nothing.
 use Rattle.std.specs.Prelude.{Bool, true, false, not, ◌+◌}
 use Rattle.basics.specs.Types.{Byte, Value}
-use Rattle.basics.specs.Choice.{if◌then◌else◌, ◌and◌, ◌or◌, ◌<?◌, ◌=?◌}
+use Rattle.basics.specs.Choice.{when◌then◌else◌, ◌and◌, ◌or◌, ◌<?◌, ◌=?◌}
 use Rattle.analysis.specs.Bits.{value_has_bit, bit_weight_if_set}
 use Rattle.analysis.specs.Digits.{is_one_of, first_date_is_later, amount_of}
 use Rattle.store.specs.Place.{StoredValue, absent, present}
@@ -35,7 +35,7 @@ is_atm_type_with_cash_capability kind (present capabilities) = is_atm_type kind 
 -- home where the issuer's country 5F28 is the terminal's 9F1A, else abroad; not given where 5F28 is absent
 unfoldable pub issuer_country_match : StoredValue → Value → IssuerCountryMatch
 issuer_country_match absent terminal = NotGiven
-issuer_country_match (present issuer) terminal = if bytes_equal issuer terminal then Home else Abroad
+issuer_country_match (present issuer) terminal = when bytes_equal issuer terminal then Home else Abroad
 
 -- cashback is requested: the other amount 9F03 is present and not zero
 unfoldable pub cashback_requested : StoredValue → Bool
@@ -50,18 +50,18 @@ requirement_by_country NotGiven home abroad = true
 
 -- the place: byte 1 b2 at an ATM, else b1
 unfoldable pub auc_allows_atm_or_non_atm : Value → Bool → Bool
-auc_allows_atm_or_non_atm usage atm = if atm then value_has_bit usage 1 2 else value_has_bit usage 1 1
+auc_allows_atm_or_non_atm usage atm = when atm then value_has_bit usage 1 2 else value_has_bit usage 1 1
 
 -- cash, transaction type 9C of 01 or 17: byte 1 b8 at home, b7 abroad
 unfoldable pub auc_allows_cash : Value → IssuerCountryMatch → Byte → Bool
 auc_allows_cash usage country transaction =
-    if is_one_of transaction 0x01 0x17 then requirement_by_country country (value_has_bit usage 1 8) (value_has_bit usage 1 7)
+    when is_one_of transaction 0x01 0x17 then requirement_by_country country (value_has_bit usage 1 8) (value_has_bit usage 1 7)
     else true
 
 -- goods or services, type of 00 or 09: byte 1 b6 or b4 at home, b5 or b3 abroad
 unfoldable pub auc_allows_goods_or_services : Value → IssuerCountryMatch → Byte → Bool
 auc_allows_goods_or_services usage country transaction =
-    if is_one_of transaction 0x00 0x09 then
+    when is_one_of transaction 0x00 0x09 then
     requirement_by_country country
     (value_has_bit usage 1 6 or value_has_bit usage 1 4) (value_has_bit usage 1 5 or value_has_bit usage 1 3)
     else true
@@ -69,7 +69,7 @@ auc_allows_goods_or_services usage country transaction =
 -- cashback: byte 2 b8 at home, b7 abroad
 unfoldable pub auc_allows_cashback : Value → IssuerCountryMatch → Bool → Bool
 auc_allows_cashback usage country asked =
-    if asked then requirement_by_country country (value_has_bit usage 2 8) (value_has_bit usage 2 7) else true
+    when asked then requirement_by_country country (value_has_bit usage 2 8) (value_has_bit usage 2 7) else true
 
 -- the application usage control 9F07 is present and something needed is not met
 unfoldable pub auc_violated : StoredValue → Bool → IssuerCountryMatch → Byte → Bool → Bool

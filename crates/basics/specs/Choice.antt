@@ -34,7 +34,7 @@ infixr 32 ◌or◌
 infix 40 ◌≤?◌
 infix 40 ◌<?◌
 infix 40 ◌=?◌
-infix 10 if◌then◌else◌
+infix 10 when◌then◌else◌
 abbrev pub ◌and◌ : Bool → Bool → Bool
 a and b = both a b
 
@@ -51,5 +51,5 @@ m <? n = ltb m n
 abbrev pub ◌=?◌ : ℕ → ℕ → Bool
 m =? n = eqb m n
 
-abbrev pub if◌then◌else◌ : {A : Type 0} → Bool → A → A → A
-if t then a else b = (if) t a b
+abbrev pub when◌then◌else◌ : {A : Type 0} → Bool → A → A → A
+when t then a else b = (if) t a b

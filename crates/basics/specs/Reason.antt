@@ -1,7 +1,7 @@
 -- The numbers of refusals and reasons (document 01, "Calls and their numbers").
 -- Assumes nothing.
 use Rattle.std.specs.Prelude.{Bool, ℕ}
-use Rattle.basics.specs.Choice.{if◌then◌else◌}
+use Rattle.basics.specs.Choice.{when◌then◌else◌}
 
 -- ---- refusals, by their numbers; they are checked in the order 22, 25, 21 and, of start bytes, 20, 23, 24
 
@@ -84,4 +84,4 @@ reason_no_supported_mode = 11
 
 -- the reason of a test that has to pass: none where it does
 abbrev pub reason_unless : Bool → ℕ → ℕ
-reason_unless t n = if t then reason_none else n
+reason_unless t n = when t then reason_none else n

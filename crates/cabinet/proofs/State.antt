@@ -12,7 +12,7 @@ use lib.Seq.{take_at, drop_at, drop-drop, length-take-le}
 use borrow.Author.Tests.{le-leb}
 use borrow.Rule.Slice.PartMut.{put_mid}
 use Rattle.basics.specs.Number.{big_endian_number}
-use Rattle.basics.specs.Choice.{if◌then◌else◌}
+use Rattle.basics.specs.Choice.{when◌then◌else◌}
 use Rattle.basics.proofs.Laws.{if_yes}
 use Rattle.dictionary.specs.Rows.{store_size}
 use Rattle.session_record.specs.declared.Session.{Session}
@@ -133,4 +133,4 @@ module _ (c : Cabinet) (l : List ℕ) (z : length (store_bytes c.session) ≡ st
       ∙ if_yes _ _ o
     where
       in_order : Cabinet → Option Cabinet
-      in_order d = if cabinet_session_and_amounts_valid d then some d else none
+      in_order d = when cabinet_session_and_amounts_valid d then some d else none

@@ -3,7 +3,7 @@
 -- Assumes nothing.
 use Rattle.std.specs.Prelude.{◌≡◌, ◌+◌, ◌-◌, length}
 use Rattle.std.proofs.Math.Option.{Option, some, none}
-use Rattle.basics.specs.Choice.{if◌then◌else◌, ◌<?◌}
+use Rattle.basics.specs.Choice.{when◌then◌else◌, ◌<?◌}
 use Rattle.basics.specs.Reason.{refusal_buffer_too_small, refusal_record_out_of_ranges}
 use Rattle.basics.specs.Types.{Bytes, Buffer, StartBytes, Response, Amount, RefusalNumber, ResultWord}
 use Rattle.session_record.specs.declared.CallResult.{CallResult}
@@ -55,7 +55,7 @@ apply_to_cabinet_or_refuse does l buf (some c) = does c
 
 unfoldable pub admit_cabinet_call : (Cabinet → CabinetResult) → Bytes → Buffer → CabinetResult
 admit_cabinet_call does l buf =
-    if length buf <? least_buffer then cabinet_refusal refusal_buffer_too_small l buf
+    when length buf <? least_buffer then cabinet_refusal refusal_buffer_too_small l buf
     else apply_to_cabinet_or_refuse does l buf (decoded_cabinet_if_valid l)
 
 -- ---- the cap
@@ -106,13 +106,13 @@ cabinet_stop l buf = admit_cabinet_call (kernel_step_on_cabinet stop_step l buf)
 
 -- the session that a start is made on: a fresh one after an end; a running one stays, and the kernel refuses it (21)
 unfoldable pub session_for_new_start : Session → Session
-session_for_new_start s = if is_ended s.phase then fresh_session else s
+session_for_new_start s = when is_ended s.phase then fresh_session else s
 
 -- the amount a of a start is reserved where what remains is no smaller, else 30; a start that ends its session
 -- (reason 7) gives it back at once
 unfoldable pub cabinet_start_if_amount_remains : Step → Amount → Amount → Bytes → Buffer → CabinetResult
 cabinet_start_if_amount_remains st a remaining l buf =
-    if remaining <? a then cabinet_refusal refused_amount_over_remaining l buf
+    when remaining <? a then cabinet_refusal refused_amount_over_remaining l buf
     else cabinet_result_with_amounts_settled st.reply.answer st (remaining - a) a l buf
 
 -- the amount that the start brought, in the store that it loaded
@@ -140,15 +140,15 @@ cabinet_start bytes l buf = admit_cabinet_call (start_on_cabinet bytes l buf) l 
 -- too few bytes (25), then a cap over the greatest amount (31); whatever the bytes hold
 unfoldable pub cabinet_open_word : Amount → Bytes → ResultWord
 cabinet_open_word cap l =
-    if length l <? cabinet_state_size then refusal_word refusal_record_out_of_ranges
-    else if greatest_twelve_digit_amount <? cap then refusal_word refused_cap_too_large
+    when length l <? cabinet_state_size then refusal_word refusal_record_out_of_ranges
+    else when greatest_twelve_digit_amount <? cap then refusal_word refused_cap_too_large
     else 0
 
 -- a fresh session, all of the cap remaining and nothing reserved; a refusal leaves the bytes
 unfoldable pub cabinet_open_state : Amount → Bytes → Bytes
 cabinet_open_state cap l =
-    if length l <? cabinet_state_size then l
-    else if greatest_twelve_digit_amount <? cap then l
+    when length l <? cabinet_state_size then l
+    else when greatest_twelve_digit_amount <? cap then l
     else cabinet_written_over_front (cabinet fresh_session cap 0) l
 
 -- the word w, and the bytes before and after

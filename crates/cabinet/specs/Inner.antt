@@ -4,7 +4,7 @@
 -- Assumes nothing.
 use Rattle.std.specs.Prelude.{◌++◌, length, take, drop}
 use Rattle.std.proofs.Math.Option.{Option, some, none}
-use Rattle.basics.specs.Choice.{if◌then◌else◌, ◌≤?◌, ◌<?◌}
+use Rattle.basics.specs.Choice.{when◌then◌else◌, ◌≤?◌, ◌<?◌}
 use Rattle.basics.specs.Reason.{refusal_buffer_too_small, refusal_record_out_of_ranges}
 use Rattle.basics.specs.Types.{Bytes, Buffer, StartBytes, Length, Amount, RefusalNumber}
 use Rattle.dictionary.specs.Rows.{store_size}
@@ -42,7 +42,7 @@ cabinet_admission_refused n = CabinetAdmission.Refused (refusal_word n)
 -- a cabinet whose amounts fit, whatever its session's ranges
 abbrev pub cabinet_admission_by_amounts_alone : Cabinet → CabinetAdmission
 cabinet_admission_by_amounts_alone c =
-    if reserved_matches_session_and_sum_in_range c then CabinetAdmission.Admitted (cabinet_without_store c)
+    when reserved_matches_session_and_sum_in_range c then CabinetAdmission.Admitted (cabinet_without_store c)
     else cabinet_admission_refused refusal_record_out_of_ranges
 
 abbrev pub cabinet_admission_for_session : Bytes → Option Session → CabinetAdmission
@@ -53,13 +53,13 @@ cabinet_admission_for_session l (some s) =
 -- what a state reports, or refusal 25
 unfoldable pub admission_by_state_bytes : Bytes → CabinetAdmission
 admission_by_state_bytes l =
-    if cabinet_state_size ≤? length l then cabinet_admission_for_session l (decoded_session l)
+    when cabinet_state_size ≤? length l then cabinet_admission_for_session l (decoded_session l)
     else cabinet_admission_refused refusal_record_out_of_ranges
 
 -- the buffer's size comes first
 unfoldable pub admission_by_state_and_buffer_size : Bytes → Length → CabinetAdmission
 admission_by_state_and_buffer_size l size =
-    if size <? least_buffer then cabinet_admission_refused refusal_buffer_too_small
+    when size <? least_buffer then cabinet_admission_refused refusal_buffer_too_small
     else admission_by_state_bytes l
 
 -- the cabinet of what a state reports, with the store that lies in the bytes
@@ -71,7 +71,7 @@ cabinet_with_store_in h l =
 -- what a call does on a cabinet whose amounts fit: 25 where its session is out of its ranges
 unfoldable pub cabinet_call_if_session_in_ranges : (Cabinet → CabinetResult) → Bytes → Buffer → Cabinet → CabinetResult
 cabinet_call_if_session_in_ranges does l buf c =
-    if session_record_in_ranges c.session then does c
+    when session_record_in_ranges c.session then does c
     else cabinet_refusal refusal_record_out_of_ranges l buf
 
 -- a start on a fresh session of its own

@@ -3,7 +3,7 @@
 -- Assumes nothing.
 use Rattle.std.specs.Prelude.{Bool, ◌++◌, ◌+◌, length, take, drop}
 use Rattle.std.proofs.Math.Option.{Option, some, none}
-use Rattle.basics.specs.Choice.{if◌then◌else◌, ◌and◌, ◌≤?◌, ◌=?◌}
+use Rattle.basics.specs.Choice.{when◌then◌else◌, ◌and◌, ◌≤?◌, ◌=?◌}
 use Rattle.basics.specs.Number.{big_endian_number}
 use Rattle.basics.specs.Types.{Bytes, StoreBytes, Length, Amount}
 use Rattle.store.specs.Held.{stored_bytes}
@@ -56,7 +56,7 @@ stored_amount_authorized b = amount_of (stored_bytes b 0x9F02)
 
 -- what has to be reserved in a phase, by the store: the running session's amount, 0 where none runs
 unfoldable pub running_session_amount_or_zero : Phase → StoreBytes → Amount
-running_session_amount_or_zero p b = if is_running p then stored_amount_authorized b else 0
+running_session_amount_or_zero p b = when is_running p then stored_amount_authorized b else 0
 
 -- what is reserved is what the phase requires, and with what remains it is at most the greatest amount
 unfoldable pub reserved_matches_session_and_sum_in_range : Cabinet → Bool
@@ -73,11 +73,11 @@ abbrev pub decoded_cabinet_of_session : Bytes → Option Session → Option Cabi
 decoded_cabinet_of_session l none = none
 decoded_cabinet_of_session l (some s) =
     let c = cabinet s (remaining_in_cabinet_state l) (reserved_in_cabinet_state l) in
-    if cabinet_session_and_amounts_valid c then some c else none
+    when cabinet_session_and_amounts_valid c then some c else none
 
 -- the cabinet that bytes hold; none where they are too few, hold no record, or hold one that is not in order: 25
 unfoldable pub decoded_cabinet_if_valid : Bytes → Option Cabinet
-decoded_cabinet_if_valid l = if cabinet_state_size ≤? length l then decoded_cabinet_of_session l (decoded_session l) else none
+decoded_cabinet_if_valid l = when cabinet_state_size ≤? length l then decoded_cabinet_of_session l (decoded_session l) else none
 
 -- ---- what holds of it, proved in proofs/State
 --   state-read    a cabinet in order that was written is read back

@@ -5,7 +5,7 @@
 use Rattle.std.specs.Prelude.{◌≡◌, Bool, true, not, List, [], ◌∷◌, ◌+◌, ◌/◌, ◌%◌, ◌≤◌}
 use Rattle.std.proofs.Math.Option.{some}
 use Rattle.basics.specs.Types.{Bytes, StartBytes, Response, Buffer, Amount, ResultWord}
-use Rattle.basics.specs.Choice.{if◌then◌else◌, ◌and◌, ◌=?◌, every}
+use Rattle.basics.specs.Choice.{when◌then◌else◌, ◌and◌, ◌=?◌, every}
 use Rattle.basics.specs.Reason.{refusal_record_out_of_ranges}
 use Rattle.analysis.specs.Digits.{amount_of}
 use Rattle.session_record.specs.declared.Outcome.{Outcome}
@@ -79,7 +79,7 @@ is_approved_word w = result_word_kind w =? word_kind_outcome and w / 256 % 256 =
 -- an approval adds the amount of the last accepted start
 abbrev pub account_with_amount_added_if_approved : ResultWord → Account → Account
 account_with_amount_added_if_approved w a =
-    if is_approved_word w then account a.cap a.amount (a.approved + a.amount)
+    when is_approved_word w then account a.cap a.amount (a.approved + a.amount)
     else a
 
 -- a call that was not refused
@@ -94,7 +94,7 @@ account_after_accepted_call a (stop buf) w = account_with_amount_added_if_approv
 -- one call; a refused one changes nothing
 unfoldable pub account_after_call : Account → CabinetCallMade → Account
 account_after_call a m =
-    if is_refused_word m.word then a
+    when is_refused_word m.word then a
     else account_after_accepted_call a m.call m.word
 
 -- the account after the calls of a list

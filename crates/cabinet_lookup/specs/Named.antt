@@ -3,7 +3,7 @@
 use Rattle.std.specs.Prelude.{◌≡◌, ◌++◌, ℕ, ◌+◌, ◌-◌, ◌<◌, length}
 use Rattle.std.specs.Borrow.{Bor}
 use Rattle.basics.specs.Types.{StartBytes, Tag, Value}
-use Rattle.basics.specs.Choice.{if◌then◌else◌, ◌=?◌}
+use Rattle.basics.specs.Choice.{when◌then◌else◌, ◌=?◌}
 use Rattle.cabinet_lookup.specs.Place.{lookup_span, span_bytes}
 use Rattle.cabinet_lookup.specs.Address.{address_after}
 use Rattle.cabinet_lookup.specs.Word.{source_site, lookup_source, lookup_word, lookup_word_start, lookup_word_source}
@@ -12,7 +12,7 @@ use Rattle.cabinet_lookup.specs.Word.{lookup_word_length}
 -- where the part begins: in the site's list at the start; else in the defaults, the site's bytes not counted
 abbrev pub address_from_word : ℕ → Bor StartBytes → Bor StartBytes → ℕ × ℕ
 address_from_word w site defaults =
-    if lookup_word_source w =? source_site then address_after (lookup_word_start w) site.ref_ptr
+    when lookup_word_source w =? source_site then address_after (lookup_word_start w) site.ref_ptr
     else address_after (lookup_word_start w - length site.now) defaults.ref_ptr
 
 -- source, start and length of a word are those of a part of the two lists

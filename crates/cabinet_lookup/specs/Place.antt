@@ -3,7 +3,7 @@
 -- Assumes nothing.
 use Rattle.std.specs.Prelude.{◌+◌, length, take, drop}
 use Rattle.basics.specs.Types.{Bytes, Length, Offset, StartBytes, Tag, Value}
-use Rattle.basics.specs.Choice.{if◌then◌else◌, ◌=?◌}
+use Rattle.basics.specs.Choice.{when◌then◌else◌, ◌=?◌}
 use Rattle.basics.specs.Recursion.{recurse_with_fuel_from_length}
 use Rattle.tlv.specs.declared.ObjectFront.{ObjectFront}
 use Rattle.tlv.specs.declared.ObjectFront.TheVariants as front
@@ -32,7 +32,7 @@ lookup_shifted n (At p) = At (lookup_span (n + p.start) p.len)
 abbrev pub lookup_at_front : Tag → (StartBytes → LookupFound) → StartBytes → ObjectFront → LookupFound
 lookup_at_front tag k s front.Broken = Absent
 lookup_at_front tag k s (front.Object h) =
-    if h.tag =? tag then At (lookup_span h.start h.len)
+    when h.tag =? tag then At (lookup_span h.start h.len)
     else lookup_shifted (h.start + h.len) (k (behind_object s h))
 
 -- one step, by what k finds in fewer bytes

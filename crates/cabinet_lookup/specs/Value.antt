@@ -3,7 +3,7 @@
 use Rattle.std.specs.Prelude.{List, [], ◌∷◌}
 use Rattle.std.proofs.Math.Option.{Option, some, none}
 use Rattle.basics.specs.Types.{StartBytes, Tag, Value}
-use Rattle.basics.specs.Choice.{if◌then◌else◌, ◌=?◌}
+use Rattle.basics.specs.Choice.{when◌then◌else◌, ◌=?◌}
 use Rattle.basics.specs.Recursion.{recurse_with_fuel_from_length}
 use Rattle.tlv.specs.declared.ObjectFront.{ObjectFront}
 use Rattle.tlv.specs.declared.ObjectFront.TheVariants as front
@@ -29,7 +29,7 @@ leading_primitive_objects s = recurse_with_fuel_from_length [] leading_primitive
 -- the value of the first object of the tag
 unfoldable pub first_value_of_tag : Tag → List Object → Option Value
 first_value_of_tag tag [] = none
-first_value_of_tag tag (o ∷ os) = if o.tag =? tag then some o.value else first_value_of_tag tag os
+first_value_of_tag tag (o ∷ os) = when o.tag =? tag then some o.value else first_value_of_tag tag os
 
 -- ---- two lists
 

@@ -3,7 +3,7 @@
 use Rattle.std.proofs.Math.Option.{Option, some, none}
 use Rattle.std.specs.Prelude.{ℕ, ◌+◌, ◌*◌, ◌/◌, ◌%◌, length}
 use Rattle.basics.specs.Types.{Length, Offset, StartBytes, Tag, Value}
-use Rattle.basics.specs.Choice.{if◌then◌else◌, ◌≤?◌}
+use Rattle.basics.specs.Choice.{when◌then◌else◌, ◌≤?◌}
 use Rattle.cabinet_lookup.specs.declared.LookupSpan.{LookupSpan}
 use Rattle.cabinet_lookup.specs.Value.{leading_primitive_objects, first_value_of_tag}
 use Rattle.cabinet_lookup.specs.Place.{span_in_site_then_defaults}
@@ -43,7 +43,7 @@ lookup_word_of_span source p = p.start * 0x100000000 + source * 0x10000 + p.len
 -- all ones where both lists together have 2^32 bytes or more
 unfoldable pub lookup_word : Tag → StartBytes → StartBytes → ℕ
 lookup_word tag site defaults =
-    if 0x100000000 ≤? length site + length defaults then 0xFFFFFFFFFFFFFFFF
+    when 0x100000000 ≤? length site + length defaults then 0xFFFFFFFFFFFFFFFF
     else lookup_word_of_span (lookup_source tag site defaults) (span_in_site_then_defaults tag site defaults)
 
 -- ---- the word as a host takes it apart

@@ -2,7 +2,7 @@
 -- Assumes nothing.
 use Rattle.std.specs.Prelude.{Bool, List, [], ◌∷◌, ◌++◌, ℕ, zero, suc, ◌+◌, ◌/◌, ◌%◌, length, get_or, take, drop}
 use Rattle.std.proofs.Math.Option.{Option, some, none}
-use Rattle.basics.specs.Choice.{if◌then◌else◌, ◌and◌, ◌or◌, ◌≤?◌, ◌=?◌}
+use Rattle.basics.specs.Choice.{when◌then◌else◌, ◌and◌, ◌or◌, ◌≤?◌, ◌=?◌}
 use Rattle.basics.specs.Number.{big_endian_number}
 use Rattle.basics.specs.Recursion.{recurse_with_fuel_from_length}
 use Rattle.basics.specs.Types.{Byte, Bytes, Buffer, Length, Offset}
@@ -73,9 +73,9 @@ begins_with_whole_call s =
 -- the call of a kind
 unfoldable pub call_of_kind : Byte → Bytes → Buffer → Call
 call_of_kind kind bytes buf =
-    if kind =? 1 then start bytes buf
-    else if kind =? 2 then answer bytes buf
-    else if kind =? 3 then link_failed buf
+    when kind =? 1 then start bytes buf
+    else when kind =? 2 then answer bytes buf
+    else when kind =? 3 then link_failed buf
     else stop buf
 
 -- the call that is at the front of s, by its header
@@ -95,7 +95,7 @@ abbrev pub parse_calls_step : (Bytes → Option (List Call)) → Bytes → Optio
 parse_calls_step k [] = some []
 parse_calls_step k (b ∷ s) =
     let h = call_header_in (b ∷ s) in
-    if begins_with_whole_call (b ∷ s) then prepend_call (call_by_header (b ∷ s) h) (k (drop (call_end_offset h) (b ∷ s)))
+    when begins_with_whole_call (b ∷ s) then prepend_call (call_by_header (b ∷ s) h) (k (drop (call_end_offset h) (b ∷ s)))
     else none
 
 -- the calls of some bytes, or none where they are no list of calls

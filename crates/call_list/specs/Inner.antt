@@ -5,7 +5,7 @@
 -- Assumes nothing.
 use Rattle.std.specs.Prelude.{◌≡◌, List, [], ◌++◌, ◌*◌, ◌≤◌, length, drop}
 use Rattle.std.proofs.Math.Option.{Option, some, none}
-use Rattle.basics.specs.Choice.{if◌then◌else◌}
+use Rattle.basics.specs.Choice.{when◌then◌else◌}
 use Rattle.basics.specs.Types.{Bytes}
 use Rattle.session_record.specs.declared.Session.{Session}
 use Rattle.session.specs.Steps.{Step}
@@ -20,7 +20,7 @@ use Rattle.call_list.specs.Playing.{reply_bytes, reply_size, call_bytes_with_buf
 -- the header of the call at the front, if it is whole
 unfoldable pub call_front_in : Bytes → CallFront
 call_front_in s =
-    if begins_with_whole_call s then CallFront.Call (call_header_in s)
+    when begins_with_whole_call s then CallFront.Call (call_header_in s)
     else CallFront.Malformed
 
 -- the call at the front, and what k reads of the bytes after it

@@ -2,7 +2,7 @@
 -- Assumes nothing.
 use Rattle.std.specs.Prelude.{◌≡◌, List, [], ◌∷◌, ◌++◌, ℕ, ◌*◌, ◌/◌, ◌%◌, length, take, drop}
 use Rattle.std.proofs.Math.Option.{Option, some, none}
-use Rattle.basics.specs.Choice.{if◌then◌else◌, ◌≤?◌}
+use Rattle.basics.specs.Choice.{when◌then◌else◌, ◌≤?◌}
 use Rattle.basics.specs.Types.{Bytes, Buffer, Length}
 use Rattle.session_record.specs.declared.Session.{Session}
 use Rattle.session_record.specs.declared.CallResult.{CallResult}
@@ -56,7 +56,7 @@ call_bytes_after_play s (m ∷ ms) =
 abbrev pub calls_if_room_for_replies : Option (List Call) → Bytes → List Call
 calls_if_room_for_replies none replies = []
 calls_if_room_for_replies (some cs) replies =
-    if reply_size * length cs ≤? length replies then cs
+    when reply_size * length cs ≤? length replies then cs
     else []
 
 -- what is reported, by its number: 0 played, 1 no list of calls, 2 too little room for the replies
@@ -69,7 +69,7 @@ play_result_number PlayResult.TooShort = 2
 abbrev pub play_result_of : Option (List Call) → Bytes → PlayResult
 play_result_of none replies = PlayResult.Malformed
 play_result_of (some cs) replies =
-    if reply_size * length cs ≤? length replies then PlayResult.Played
+    when reply_size * length cs ≤? length replies then PlayResult.Played
     else PlayResult.TooShort
 
 -- the calls cs are played on a fresh session: the session s at the end, and both slices

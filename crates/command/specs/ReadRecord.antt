@@ -3,7 +3,7 @@
 use Rattle.std.specs.Prelude.{[], ◌∷◌, ◌+◌, ◌*◌, length}
 use Rattle.std.proofs.Math.Option.{Option, some, none}
 use Rattle.basics.specs.Types.{Buffer, Byte, CommandBytes, Length}
-use Rattle.basics.specs.Choice.{if◌then◌else◌, ◌and◌, ◌≤?◌, ◌<?◌}
+use Rattle.basics.specs.Choice.{when◌then◌else◌, ◌and◌, ◌≤?◌, ◌<?◌}
 use Rattle.afl.specs.declared.CardRecord.{CardRecord}
 
 -- the class byte of the commands that all industries share, and the instruction byte of READ RECORD
@@ -19,7 +19,7 @@ read_record_command r = cla_interindustry ∷ ins_read_record ∷ r.number ∷ (
 
 -- the command where it can be written: its five bytes fit the buffer, and its file number fits five bits
 unfoldable pub read_record_command_if_fits : Buffer → CardRecord → Option CommandBytes
-read_record_command_if_fits buffer r = if 5 ≤? length buffer and r.sfi <? 32 then some (read_record_command r) else none
+read_record_command_if_fits buffer r = when 5 ≤? length buffer and r.sfi <? 32 then some (read_record_command r) else none
 
 -- the length that is returned: 0 where there is no command
 abbrev pub command_length_or_zero : Option CommandBytes → Length

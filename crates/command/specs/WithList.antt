@@ -4,7 +4,7 @@
 use Rattle.std.specs.Prelude.{[], ◌∷◌, ◌++◌, length}
 use Rattle.std.proofs.Math.Option.{Option, some, none}
 use Rattle.basics.specs.Types.{Buffer, Byte, Bytes, CommandBytes, DolBytes, Length, Reason, StoreBytes, Tag}
-use Rattle.basics.specs.Choice.{if◌then◌else◌, ◌≤?◌}
+use Rattle.basics.specs.Choice.{when◌then◌else◌, ◌≤?◌}
 use Rattle.basics.specs.Number.{between}
 use Rattle.basics.specs.Front.{written_over_front}
 use Rattle.basics.specs.Reason.{reason_none, reason_dol_broken_or_bad_length}
@@ -59,7 +59,7 @@ proprietary_command ins p1 p2 body = cla_proprietary ∷ ins ∷ p1 ∷ p2 ∷ l
 -- more than 255
 unfoldable pub command_if_data_is1_to255_bytes : (Bytes → CommandBytes) → Option Bytes → Option CommandBytes
 command_if_data_is1_to255_bytes command none = none
-command_if_data_is1_to255_bytes command (some v) = if between 1 (length v) most_command_data then some (command v) else none
+command_if_data_is1_to255_bytes command (some v) = when between 1 (length v) most_command_data then some (command v) else none
 
 -- a list filled from a store, and carried so
 abbrev pub command_with_dol : (Bytes → CommandBytes) → DolBytes → StoreBytes → Option CommandBytes
@@ -95,7 +95,7 @@ gpo_data_of_filled_pdol v = gpo_data_tag_and_length (length v) ++ v
 unfoldable pub gpo_command_of_filled : Option Bytes → Option CommandBytes
 gpo_command_of_filled none = none
 gpo_command_of_filled (some v) =
-    if length v ≤? most_filled_pdol_bytes then some (proprietary_command ins_gpo 0 0 (gpo_data_of_filled_pdol v)) else none
+    when length v ≤? most_filled_pdol_bytes then some (proprietary_command ins_gpo 0 0 (gpo_data_of_filled_pdol v)) else none
 
 -- with the PDOL (9F38); an absent one counts as empty
 unfoldable pub get_processing_options : StoreBytes → Option CommandBytes

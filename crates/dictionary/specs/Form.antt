@@ -1,7 +1,7 @@
 -- Does a value fit its row (document 01, "Dictionary"): the length in bytes, and the digits that its form requires.
 -- Assumes nothing.
 use Rattle.std.specs.Prelude.{Bool, true, [], ◌∷◌, ℕ, length}
-use Rattle.basics.specs.Choice.{if◌then◌else◌, ◌and◌, ◌≤?◌, ◌<?◌, ◌=?◌, every}
+use Rattle.basics.specs.Choice.{when◌then◌else◌, ◌and◌, ◌≤?◌, ◌<?◌, ◌=?◌, every}
 use Rattle.basics.specs.Number.{nibbles}
 use Rattle.basics.specs.Types.{Value, Digits}
 use Rattle.dictionary.specs.Rows.{Row, form_n, form_cn}
@@ -22,7 +22,7 @@ is_numeric v = every is_decimal_nibble (nibbles v)
 unfoldable pub is_digits_then_fs : Digits → Bool
 is_digits_then_fs [] = true
 is_digits_then_fs (d ∷ s) =
-    if is_decimal_nibble d then is_digits_then_fs s
+    when is_decimal_nibble d then is_digits_then_fs s
     else every is_nibble_f (d ∷ s)
 
 -- cn: any digits and then any Fs
@@ -32,8 +32,8 @@ is_compressed_numeric v = is_digits_then_fs (nibbles v)
 -- what the form requires of the digits; b requires nothing
 unfoldable pub digits_match_form : ℕ → Value → Bool
 digits_match_form form v =
-    if form =? form_n then is_numeric v
-    else if form =? form_cn then is_compressed_numeric v
+    when form =? form_n then is_numeric v
+    else when form =? form_cn then is_compressed_numeric v
     else true
 
 -- the length is in range and the digits fit

@@ -5,7 +5,7 @@
 -- ties `row_range_for_tag` to `find_row` and to `halving_search_result_in_part`.
 -- Assumes nothing.
 use Rattle.std.specs.Prelude.{Bool, [], ◌∷◌, suc, ◌/◌, ◌%◌}
-use Rattle.basics.specs.Choice.{if◌then◌else◌, ◌and◌, ◌<?◌, ◌=?◌, every}
+use Rattle.basics.specs.Choice.{when◌then◌else◌, ◌and◌, ◌<?◌, ◌=?◌, every}
 use Rattle.basics.specs.Types.{Byte, Bytes, Tag, Count, RowNumber}
 use Rattle.dictionary.specs.declared.RowRange.{RowRange}
 use Rattle.dictionary.specs.Rows.{row_count}
@@ -20,7 +20,7 @@ is_decimal_byte b = is_decimal_nibble (b / 16) and is_decimal_nibble (b % 16)
 unfoldable pub leading_decimal_bytes : Bytes → Count
 leading_decimal_bytes [] = 0
 leading_decimal_bytes (b ∷ v) =
-    if is_decimal_byte b then suc (leading_decimal_bytes v)
+    when is_decimal_byte b then suc (leading_decimal_bytes v)
     else 0
 
 -- every byte is FF
@@ -34,8 +34,8 @@ row_range from to = record { from = from; to = to }
 -- the rows of the part that a tag can be in (`search_part_number`, specs/Search)
 unfoldable pub row_range_for_tag : Tag → RowRange
 row_range_for_tag t =
-    if t <? 0x100 then row_range 0 first_row_of5f
-    else if t <? 0x9F00 then row_range first_row_of5f first_row_of9f
-    else if t <? 0xDF00 then row_range first_row_of9f first_row_of_df
-    else if t <? 0x10000 then row_range first_row_of_df first_row_of_three_byte_tags
+    when t <? 0x100 then row_range 0 first_row_of5f
+    else when t <? 0x9F00 then row_range first_row_of5f first_row_of9f
+    else when t <? 0xDF00 then row_range first_row_of9f first_row_of_df
+    else when t <? 0x10000 then row_range first_row_of_df first_row_of_three_byte_tags
     else row_range first_row_of_three_byte_tags row_count

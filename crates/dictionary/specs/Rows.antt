@@ -2,7 +2,7 @@
 -- its rows by number and by tag. specs/Row has what a row is, specs/AnnexA the rows; both are passed on here.
 -- Assumes nothing.
 use Rattle.std.specs.Prelude.{List, [], ◌∷◌, ◌+◌, get_or}
-use Rattle.basics.specs.Choice.{if◌then◌else◌, ◌=?◌}
+use Rattle.basics.specs.Choice.{when◌then◌else◌, ◌=?◌}
 use Rattle.basics.specs.Types.{Tag, Count, RowNumber}
 use Rattle.dictionary.specs.declared.RowFound.{RowFound}
 use Rattle.dictionary.specs.declared.RowFound.TheVariants.{At, Unknown}
@@ -52,7 +52,7 @@ row_found_shifted n (At k) = At (n + k)
 unfoldable pub find_row : List Row → Tag → RowFound
 find_row [] t = Unknown
 find_row (r ∷ rs) t =
-    if r.tag =? t then At 0
+    when r.tag =? t then At 0
     else row_found_shifted 1 (find_row rs t)
 
 -- the row that a lookup found, the first where it found none

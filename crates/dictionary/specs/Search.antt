@@ -6,7 +6,7 @@
 -- and the same bound on the probes (promises `found` and `few` of `find_row`; proofs/Part).
 -- Assumes nothing.
 use Rattle.std.specs.Prelude.{◌≡◌, Bool, true, List, [], ◌∷◌, map, ℕ, zero, suc, ◌+◌, ◌/◌, length, get_or}
-use Rattle.basics.specs.Choice.{if◌then◌else◌, ◌≤?◌, ◌<?◌, ◌=?◌, every}
+use Rattle.basics.specs.Choice.{when◌then◌else◌, ◌≤?◌, ◌<?◌, ◌=?◌, every}
 use Rattle.basics.specs.Types.{Tag, TagList, Count, RowNumber}
 use Rattle.dictionary.specs.declared.RowFound.{RowFound}
 use Rattle.dictionary.specs.declared.RowFound.TheVariants.{At, Unknown}
@@ -58,10 +58,10 @@ unfoldable pub halving_search_in : TagList → Tag → Count → SearchPart → 
 halving_search_in tags wanted zero p = search_miss
 halving_search_in tags wanted (suc turns) p =
     let tag = get_or tags (part_middle p) 0 in
-    if p.to ≤? p.from then search_miss
+    when p.to ≤? p.from then search_miss
     else prepend_probe (part_middle p)
-    (if tag =? wanted then search_hit (part_middle p)
-    else halving_search_in tags wanted turns (if tag <? wanted then part_after_middle p else part_before_middle p))
+    (when tag =? wanted then search_hit (part_middle p)
+    else halving_search_in tags wanted turns (when tag <? wanted then part_after_middle p else part_before_middle p))
 
 -- a search of all tags; an iteration for each of them is enough, since each iteration leaves fewer
 unfoldable pub halving_search : TagList → Tag → HalvingSearch
@@ -99,17 +99,17 @@ pub record ProbesCountedAndSufficient (tags : TagList) (wanted : Tag) (result : 
 -- before 9F, from 9F on and from DF on; three bytes
 unfoldable pub search_part_number : Tag → ℕ
 search_part_number tag =
-    if tag <? 0x100 then 0
-    else if tag <? 0x9F00 then 1
-    else if tag <? 0xDF00 then 2
-    else if tag <? 0x10000 then 3
+    when tag <? 0x100 then 0
+    else when tag <? 0x9F00 then 1
+    else when tag <? 0xDF00 then 2
+    else when tag <? 0x10000 then 3
     else 4
 
 -- the tags that pass a test, in their order
 unfoldable pub filter_tags : (Tag → Bool) → TagList → TagList
 filter_tags f [] = []
 filter_tags f (tag ∷ tags) =
-    if f tag then tag ∷ filter_tags f tags
+    when f tag then tag ∷ filter_tags f tags
     else filter_tags f tags
 
 -- the tags of the part that a wanted one can be in, and how many tags belong to a part before it

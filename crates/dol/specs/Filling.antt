@@ -4,7 +4,7 @@
 use Rattle.std.specs.Prelude.{List, [], ◌∷◌, ◌++◌, ℕ, ◌-◌, length, take, drop, replicate}
 use Rattle.std.proofs.Math.Option.{Option, some, none}
 use Rattle.basics.specs.Types.{Byte, Bytes, DolBytes, Length, StoreBytes, Value}
-use Rattle.basics.specs.Choice.{if◌then◌else◌, ◌≤?◌, ◌=?◌}
+use Rattle.basics.specs.Choice.{when◌then◌else◌, ◌≤?◌, ◌=?◌}
 use Rattle.tlv.specs.Tag.{is_template}
 use Rattle.dictionary.specs.Rows.{Row, row_in, find_row, form_n, form_cn}
 use Rattle.dictionary.specs.declared.RowFound.{RowFound}
@@ -19,21 +19,21 @@ zero_bytes n = replicate n 0
 
 -- a value too long for the k bytes requested: form n loses its leftmost bytes, any other its rightmost
 unfoldable pub truncated_to_length : ℕ → Length → Value → Bytes
-truncated_to_length form k v = if form =? form_n then drop (length v - k) v else take k v
+truncated_to_length form k v = when form =? form_n then drop (length v - k) v else take k v
 
 -- the byte that a value gains at its end: FF in form cn, else 00
 unfoldable pub padding_byte : ℕ → Byte
-padding_byte form = if form =? form_cn then 0xFF else 0
+padding_byte form = when form =? form_cn then 0xFF else 0
 
 -- a value too short for the k bytes requested: form n gains leading zeros, cn trailing FF, any other trailing zeros
 unfoldable pub padded_to_length : ℕ → Length → Value → Bytes
 padded_to_length form k v =
-    if form =? form_n then zero_bytes (k - length v) ++ v
+    when form =? form_n then zero_bytes (k - length v) ++ v
     else v ++ replicate (k - length v) (padding_byte form)
 
 -- a value as the k bytes requested
 unfoldable pub fitted_to_length : ℕ → Length → Value → Bytes
-fitted_to_length form k v = if k ≤? length v then truncated_to_length form k v else padded_to_length form k v
+fitted_to_length form k v = when k ≤? length v then truncated_to_length form k v else padded_to_length form k v
 
 -- an absent object gives zeros; one that is present and empty is a value
 abbrev pub dol_value_bytes : ℕ → Length → StoredValue → Bytes
@@ -48,7 +48,7 @@ dol_bytes_of_row_found table store k (At row) = dol_value_bytes (row_in table ro
 -- an entry's bytes: a template's tag gives zeros
 unfoldable pub dol_entry_bytes : List Row → StoreBytes → DolEntry → Bytes
 dol_entry_bytes table store e =
-    if is_template e.tag then zero_bytes e.asked
+    when is_template e.tag then zero_bytes e.asked
     else dol_bytes_of_row_found table store e.asked (find_row table e.tag)
 
 -- the entries' bytes, joined

@@ -4,7 +4,7 @@
 use Rattle.std.specs.Prelude.{List, ◌++◌, ◌+◌, ◌≤◌, length, take, drop}
 use Rattle.std.proofs.Math.Option.{Option, some, none}
 use Rattle.basics.specs.Types.{Buffer, Bytes, Length, Offset}
-use Rattle.basics.specs.Choice.{if◌then◌else◌, ◌≤?◌}
+use Rattle.basics.specs.Choice.{when◌then◌else◌, ◌≤?◌}
 use Rattle.dol.specs.declared.DolEntry.{DolEntry}
 use Rattle.dol.specs.declared.DolTotal.{DolTotal}
 use Rattle.dol.specs.declared.DolTotal.TheVariants.{Total, Unfit}
@@ -13,7 +13,7 @@ use Rattle.dol.specs.Entries.{dol_total_length}
 -- a list's total, where the list is whole and the total at most 255, which is all that a command can carry
 unfoldable pub dol_total_if_at_most255 : Option (List DolEntry) → DolTotal
 dol_total_if_at_most255 none = Unfit
-dol_total_if_at_most255 (some es) = if dol_total_length es ≤? 255 then Total (dol_total_length es) else Unfit
+dol_total_if_at_most255 (some es) = when dol_total_length es ≤? 255 then Total (dol_total_length es) else Unfit
 
 -- a list that is whole, and whose filling from place `at` on ends inside n bytes
 abbrev pub FilledDolFitsAt : Option (List DolEntry) → Offset → Length → Type 0

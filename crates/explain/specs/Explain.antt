@@ -5,7 +5,7 @@
 -- Assumes nothing.
 use Rattle.std.specs.Prelude.{Bool, true, false, not, [], ◌∷◌, ℕ, ◌/◌, get_or}
 use Rattle.std.proofs.Math.Option.{Option, some, none}
-use Rattle.basics.specs.Choice.{if◌then◌else◌, every, ◌and◌, ◌<?◌, ◌=?◌}
+use Rattle.basics.specs.Choice.{when◌then◌else◌, every, ◌and◌, ◌<?◌, ◌=?◌}
 use Rattle.basics.specs.Reason.{reason_none}
 use Rattle.basics.specs.Types.{StoreBytes, TvrBytes, TagList}
 use Rattle.store.specs.Held.{has_object, lacks_object, stored_bytes, stored_byte}
@@ -76,7 +76,7 @@ tags_needed_by_stage stage = 0x95 ∷ 0xDF8121 ∷ tac_tags_of_stage_after_denia
 abbrev pub stage_if_its_data_present : StoreBytes → DecidingStage → DecidingStage
 stage_if_its_data_present b DecidingStage.Nothing = DecidingStage.Nothing
 stage_if_its_data_present b (DecidingStage.At stage) =
-    if every (has_object b) (tags_needed_by_stage stage) then DecidingStage.At stage
+    when every (has_object b) (tags_needed_by_stage stage) then DecidingStage.At stage
     else DecidingStage.Nothing
 
 unfoldable pub deciding_stage_if_its_data_present : StoreBytes → DecidingStage
@@ -119,7 +119,7 @@ explanation_at_stage b stage =
 abbrev pub explanation_awaiting_cryptogram : RequestedCryptogram → StoreBytes → DecidingStage → Explanation
 explanation_awaiting_cryptogram a b DecidingStage.Nothing = Explanation.Refused
 explanation_awaiting_cryptogram a b (DecidingStage.At stage) =
-    if generate_ac_p1 a.choice =? generate_ac_p1 (recomputed_choice b) then explanation_at_stage b stage
+    when generate_ac_p1 a.choice =? generate_ac_p1 (recomputed_choice b) then explanation_at_stage b stage
     else Explanation.Refused
 
 -- ---- ended
@@ -129,8 +129,8 @@ explanation_awaiting_cryptogram a b (DecidingStage.At stage) =
 -- that the two agree is promised in explain_calls)
 unfoldable pub rank_of_cryptogram_type : ℕ → ℕ
 rank_of_cryptogram_type kind =
-    if kind =? 1 then 2
-    else if kind =? 2 then 1
+    when kind =? 1 then 2
+    else when kind =? 2 then 1
     else 0
 
 -- the type of the stored cryptogram, and of the one that a choice requests
@@ -152,16 +152,16 @@ explanation_of_decision e b DecidingStage.Nothing = Explanation.Refused
 explanation_of_decision e b (DecidingStage.At stage) =
     let kind = stored_cryptogram_type b in
     let choice = recomputed_choice b in
-    if lacks_object b 0x9F27 then Explanation.Refused
-    else if not (is_decision_outcome (outcome_for_cryptogram_type choice kind) e.outcome) then Explanation.Refused
-    else if rank_of_cryptogram_type kind <? rank_of_cryptogram_type (requested_cryptogram_type choice)
+    when lacks_object b 0x9F27 then Explanation.Refused
+    else when not (is_decision_outcome (outcome_for_cryptogram_type choice kind) e.outcome) then Explanation.Refused
+    else when rank_of_cryptogram_type kind <? rank_of_cryptogram_type (requested_cryptogram_type choice)
     then Explanation.LowerCryptogram
     else explanation_at_stage b stage
 
 -- a reason other than 0 is the answer itself
 unfoldable pub explanation_of_ending : Ending → StoreBytes → Explanation
 explanation_of_ending e b =
-    if e.reason =? reason_none then explanation_of_decision e b (deciding_stage_if_its_data_present b)
+    when e.reason =? reason_none then explanation_of_decision e b (deciding_stage_if_its_data_present b)
     else Explanation.Reason e.reason
 
 -- in mag-stripe mode no choice is made (document 02, Item 9). Here the card's side alone: 82 is present with byte 2 b8
@@ -173,7 +173,7 @@ aip_indicates_mag_stripe b = has_object b 0x82 and not (emv_mode b)
 -- ended so with reason 0, nothing else of the record is examined
 unfoldable pub explanation_of_ending_by_mode : Ending → StoreBytes → Explanation
 explanation_of_ending_by_mode e b =
-    if e.reason =? reason_none and aip_indicates_mag_stripe b then Explanation.NoChoice
+    when e.reason =? reason_none and aip_indicates_mag_stripe b then Explanation.NoChoice
     else explanation_of_ending e b
 
 -- ---- the answer
@@ -195,4 +195,4 @@ explanation_in_phase (Phase.Ended e) b = explanation_of_ending_by_mode e b
 -- a record that is out of its ranges is refused, and so is one that lacks what the answer needs, or whose choice or
 -- outcome the rest of it does not give (25)
 unfoldable pub explanation_of : Session → Explanation
-explanation_of s = if session_record_in_ranges s then explanation_in_phase s.phase (store_bytes s) else Explanation.Refused
+explanation_of s = when session_record_in_ranges s then explanation_in_phase s.phase (store_bytes s) else Explanation.Refused

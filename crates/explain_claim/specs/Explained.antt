@@ -7,7 +7,7 @@
 use Rattle.std.specs.Prelude.{◌≡◌, Bool, true, false, not, List, [], ◌∷◌, ◌++◌, map, ℕ, ◌≤◌, ◌<◌, get_or}
 use Rattle.std.proofs.Math.Option.{Option, some, none}
 use Rattle.basics.specs.Types.{StoreBytes, CommandBytes, Byte, Tag}
-use Rattle.basics.specs.Choice.{if◌then◌else◌, ◌and◌, ◌or◌, ◌=?◌}
+use Rattle.basics.specs.Choice.{when◌then◌else◌, ◌and◌, ◌or◌, ◌=?◌}
 use Rattle.basics.specs.Reason.{reason_none}
 use Rattle.store.specs.Held.{has_object, lacks_object}
 use Rattle.analysis.specs.Choice.{tvr_bit_is_in_either_action_code, generate_ac_p1}
@@ -74,7 +74,7 @@ last_call_is_final_ac_answer_bringing_iac (some m) = is_final_ac_answer_bringing
 unfoldable pub generate_ac_commands : List CommandBytes → List CommandBytes
 generate_ac_commands [] = []
 generate_ac_commands (c ∷ cs) =
-    if begins_with_two_bytes 0x80 0xAE c then c ∷ generate_ac_commands cs
+    when begins_with_two_bytes 0x80 0xAE c then c ∷ generate_ac_commands cs
     else generate_ac_commands cs
 
 -- the P1 of each, its third byte

@@ -3,7 +3,7 @@
 -- Assumes nothing.
 use Rattle.std.specs.Prelude.{Bool, zero, suc, ◌+◌, length}
 use Rattle.basics.specs.Types.{Bytes, Count, Length, Offset, Tag}
-use Rattle.basics.specs.Choice.{if◌then◌else◌, ◌≤?◌, ◌=?◌}
+use Rattle.basics.specs.Choice.{when◌then◌else◌, ◌≤?◌, ◌=?◌}
 use Rattle.basics.specs.Recursion.{recurse_with_fuel_from_length}
 use Rattle.tlv.specs.declared.TlvHeader.{TlvHeader}
 use Rattle.tlv.specs.declared.NextInTemplate.{NextInTemplate}
@@ -22,7 +22,7 @@ value_span a n = record { start = a; len = n }
 
 -- that value, where the tag is the one searched for
 abbrev pub found_if_tag_matches : Bool → Offset → Length → TagFound
-found_if_tag_matches same a n = if same then At (value_span a n) else Absent
+found_if_tag_matches same a n = when same then At (value_span a n) else Absent
 
 -- of two concatenated parts: what the first has, else what the second has; malformed where either is
 unfoldable pub first_found_unless_malformed : TagFound → TagFound → TagFound
@@ -52,7 +52,7 @@ found_with_one_level_less k (suc levels) = k levels
 -- what an object holds, by what k finds in its contents: in a primitive object nothing
 abbrev pub found_in_contents : (Bytes → Count → TagFound) → Bytes → Count → TlvHeader → TagFound
 found_in_contents k s levels h =
-    if h.template then found_shifted h.start (found_with_one_level_less (k (header_value s h)) levels)
+    when h.template then found_shifted h.start (found_with_one_level_less (k (header_value s h)) levels)
     else Absent
 
 -- what k finds after an object
@@ -77,7 +77,7 @@ find_tag_within_levels tag levels s = recurse_with_fuel_from_length (λ l. Malfo
 
 -- the same in a card's bytes: at most 65,535 of them, and four levels
 unfoldable pub find_tag : Tag → Bytes → TagFound
-find_tag tag bytes = if length bytes ≤? 65535 then find_tag_within_levels tag 4 bytes else Malformed
+find_tag tag bytes = when length bytes ≤? 65535 then find_tag_within_levels tag 4 bytes else Malformed
 
 -- ---- what holds of it, proved in proofs/ (Laws, InTree, Examples) for all bytes, levels and tags
 --   unroll         the search is one step over itself: the steps allowed do not matter

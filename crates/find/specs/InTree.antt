@@ -4,7 +4,7 @@
 use Rattle.std.specs.Prelude.{◌≡◌, ◌+◌, ◌≤◌, length, take, drop}
 use Rattle.std.proofs.Math.Option.{Option, some, none}
 use Rattle.basics.specs.Types.{Bytes, Tag, Value}
-use Rattle.basics.specs.Choice.{if◌then◌else◌, ◌≤?◌, ◌=?◌}
+use Rattle.basics.specs.Choice.{when◌then◌else◌, ◌≤?◌, ◌=?◌}
 use Rattle.tlv.specs.Tree.{Forest, end, leaf, node, parse_tree}
 use Rattle.find.specs.declared.ValueSpan.{ValueSpan}
 use Rattle.find.specs.declared.TagFound.{TagFound}
@@ -12,7 +12,7 @@ use Rattle.find.specs.declared.TagFound.TheVariants.{At, Absent, Malformed}
 
 -- the tree of a card's bytes: at most 65,535 of them, templates nested at most four levels deep
 abbrev pub tree_of_card_bytes : Bytes → Option Forest
-tree_of_card_bytes bytes = if length bytes ≤? 65535 then parse_tree 4 bytes else none
+tree_of_card_bytes bytes = when length bytes ≤? 65535 then parse_tree 4 bytes else none
 
 -- an object's value: the bytes of a primitive one, the objects that a template holds
 pub data TreeValue : Type 0 where
@@ -27,9 +27,9 @@ tree_value_or (some v) y = some v
 -- the value of the tree's first object of the tag, a template before what it holds
 unfoldable pub first_value_of_tag_in_tree : Tag → Forest → Option TreeValue
 first_value_of_tag_in_tree tag end = none
-first_value_of_tag_in_tree tag (leaf t v r) = if t =? tag then some (primitive v) else first_value_of_tag_in_tree tag r
+first_value_of_tag_in_tree tag (leaf t v r) = when t =? tag then some (primitive v) else first_value_of_tag_in_tree tag r
 first_value_of_tag_in_tree tag (node t f r) =
-    if t =? tag then some (template f)
+    when t =? tag then some (template f)
     else tree_value_or (first_value_of_tag_in_tree tag f) (first_value_of_tag_in_tree tag r)
 
 -- these bytes are that value: of a template, bytes that parse to what it holds

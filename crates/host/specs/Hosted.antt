@@ -3,7 +3,7 @@
 -- Assumes nothing.
 use Rattle.std.specs.Prelude.{◌≡◌, length}
 use Rattle.std.proofs.Math.Option.{Option, some, none}
-use Rattle.basics.specs.Choice.{if◌then◌else◌, ◌≤?◌, ◌<?◌}
+use Rattle.basics.specs.Choice.{when◌then◌else◌, ◌≤?◌, ◌<?◌}
 use Rattle.session_record.specs.declared.Session.{Session}
 use Rattle.basics.specs.Reason.{refusal_buffer_too_small, refusal_record_out_of_ranges}
 use Rattle.basics.specs.Types.{Bytes, Buffer, StartBytes, Response, Count, RefusalNumber, ResultWord}
@@ -52,7 +52,7 @@ host_step_or_refusal step l buf (some s) = host_result_of_step l (step s buf)
 -- the buffer's size (22), then the record (25), then the step
 unfoldable pub perform_host_call_if_admitted : (Session → Buffer → Step) → Bytes → Buffer → HostResult
 perform_host_call_if_admitted step l buf =
-    if length buf <? least_buffer then host_refusal refusal_buffer_too_small l buf
+    when length buf <? least_buffer then host_refusal refusal_buffer_too_small l buf
     else host_step_or_refusal step l buf (decoded_session l)
 
 -- the call start with the terminal's bytes, and the call answer with the card's
@@ -66,7 +66,7 @@ host_answer card l buf = perform_host_call_if_admitted (λ (s : Session) b. answ
 
 -- a fresh record is written: 0, or 25 where the bytes are too few
 abbrev pub host_open_word : Bytes → ResultWord
-host_open_word l = if session_record_size ≤? length l then 0 else refusal_word refusal_record_out_of_ranges
+host_open_word l = when session_record_size ≤? length l then 0 else refusal_word refusal_record_out_of_ranges
 
 -- the word, and the bytes before and after
 pub record HostOpened (returned_word : ResultWord) (session_bytes_before session_bytes_after : Bytes) : Type 0 where

@@ -2,7 +2,7 @@
 -- them. A reader of the rules can skip this: `over_refused` and `over-step` (proofs/Laws) tie it to
 -- `perform_host_call_if_admitted`. Assumes nothing.
 use Rattle.std.proofs.Math.Option.{Option, some, none}
-use Rattle.basics.specs.Choice.{if◌then◌else◌, ◌<?◌}
+use Rattle.basics.specs.Choice.{when◌then◌else◌, ◌<?◌}
 use Rattle.basics.specs.Reason.{refusal_buffer_too_small, refusal_record_out_of_ranges}
 use Rattle.basics.specs.Types.{Bytes, Length}
 use Rattle.session_record.specs.declared.Session.{Session}
@@ -19,5 +19,5 @@ admission_of_session (some s) = HostAdmission.Admitted (record { phase = s.phase
 -- a call is taken on the head of a record, or its refusal's word is given
 abbrev pub host_admission : Bytes → Length → HostAdmission
 host_admission l size =
-    if size <? least_buffer then HostAdmission.Refused (refusal_word refusal_buffer_too_small)
+    when size <? least_buffer then HostAdmission.Refused (refusal_word refusal_buffer_too_small)
     else admission_of_session (decoded_session l)

@@ -2,7 +2,7 @@
 -- Assumes nothing.
 use Rattle.std.specs.Prelude.{◌≡◌, Bool, true, false, not, ◌+◌, length}
 use Rattle.std.proofs.Math.Option.{Option, some, none}
-use Rattle.basics.specs.Choice.{if◌then◌else◌, ◌<?◌}
+use Rattle.basics.specs.Choice.{when◌then◌else◌, ◌<?◌}
 use Rattle.basics.specs.Front.{written_over_front}
 use Rattle.basics.specs.Reason.{refusal_record_out_of_ranges}
 use Rattle.basics.specs.Types.{Bytes, StoreBytes, Tag, Length, ResultWord}
@@ -56,16 +56,16 @@ row_is_found (RowFound.At k) = true
 -- one is present
 unfoldable pub object_copied_from_store : StoreBytes → Tag → Bytes → ObjectCopied
 object_copied_from_store b t l =
-    if not (row_is_found (find_row dictionary_rows t)) then nothing_copied tag_unknown_word l
-    else if lacks_object b t then nothing_copied object_absent_word l
-    else if length l <? length (stored_bytes b t) then nothing_copied (length_needed_word (length (stored_bytes b t))) l
+    when not (row_is_found (find_row dictionary_rows t)) then nothing_copied tag_unknown_word l
+    else when lacks_object b t then nothing_copied object_absent_word l
+    else when length l <? length (stored_bytes b t) then nothing_copied (length_needed_word (length (stored_bytes b t))) l
     else record { word = length (stored_bytes b t); buffer = written_over_front (stored_bytes b t) l }
 
 -- the same of a session, if there is one that is in its ranges
 unfoldable pub object_copied_from_session : Option Session → Tag → Bytes → ObjectCopied
 object_copied_from_session none t l = nothing_copied (refusal_word refusal_record_out_of_ranges) l
 object_copied_from_session (some s) t l =
-    if session_record_in_ranges s then object_copied_from_store (store_bytes s) t l
+    when session_record_in_ranges s then object_copied_from_store (store_bytes s) t l
     else nothing_copied (refusal_word refusal_record_out_of_ranges) l
 
 -- what holds of it, proved in proofs/Objects:

@@ -4,7 +4,7 @@
 use Rattle.std.specs.Prelude.{Bool, true, false, not, List, [], ◌∷◌, ◌++◌, take}
 use Rattle.std.proofs.Math.Option.{Option, some, none}
 use Rattle.basics.specs.Types.{Response, CommandBytes, AflBytes, ResultWord}
-use Rattle.basics.specs.Choice.{if◌then◌else◌, ◌and◌, ◌or◌, ◌=?◌}
+use Rattle.basics.specs.Choice.{when◌then◌else◌, ◌and◌, ◌or◌, ◌=?◌}
 use Rattle.basics.specs.Reason.{refusal_record_out_of_ranges}
 use Rattle.layout.specs.Word.{result_word_kind, word_kind_command, word_kind_outcome, word_kind_refusal, refusal_word}
 use Rattle.session_claim.specs.Calls.{is_answer}
@@ -48,8 +48,8 @@ has_accepted_opening (m ∷ ms) = is_accepted_opening m or has_accepted_opening 
 unfoldable pub calls_since_last_accepted_opening : List HostCallMade → List HostCallMade
 calls_since_last_accepted_opening [] = []
 calls_since_last_accepted_opening (m ∷ ms) =
-    if has_accepted_opening ms then calls_since_last_accepted_opening ms
-    else if is_accepted_opening m then ms
+    when has_accepted_opening ms then calls_since_last_accepted_opening ms
+    else when is_accepted_opening m then ms
     else m ∷ ms
 
 -- ---- what these calls handed out
@@ -57,7 +57,7 @@ calls_since_last_accepted_opening (m ∷ ms) =
 -- a command is the front of its call's buffer, of the length that the word says, as it is after the call
 abbrev pub command_handed_out_if_any : HostCallMade → List CommandBytes
 command_handed_out_if_any m =
-    if is_command_word m.word then take m.word m.buffer ∷ []
+    when is_command_word m.word then take m.word m.buffer ∷ []
     else []
 
 -- the commands handed out, in order
@@ -69,7 +69,7 @@ host_commands_handed_out (m ∷ ms) = command_handed_out_if_any m ++ host_comman
 unfoldable pub host_calls_not_refused : List HostCallMade → List HostCallMade
 host_calls_not_refused [] = []
 host_calls_not_refused (m ∷ ms) =
-    if is_refusal_word m.word then host_calls_not_refused ms
+    when is_refusal_word m.word then host_calls_not_refused ms
     else m ∷ host_calls_not_refused ms
 
 -- ---- unanswered: a command after which no answer that is not refused has come
@@ -88,7 +88,7 @@ has_answer_call (m ∷ ms) = is_answer_call m.call or has_answer_call ms
 unfoldable pub host_commands_with_no_later_answer : List HostCallMade → List CommandBytes
 host_commands_with_no_later_answer [] = []
 host_commands_with_no_later_answer (m ∷ ms) =
-    if has_answer_call ms then host_commands_with_no_later_answer ms
+    when has_answer_call ms then host_commands_with_no_later_answer ms
     else command_handed_out_if_any m ++ host_commands_with_no_later_answer ms
 
 -- refused calls answer nothing
@@ -101,7 +101,7 @@ host_unanswered_commands ms = host_commands_with_no_later_answer (host_calls_not
 unfoldable pub first_answer_call : List HostCallMade → Option HostCallMade
 first_answer_call [] = none
 first_answer_call (m ∷ ms) =
-    if is_answer_call m.call then some m
+    when is_answer_call m.call then some m
     else first_answer_call ms
 
 -- the card's bytes that a call brings; only an answer brings any
@@ -114,7 +114,7 @@ host_card_bytes (on_session c) = card_bytes c
 abbrev pub host_afl_accepted_from_gpo_answer : Option HostCallMade → Option AflBytes
 host_afl_accepted_from_gpo_answer none = none
 host_afl_accepted_from_gpo_answer (some m) =
-    if is_command_word m.word then afl_in_gpo_response (host_card_bytes m.call)
+    when is_command_word m.word then afl_in_gpo_response (host_card_bytes m.call)
     else none
 
 -- by the first answer not refused: the last command, by the AIP that it brings
@@ -127,8 +127,8 @@ host_final_command_kind_by_gpo_answer (some m) = final_command_kind_for_aip (aip
 -- by the word of a call that was not refused: it runs after a command, and has ended after an outcome
 abbrev pub stage_after_accepted_word : ResultWord → SessionStage
 stage_after_accepted_word w =
-    if is_command_word w then running
-    else if is_outcome_word w then ended
+    when is_command_word w then running
+    else when is_outcome_word w then ended
     else fresh
 
 -- by the last call not refused; it is fresh where there is none

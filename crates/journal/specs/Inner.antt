@@ -5,7 +5,7 @@
 use Rattle.std.specs.Prelude.{◌≡◌, Bool, true, false, not, [], ◌∷◌, ◌++◌, ◌+◌, length, take, drop, set, replicate}
 use Rattle.std.proofs.Math.Option.{Option, some, none}
 use Rattle.basics.specs.Types.{Bytes, JournalBytes, Buffer, Byte, Count}
-use Rattle.basics.specs.Choice.{if◌then◌else◌, ◌and◌, ◌or◌, ◌≤?◌, ◌<?◌, ◌=?◌}
+use Rattle.basics.specs.Choice.{when◌then◌else◌, ◌and◌, ◌or◌, ◌≤?◌, ◌<?◌, ◌=?◌}
 use Rattle.session_record.specs.declared.CallResult.{CallResult}
 use Rattle.session_record.specs.Numbers.{outcome_number}
 use Rattle.journal.specs.declared.JournalVerdict.{JournalVerdict}
@@ -87,13 +87,13 @@ checker_after_judging_record c h =
 -- a record is judged once it is whole; an unknown kind at once, as a record of no bytes
 unfoldable pub checker_judging_once_record_whole : JournalChecker → Bytes → JournalChecker
 checker_judging_once_record_whole c h =
-    if c.length + 1 <? first_record_size h then checker_holding_one_more_byte c h
+    when c.length + 1 <? first_record_size h then checker_holding_one_more_byte c h
     else checker_after_judging_record c h
 
 -- one more byte
 unfoldable pub checker_after_byte : JournalChecker → Byte → JournalChecker
 checker_after_byte c b =
-    if checker_conforming_within_bounds c then checker_judging_once_record_whole c (set c.held c.length b)
+    when checker_conforming_within_bounds c then checker_judging_once_record_whole c (set c.held c.length b)
     else c
 
 -- bytes one by one
@@ -110,20 +110,20 @@ CheckerWasFed c s = c ≡ checker_after_bytes new_checker s
 -- the number of the record that is held, after n others
 abbrev pub next_record_number_capped : Count → Count
 next_record_number_capped n =
-    if n <? most_records_checker_counts then n + 1
+    when n <? most_records_checker_counts then n + 1
     else n
 
 -- a mismatching record is named, a record that is held is truncated; else all were conforming
 unfoldable pub checker_verdict : JournalChecker → JournalVerdict
 checker_verdict c =
-    if not c.standing.conforming then JournalVerdict.Mismatch c.records
-    else if c.length =? 0 then JournalVerdict.Accepted c.records
+    when not c.standing.conforming then JournalVerdict.Mismatch c.records
+    else when c.length =? 0 then JournalVerdict.Accepted c.records
     else JournalVerdict.Truncated (next_record_number_capped c.records)
 
 -- what was expected where a record was a mismatch, of size 0 where none was
 unfoldable pub checker_expected_reply : JournalChecker → ExpectedReplyRecord
 checker_expected_reply c =
-    if c.standing.conforming or command_journal_record_size <? c.standing.size
+    when c.standing.conforming or command_journal_record_size <? c.standing.size
     then record { bytes = replicate command_journal_record_size 0; size = 0 }
     else record { bytes = c.standing.due; size = c.standing.size }
 

@@ -4,7 +4,7 @@
 use Rattle.std.specs.Prelude.{Bool, List, [], ◌∷◌, ◌++◌, ◌+◌, ◌-◌, ◌*◌, ◌/◌, ◌%◌, length, get_or, take, drop, replicate}
 use Rattle.std.proofs.Math.Option.{Option, some, none}
 use Rattle.basics.specs.Types.{Bytes, Response, Buffer, JournalBytes, Byte, Length}
-use Rattle.basics.specs.Choice.{if◌then◌else◌, ◌and◌, ◌≤?◌, ◌=?◌, every}
+use Rattle.basics.specs.Choice.{when◌then◌else◌, ◌and◌, ◌≤?◌, ◌=?◌, every}
 use Rattle.store.specs.Held.{is_zero_byte}
 use Rattle.session_record.specs.declared.CallResult.{CallResult}
 use Rattle.session_record.specs.Numbers.{outcome_number}
@@ -33,12 +33,12 @@ command_journal_record_size = 264
 -- the size of a record by its kind, the kind byte included; 0 for every other kind
 unfoldable pub journal_record_size : Byte → Length
 journal_record_size kind =
-    if kind =? 1 then start_journal_record_size
-    else if kind =? 2 then most_answer_bytes_in_journal_record + 3
-    else if kind =? 3 then 1
-    else if kind =? 4 then 1
-    else if kind =? 5 then command_journal_record_size
-    else if kind =? 6 then 3
+    when kind =? 1 then start_journal_record_size
+    else when kind =? 2 then most_answer_bytes_in_journal_record + 3
+    else when kind =? 3 then 1
+    else when kind =? 4 then 1
+    else when kind =? 5 then command_journal_record_size
+    else when kind =? 6 then 3
     else 0
 
 -- ---- written
@@ -58,7 +58,7 @@ length_then_padded_bytes n v = length_in_two_bytes (length v) ++ zero_padded n v
 -- a card answer of more than 258 bytes is written as length FF FF and a zero body
 abbrev pub answer_record_body : Response → Bytes
 answer_record_body card =
-    if length card ≤? most_answer_bytes_in_journal_record then length_then_padded_bytes most_answer_bytes_in_journal_record card
+    when length card ≤? most_answer_bytes_in_journal_record then length_then_padded_bytes most_answer_bytes_in_journal_record card
     else length_in_two_bytes 0xFFFF ++ zero_padded most_answer_bytes_in_journal_record []
 
 -- a call
@@ -79,7 +79,7 @@ journal_reply_record (CallResult.Refused r) buf = []
 unfoldable pub journal_records_of : List CallMade → List Bytes
 journal_records_of [] = []
 journal_records_of (m ∷ ms) =
-    if call_refused m then journal_records_of ms
+    when call_refused m then journal_records_of ms
     else journal_call_record m.call ∷ journal_reply_record (call_result m) m.step.buffer ∷ journal_records_of ms
 
 -- records concatenated
@@ -117,22 +117,22 @@ answer_of259_zero_bytes = replicate (most_answer_bytes_in_journal_record + 1) 0
 -- a start or an answer, where the record's length and body are in order
 abbrev pub start_call_from_record : Bytes → Option Call
 start_call_from_record r =
-    if journal_length_and_zero_padding_valid most_start_bytes_in_journal_record r
+    when journal_length_and_zero_padding_valid most_start_bytes_in_journal_record r
     then some (start (journal_record_data r) journal_command_buffer)
     else none
 
 abbrev pub answer_call_from_record : Bytes → Option Call
 answer_call_from_record r =
-    if is_too_long_answer_record r then some (answer answer_of259_zero_bytes journal_command_buffer)
-    else if journal_length_and_zero_padding_valid most_answer_bytes_in_journal_record r
+    when is_too_long_answer_record r then some (answer answer_of259_zero_bytes journal_command_buffer)
+    else when journal_length_and_zero_padding_valid most_answer_bytes_in_journal_record r
     then some (answer (journal_record_data r) journal_command_buffer)
     else none
 
 -- the call that a whole record stands for, if it stands for one
 unfoldable pub call_from_journal_record : Bytes → Option Call
 call_from_journal_record r =
-    if get_or r 0 0 =? 1 then start_call_from_record r
-    else if get_or r 0 0 =? 2 then answer_call_from_record r
-    else if get_or r 0 0 =? 3 then some (link_failed journal_command_buffer)
-    else if get_or r 0 0 =? 4 then some (stop journal_command_buffer)
+    when get_or r 0 0 =? 1 then start_call_from_record r
+    else when get_or r 0 0 =? 2 then answer_call_from_record r
+    else when get_or r 0 0 =? 3 then some (link_failed journal_command_buffer)
+    else when get_or r 0 0 =? 4 then some (stop journal_command_buffer)
     else none

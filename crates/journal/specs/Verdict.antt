@@ -4,7 +4,7 @@
 use Rattle.std.specs.Prelude.{[], ◌∷◌, zero, suc, ◌+◌, ◌-◌, length, get_or, take, drop}
 use Rattle.std.proofs.Math.Option.{Option, some, none}
 use Rattle.basics.specs.Types.{Bytes, JournalBytes, Length, Count}
-use Rattle.basics.specs.Choice.{if◌then◌else◌, ◌<?◌, ◌=?◌}
+use Rattle.basics.specs.Choice.{when◌then◌else◌, ◌<?◌, ◌=?◌}
 use Rattle.basics.specs.Alike.{bytes_equal}
 use Rattle.basics.specs.Recursion.{recurse_with_fuel_from_length}
 use Rattle.session_record.specs.declared.Session.{Session}
@@ -46,7 +46,7 @@ judge_call s (some c) =
 abbrev pub judge_record_by : Session → Bytes → Bytes → Option ExpectedNext
 judge_record_by s [] r = judge_call s (call_from_journal_record r)
 judge_record_by s (b ∷ d) r =
-    if bytes_equal r (b ∷ d) then some (expected_next_of_session_and_due_reply s [])
+    when bytes_equal r (b ∷ d) then some (expected_next_of_session_and_due_reply s [])
     else none
 
 abbrev pub judge_record : ExpectedNext → Bytes → Option ExpectedNext
@@ -68,8 +68,8 @@ if_conforming wrong k (some e) = k e
 abbrev pub verdict_step : (JournalBytes → VerdictContinuation) → JournalBytes → VerdictContinuation
 verdict_step k [] e n = JournalVerdict.Accepted n
 verdict_step k (b ∷ s) e n =
-    if journal_record_size b =? 0 then JournalVerdict.Mismatch (n + 1)
-    else if length (b ∷ s) <? journal_record_size b then JournalVerdict.Truncated (n + 1)
+    when journal_record_size b =? 0 then JournalVerdict.Mismatch (n + 1)
+    else when length (b ∷ s) <? journal_record_size b then JournalVerdict.Truncated (n + 1)
     else
     if_conforming (JournalVerdict.Mismatch (n + 1)) (λ t. k (drop (journal_record_size b) (b ∷ s)) t (n + 1))
     (judge_record e (take (journal_record_size b) (b ∷ s)))

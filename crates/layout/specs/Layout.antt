@@ -4,7 +4,7 @@
 use Rattle.std.specs.Prelude.{◌≡◌, Bool, List, [], ◌∷◌, ◌++◌, ℕ, zero, suc, ◌+◌, ◌/◌, ◌%◌, length, get_or, take, drop}
 use Rattle.std.proofs.Math.Option.{Option, some, none}
 use Rattle.basics.specs.Alike.{bytes_equal}
-use Rattle.basics.specs.Choice.{if◌then◌else◌, ◌and◌, ◌≤?◌, ◌=?◌}
+use Rattle.basics.specs.Choice.{when◌then◌else◌, ◌and◌, ◌≤?◌, ◌=?◌}
 use Rattle.basics.specs.Front.{written_over_front}
 use Rattle.basics.specs.Number.{big_endian_number}
 use Rattle.basics.specs.Types.{Byte, Bytes, StoreBytes, Length, Count, Amount, Reason, CvmNumber}
@@ -69,7 +69,7 @@ record_head_bytes c n = layout_version ∷ c.number ∷ c.datum ∷ c.reason ∷
 -- the first of some values with this number, else a last one
 unfoldable pub element_with_number : {A : Type 0} → (A → ℕ) → List A → A → ℕ → A
 element_with_number number [] last n = last
-element_with_number number (x ∷ xs) last n = if n =? number x then x else element_with_number number xs last n
+element_with_number number (x ∷ xs) last n = when n =? number x then x else element_with_number number xs last n
 
 -- the choice that a P1 requests, the CVM and the outcome of a number
 abbrev pub choice_of_p1 : Byte → Choice
@@ -85,17 +85,17 @@ outcome_of_number = element_with_number outcome_number (Approved ∷ OnlineReque
 -- the awaited response and the phase of a code
 unfoldable pub awaited_of_phase_fields : PhaseFields → AwaitedResponse
 awaited_of_phase_fields c =
-    if c.number =? 1 then AwaitedResponse.Gpo
-    else if c.number =? 2 then AwaitedResponse.Record (record { number = c.datum; limit = c.limit })
-    else if c.number =? 3 then
+    when c.number =? 1 then AwaitedResponse.Gpo
+    else when c.number =? 2 then AwaitedResponse.Record (record { number = c.datum; limit = c.limit })
+    else when c.number =? 3 then
     AwaitedResponse.Cryptogram
     (record { choice = choice_of_p1 c.datum; cvm = cvm_of_number c.cvm; limit = c.limit })
     else AwaitedResponse.Checksum (record { limit = c.limit })
 
 unfoldable pub phase_of_phase_fields : PhaseFields → Phase
 phase_of_phase_fields c =
-    if c.number =? 0 then Phase.Fresh
-    else if c.number =? 4 then Phase.Ended (ending_of (outcome_of_number c.datum) c.reason)
+    when c.number =? 0 then Phase.Fresh
+    else when c.number =? 4 then Phase.Ended (ending_of (outcome_of_number c.datum) c.reason)
     else Phase.Waiting (awaited_of_phase_fields c)
 
 -- ---- the record
@@ -107,13 +107,13 @@ encoded_session s = record_head_bytes (phase_fields_of s.phase) s.count ++ store
 -- the bytes l with a record at the front: those after it stay, and so do all where they are too few
 unfoldable pub session_written_over_front_if_room : Session → Bytes → Bytes
 session_written_over_front_if_room s l =
-    if session_record_size ≤? length l then encoded_session s ++ drop session_record_size l
+    when session_record_size ≤? length l then encoded_session s ++ drop session_record_size l
     else l
 
 -- the bytes l with a head at the front: those after it stay, and so do all where they are too few for a record
 unfoldable pub record_head_written_over_front_if_room : Phase → Count → Bytes → Bytes
 record_head_written_over_front_if_room p n l =
-    if session_record_size ≤? length l then written_over_front (record_head_bytes (phase_fields_of p) n) l
+    when session_record_size ≤? length l then written_over_front (record_head_bytes (phase_fields_of p) n) l
     else l
 
 -- the code, the phase and the count that a head has
@@ -135,7 +135,7 @@ has_at_least_record_length_and_canonical_head l =
 -- the session that bytes hold, with the store after the head; none where they hold no record
 unfoldable pub decoded_session : Bytes → Option Session
 decoded_session l =
-    if has_at_least_record_length_and_canonical_head l
+    when has_at_least_record_length_and_canonical_head l
     then some (session_of (phase_in_head l) (command_count_in_head l) (take store_size (drop record_head_size l)))
     else none
 

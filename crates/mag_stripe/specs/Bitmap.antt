@@ -3,7 +3,7 @@
 -- Assumes nothing.
 use Rattle.std.specs.Prelude.{Bool, List, [], ◌∷◌, ℕ, zero, suc, ◌+◌, ◌-◌, ◌*◌, ◌/◌, ◌%◌, length, get_or}
 use Rattle.basics.specs.Types.{Count, Value}
-use Rattle.basics.specs.Choice.{if◌then◌else◌, ◌and◌, ◌≤?◌, ◌=?◌, every}
+use Rattle.basics.specs.Choice.{when◌then◌else◌, ◌and◌, ◌≤?◌, ◌=?◌, every}
 use Rattle.mag_stripe.specs.declared.Bitmaps.{Bitmaps}
 use Rattle.mag_stripe.specs.Track.{discretionary_data_of}
 
@@ -20,7 +20,7 @@ bitmaps_of pcvc3 punatc natc =
 unfoldable pub bitmap_places_counted_from : ℕ → ℕ → ℕ → List ℕ
 bitmap_places_counted_from zero p bitmap = []
 bitmap_places_counted_from (suc bits) p bitmap =
-    if bitmap % 2 =? 1 then p ∷ bitmap_places_counted_from bits (p + 1) (bitmap / 2)
+    when bitmap % 2 =? 1 then p ∷ bitmap_places_counted_from bits (p + 1) (bitmap / 2)
     else bitmap_places_counted_from bits (p + 1) (bitmap / 2)
 
 -- the places that a bitmap of two bytes sets, lowest first

@@ -3,7 +3,7 @@
 use Rattle.std.specs.Prelude.{List, [], ◌∷◌, ◌++◌, ℕ, ◌+◌, ◌-◌, ◌*◌, ◌/◌, ◌%◌, take, drop, set}
 use Rattle.basics.specs.Types.{Digits, Offset, Value}
 use Rattle.basics.specs.Number.{nibbles}
-use Rattle.basics.specs.Choice.{if◌then◌else◌}
+use Rattle.basics.specs.Choice.{when◌then◌else◌}
 use Rattle.mag_stripe.specs.declared.Bitmaps.{Bitmaps}
 use Rattle.mag_stripe.specs.declared.DigitValues.{DigitValues}
 use Rattle.mag_stripe.specs.Track.{discretionary_data_of, packed_nibbles}
@@ -55,4 +55,4 @@ track_nibbles_with_digits t b v = placed_digits_written_before_end (discretionar
 
 -- the track with the digits in it; one that cannot take them stays
 unfoldable pub track_with_digits_if_possible : Value → Bitmaps → DigitValues → Value
-track_with_digits_if_possible t b v = if track_can_take_digits t b then packed_nibbles (track_nibbles_with_digits t b v) else t
+track_with_digits_if_possible t b v = when track_can_take_digits t b then packed_nibbles (track_nibbles_with_digits t b v) else t

@@ -3,7 +3,7 @@
 use Rattle.std.specs.Prelude.{◌≡◌, Bool, true, false, List, [], ◌∷◌, ℕ, zero, suc, ◌-◌, ◌/◌, ◌%◌, length, get_or}
 use Rattle.basics.specs.Types.{Count, Value}
 use Rattle.basics.specs.Number.{nibbles}
-use Rattle.basics.specs.Choice.{◌or◌, ◌=?◌, if◌then◌else◌}
+use Rattle.basics.specs.Choice.{◌or◌, ◌=?◌, when◌then◌else◌}
 use Rattle.mag_stripe.specs.declared.Bitmaps.{Bitmaps}
 use Rattle.mag_stripe.specs.Track.{discretionary_data_of, track_padding}
 use Rattle.mag_stripe.specs.Bitmap.{bitmap_places_from_one}
@@ -28,4 +28,4 @@ pub record OtherDigitsKept (bitmaps : Bitmaps) (track_before track_after : Value
 unfoldable pub none_of_lowest_nibbles_is_f : Count → ℕ → Bool
 none_of_lowest_nibbles_is_f zero number = true
 none_of_lowest_nibbles_is_f (suc n) number =
-    if number % 16 =? track_padding then false else none_of_lowest_nibbles_is_f n (number / 16)
+    when number % 16 =? track_padding then false else none_of_lowest_nibbles_is_f n (number / 16)

@@ -5,7 +5,7 @@
 use Rattle.std.specs.Prelude.{[], ◌∷◌, ℕ, suc, ◌+◌, ◌-◌, ◌*◌, drop}
 use Rattle.basics.specs.Types.{Bytes, Count, Digits, Value}
 use Rattle.basics.specs.Number.{nibbles}
-use Rattle.basics.specs.Choice.{if◌then◌else◌, ◌=?◌}
+use Rattle.basics.specs.Choice.{when◌then◌else◌, ◌=?◌}
 use Rattle.mag_stripe.specs.declared.DiscretionaryData.{DiscretionaryData}
 
 -- the field separator and the padding
@@ -18,7 +18,7 @@ track_padding = 0xF
 -- how many nibbles are before the first x, all of them where there is none
 unfoldable pub nibbles_before : ℕ → Digits → Count
 nibbles_before x [] = 0
-nibbles_before x (n ∷ s) = if n =? x then 0 else suc (nibbles_before x s)
+nibbles_before x (n ∷ s) = when n =? x then 0 else suc (nibbles_before x s)
 
 -- the discretionary data of a track's nibbles: where they end, which is the first F after the first D or the end of the
 -- track, and how many digits they have: those after the first seven, expiry date and service code

@@ -3,7 +3,7 @@
 -- Assumes nothing.
 use Rattle.std.specs.Prelude.{Bool, not, List, [], ◌∷◌, ◌++◌, ◌+◌, ◌%◌, length}
 use Rattle.basics.specs.Types.{AflBytes, Count}
-use Rattle.basics.specs.Choice.{if◌then◌else◌, ◌and◌, ◌≤?◌, ◌<?◌, ◌=?◌, every}
+use Rattle.basics.specs.Choice.{when◌then◌else◌, ◌and◌, ◌≤?◌, ◌<?◌, ◌=?◌, every}
 use Rattle.basics.specs.Number.{between}
 use Rattle.afl.specs.declared.AflEntry.{AflEntry}
 use Rattle.afl.specs.Entry.{entry_sfi, entry_record_count}
@@ -50,9 +50,9 @@ valid_entry_after_within_count_limits before e =
 -- the first bad one of some entries, after those before; at their end one that is truncated is bad (`whole` says that
 -- there is none), and so is the first where there is no entry
 unfoldable pub first_bad_or_truncated_entry_after : List AflEntry → List AflEntry → Bool → FirstBadItemNumber
-first_bad_or_truncated_entry_after before [] whole = if whole and 0 <? length before then Nothing else At (length before + 1)
+first_bad_or_truncated_entry_after before [] whole = when whole and 0 <? length before then Nothing else At (length before + 1)
 first_bad_or_truncated_entry_after before (e ∷ es) whole =
-    if valid_entry_after_within_count_limits before e then first_bad_or_truncated_entry_after (before ++ (e ∷ [])) es whole
+    when valid_entry_after_within_count_limits before e then first_bad_or_truncated_entry_after (before ++ (e ∷ [])) es whole
     else At (length before + 1)
 
 -- the first bad entry of an AFL

@@ -5,7 +5,7 @@
 use Rattle.std.specs.Prelude.{◌≡◌, Bool, true, false, not, List, [], ◌++◌, ℕ, ◌+◌, ◌≤◌, min, length, take, drop}
 use Rattle.std.proofs.Math.Option.{Option, some, none}
 use Rattle.basics.specs.Types.{Bytes, Count, Length, Offset, RecordNumber, Tag, Value}
-use Rattle.basics.specs.Choice.{if◌then◌else◌, ◌and◌, every}
+use Rattle.basics.specs.Choice.{when◌then◌else◌, ◌and◌, every}
 use Rattle.tlv.specs.Primitives.{Object, primitive_objects, are_primitive_objects_parsed}
 use Rattle.tlv.specs.Encoding.{tag_bytes, length_bytes, object_bytes}
 use Rattle.afl.specs.Records.{afl_record_count}
@@ -58,7 +58,7 @@ encoded_object_size t n = length (tag_bytes t) + (length (length_bytes n) + n)
 
 -- the same for object j in record k; 0 where it is not present
 abbrev pub encoded_size_if_placed_in_record : List Placement → RecordNumber → ObjectNumber → Tag → Length → Length
-encoded_size_if_placed_in_record ps k j t n = if any_placement (puts_object_into k j) ps then encoded_object_size t n else 0
+encoded_size_if_placed_in_record ps k j t n = when any_placement (puts_object_into k j) ps then encoded_object_size t n else 0
 
 -- ---- bytes
 
@@ -74,7 +74,7 @@ pub record WritesBytesAt (offset_after : Offset) (bytes_after bytes_before : Byt
 
 -- the bytes of an object in record k, none where it is not present
 abbrev pub object_bytes_if_placed_in_record : List Placement → RecordNumber → ObjectNumber → Tag → Value → Bytes
-object_bytes_if_placed_in_record ps k j t v = if any_placement (puts_object_into k j) ps then object_bytes t v else []
+object_bytes_if_placed_in_record ps k j t v = when any_placement (puts_object_into k j) ps then object_bytes t v else []
 
 -- the bytes of n records, and by the bytes of objects and placements
 abbrev pub concatenated_first_records : List Object → List Placement → Count → Bytes
@@ -110,4 +110,4 @@ result_from_entry_checks p = refuse_fault_or BadEntry (first_bad_entry p.entries
 
 -- after the buffers
 abbrev pub result_from_list_checks : CardPlan → PersonaliseResult
-result_from_list_checks p = if not (objects_valid_and_each_placed_once p) then BadList else result_from_entry_checks p
+result_from_list_checks p = when not (objects_valid_and_each_placed_once p) then BadList else result_from_entry_checks p

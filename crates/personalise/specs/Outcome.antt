@@ -3,7 +3,7 @@
 -- Assumes nothing.
 use Rattle.std.specs.Prelude.{Bool, not, List, ℕ, length}
 use Rattle.basics.specs.Types.{Bytes, AflBytes, Length}
-use Rattle.basics.specs.Choice.{if◌then◌else◌, ◌and◌, ◌<?◌, every}
+use Rattle.basics.specs.Choice.{when◌then◌else◌, ◌and◌, ◌<?◌, every}
 use Rattle.basics.specs.Front.{written_over_front}
 use Rattle.tlv.specs.Primitives.{Object, primitive_objects, are_primitive_objects_parsed}
 use Rattle.afl.specs.Records.{afl_record_count}
@@ -69,9 +69,9 @@ refuse_fault_or refusal Nothing next = next
 -- list, the entries and the records in this order, or how many bytes of records and of the AFL are written
 unfoldable pub personalise_result : CardPlan → Bytes → Bytes → PersonaliseResult
 personalise_result p r l =
-    if length r <? least_records_buffer_size then ShortRecords
-    else if length l <? least_afl_buffer_size then ShortAfl
-    else if not (objects_valid_and_each_placed_once p) then BadList
+    when length r <? least_records_buffer_size then ShortRecords
+    else when length l <? least_afl_buffer_size then ShortAfl
+    else when not (objects_valid_and_each_placed_once p) then BadList
     else refuse_fault_or BadEntry (first_bad_entry p.entries)
     (refuse_fault_or BadRecord (first_bad_record (objects_of_plan p) (placements_of_plan p) (afl_record_count p.entries))
     (Written (record { records = length (all_records_bytes p); afl = length p.entries })))
@@ -80,11 +80,11 @@ personalise_result p r l =
 
 -- the buffer r: the card's records at the front where all is written, else as it was
 abbrev pub records_buffer_after : Bool → CardPlan → Bytes → Bytes
-records_buffer_after written p r = if written then written_over_front (all_records_bytes p) r else r
+records_buffer_after written p r = when written then written_over_front (all_records_bytes p) r else r
 
 -- the buffer l: the entries at the front where all is written, else as it was
 abbrev pub afl_buffer_after : Bool → AflBytes → Bytes → Bytes
-afl_buffer_after written es l = if written then written_over_front es l else l
+afl_buffer_after written es l = when written then written_over_front es l else l
 
 -- ---- what holds of it, proved in proofs/ (Stages, Exact, Holding) for all bytes
 --   short-records, short-afl, bad-list, good-list    the answer at each test, in the order of the refusals

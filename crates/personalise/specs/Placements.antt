@@ -3,7 +3,7 @@
 -- Assumes nothing.
 use Rattle.std.specs.Prelude.{Bool, true, false, List, [], ◌∷◌, ℕ, suc}
 use Rattle.basics.specs.Types.{Bytes, Count, RecordNumber}
-use Rattle.basics.specs.Choice.{if◌then◌else◌, ◌and◌, ◌or◌, ◌=?◌}
+use Rattle.basics.specs.Choice.{when◌then◌else◌, ◌and◌, ◌or◌, ◌=?◌}
 use Rattle.tlv.specs.Primitives.{Object}
 use Rattle.personalise.specs.declared.Placement.{Placement}
 
@@ -24,7 +24,7 @@ placements_in (r ∷ o ∷ s) = placement r o ∷ placements_in s
 -- how many placements pass a test
 unfoldable pub count_placements_where : (Placement → Bool) → List Placement → Count
 count_placements_where f [] = 0
-count_placements_where f (p ∷ ps) = if f p then suc (count_placements_where f ps) else count_placements_where f ps
+count_placements_where f (p ∷ ps) = when f p then suc (count_placements_where f ps) else count_placements_where f ps
 
 -- some placement passes a test
 unfoldable pub any_placement : (Placement → Bool) → List Placement → Bool
@@ -48,5 +48,5 @@ each_placed_once ps j (o ∷ os) = count_placements_where (places_object_number 
 unfoldable pub objects_in_record_from : List Placement → RecordNumber → ObjectNumber → List Object → List Object
 objects_in_record_from ps k j [] = []
 objects_in_record_from ps k j (o ∷ os) =
-    if any_placement (puts_object_into k j) ps then o ∷ objects_in_record_from ps k (suc j) os
+    when any_placement (puts_object_into k j) ps then o ∷ objects_in_record_from ps k (suc j) os
     else objects_in_record_from ps k (suc j) os

@@ -4,7 +4,7 @@
 use Rattle.std.specs.Prelude.{◌≡◌, true, List, [], ◌∷◌, ◌++◌, take, replicate}
 use Rattle.std.proofs.Math.Option.{Option, some, none}
 use Rattle.basics.specs.Types.{Bytes, StoreBytes}
-use Rattle.basics.specs.Choice.{if◌then◌else◌, ◌=?◌}
+use Rattle.basics.specs.Choice.{when◌then◌else◌, ◌=?◌}
 use Rattle.basics.specs.Reason.{reason_none}
 use Rattle.tlv.specs.Primitives.{Object}
 use Rattle.dictionary.specs.Rows.{dictionary_rows, store_size}
@@ -41,7 +41,7 @@ read_record_with9000 b r s = read_answer (Awaited.Record (record { number = r.sf
 
 -- what k reads on, in the store that a reading with reason 0 leaves
 abbrev pub read_on_if_accepted : ReadingOutcome → (StoreBytes → Option StoreBytes) → Option StoreBytes
-read_on_if_accepted o k = if o.reason =? reason_none then k o.store else none
+read_on_if_accepted o k = when o.reason =? reason_none then k o.store else none
 
 -- the store after reading records one by one; none where a reading gives a reason, or where there are not as many
 -- records as bytes of records

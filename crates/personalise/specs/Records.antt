@@ -2,7 +2,7 @@
 -- Assumes nothing.
 use Rattle.std.specs.Prelude.{Bool, not, List, [], ◌∷◌, ◌++◌, ℕ, zero, suc, length}
 use Rattle.basics.specs.Types.{Bytes, Count, Length, RecordNumber}
-use Rattle.basics.specs.Choice.{if◌then◌else◌, ◌and◌, ◌or◌, ◌<?◌, ◌=?◌}
+use Rattle.basics.specs.Choice.{when◌then◌else◌, ◌and◌, ◌or◌, ◌<?◌, ◌=?◌}
 use Rattle.basics.specs.Number.{between}
 use Rattle.tlv.specs.Primitives.{Object}
 use Rattle.tlv.specs.Encoding.{object_bytes}
@@ -56,7 +56,7 @@ has_bad_placement_or_over253_bytes os ps n k =
 -- the first of m numbers from k on that passes a test
 unfoldable pub first_bad_number_from : (ℕ → Bool) → ℕ → Count → FirstBadItemNumber
 first_bad_number_from f k zero = Nothing
-first_bad_number_from f k (suc m) = if f k then At k else first_bad_number_from f (suc k) m
+first_bad_number_from f k (suc m) = when f k then At k else first_bad_number_from f (suc k) m
 
 -- the least bad record, of n: a placement's record is a byte, and n is at most 128
 unfoldable pub first_bad_record : List Object → List Placement → Count → FirstBadItemNumber

@@ -3,7 +3,7 @@
 -- Assumes nothing.
 use Rattle.std.specs.Prelude.{◌≡◌, Bool, true, List, [], ◌∷◌, ℕ, ◌+◌, ◌-◌, ◌%◌, length, get_or, take, drop}
 use Rattle.std.proofs.Math.Option.{Option, some, none}
-use Rattle.basics.specs.Choice.{if◌then◌else◌, ◌and◌, ◌≤?◌, ◌=?◌}
+use Rattle.basics.specs.Choice.{when◌then◌else◌, ◌and◌, ◌≤?◌, ◌=?◌}
 use Rattle.basics.specs.Number.{between}
 use Rattle.basics.specs.Types.{Bytes, StoreBytes, Value, Response, Tag, Length, Count, Reason}
 use Rattle.basics.specs.Reason.{reason_none, reason_status_not9000, reason_malformed, reason_object_not_allowed}
@@ -62,8 +62,8 @@ template_body t (some f) = some (template t f)
 abbrev pub body_of_one_object : Bytes → ObjectFront → Option ResponseBody
 body_of_one_object s Broken = none
 body_of_one_object s (Object h) =
-    if h.start + h.len =? length s then
-    if h.template then template_body h.tag (parse_tree 3 (header_value s h))
+    when h.start + h.len =? length s then
+    when h.template then template_body h.tag (parse_tree 3 (header_value s h))
     else some (primitive h.tag (header_value s h))
     else none
 
@@ -110,7 +110,7 @@ most_generate_ac_length_under80 = 43
 -- directly around them
 unfoldable pub gpo_items_under80 : Value → Option (List PrimitiveItem)
 gpo_items_under80 v =
-    if between least_gpo_length_under80 (length v) most_gpo_length_under80 and (length v - 2) % 4 =? 0 then
+    when between least_gpo_length_under80 (length v) most_gpo_length_under80 and (length v - 2) % 4 =? 0 then
     some (primitive_item 0x77 0x82 (take 2 v) ∷ primitive_item 0x77 0x94 (drop 2 v) ∷ [])
     else none
 
@@ -122,7 +122,7 @@ iad_item_if_any (a ∷ v) = primitive_item 0x77 0x9F10 (a ∷ v) ∷ []
 -- under 80, cryptogram: 9F27, 9F36, 9F26, and 9F10 if any bytes are left; 11 to 43 in all; taken the same way
 unfoldable pub cryptogram_items_under80 : Value → Option (List PrimitiveItem)
 cryptogram_items_under80 v =
-    if between least_generate_ac_length_under80 (length v) most_generate_ac_length_under80 then
+    when between least_generate_ac_length_under80 (length v) most_generate_ac_length_under80 then
     some
     (primitive_item 0x77 0x9F27 (take 1 v) ∷
     primitive_item 0x77 0x9F36 (take 2 (drop 1 v)) ∷
@@ -134,18 +134,18 @@ cryptogram_items_under80 v =
 -- 5.2.3) have no form under 80
 unfoldable pub primitive_body_items : Awaited → Tag → Value → Option (List PrimitiveItem)
 primitive_body_items Gpo t v =
-    if t =? 0x80 then gpo_items_under80 v
+    when t =? 0x80 then gpo_items_under80 v
     else none
 primitive_body_items (Record f) t v = none
 primitive_body_items Cryptogram t v =
-    if t =? 0x80 then cryptogram_items_under80 v
+    when t =? 0x80 then cryptogram_items_under80 v
     else none
 primitive_body_items Checksum t v = none
 
 -- what a template brings: its primitive objects at every level, or none where the outer tag is wrong
 unfoldable pub template_body_items : Awaited → Tag → Forest → Option (List PrimitiveItem)
 template_body_items a t f =
-    if t =? response_template_tag a then some (primitive_items t f)
+    when t =? response_template_tag a then some (primitive_items t f)
     else none
 
 -- by the kind of body
@@ -158,7 +158,7 @@ response_body_items a (template t f) = template_body_items a t f
 -- after the objects: the store as they left it if all were allowed, else as it was
 abbrev pub reading_if_all_allowed : StoreBytes → Count → StoringState → ReadingOutcome
 reading_if_all_allowed b n w =
-    if w.good then reading_outcome reason_none n w.store
+    when w.good then reading_outcome reason_none n w.store
     else reading_outcome reason_object_not_allowed n b
 
 -- a wrong outer tag or body is reason 2, its count the tree's; else the objects are taken in order
@@ -197,9 +197,9 @@ response_length_is2_to258 s = between 2 (length s) longest_response_length
 -- a whole answer, status bytes included, into the store b
 unfoldable pub read_answer : Awaited → StoreBytes → Response → ReadingOutcome
 read_answer a b s =
-    if response_length_is2_to258 s then
-    if is_status9000 s then
-    if is_body_to_be_read a then read_body a b (take (length s - 2) s)
+    when response_length_is2_to258 s then
+    when is_status9000 s then
+    when is_body_to_be_read a then read_body a b (take (length s - 2) s)
     else reading_outcome reason_none 0 b
     else reading_outcome reason_status_not9000 0 b
     else reading_outcome reason_malformed 0 b

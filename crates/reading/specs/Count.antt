@@ -3,7 +3,7 @@
 -- Assumes nothing.
 use Rattle.std.specs.Prelude.{Bool, false, ◌+◌, ◌-◌, length, take}
 use Rattle.std.proofs.Math.Option.{Option, some, none}
-use Rattle.basics.specs.Choice.{if◌then◌else◌, ◌and◌, ◌=?◌}
+use Rattle.basics.specs.Choice.{when◌then◌else◌, ◌and◌, ◌=?◌}
 use Rattle.basics.specs.Types.{Bytes, Response, Count}
 use Rattle.tlv.specs.declared.ObjectFront.{ObjectFront}
 use Rattle.tlv.specs.declared.ObjectFront.TheVariants.{Object, Broken}
@@ -25,11 +25,11 @@ tree_object_count (some f) = object_count f
 -- the objects of a body that is one object, this one included; at most four levels of templates
 unfoldable pub object_count_in_body : Bytes → Count
 object_count_in_body s =
-    if object_spans_all_bytes s (header_of s) then tree_object_count (parse_tree 4 s)
+    when object_spans_all_bytes s (header_of s) then tree_object_count (parse_tree 4 s)
     else 0
 
 -- the objects of an answer: those of its body, where length and status are good and more than the status is read
 unfoldable pub object_count_in_answer : Awaited → Response → Count
 object_count_in_answer a s =
-    if response_length_is2_to258 s and is_status9000 s and is_body_to_be_read a then object_count_in_body (take (length s - 2) s)
+    when response_length_is2_to258 s and is_status9000 s and is_body_to_be_read a then object_count_in_body (take (length s - 2) s)
     else 0

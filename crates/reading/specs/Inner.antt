@@ -4,7 +4,7 @@
 -- Assumes nothing.
 use Rattle.std.specs.Prelude.{◌≡◌, List, true, ℕ, ◌+◌, ◌-◌, ◌≤◌, ◌<◌, length, take, drop}
 use Rattle.std.proofs.Math.Option.{Option}
-use Rattle.basics.specs.Choice.{if◌then◌else◌, ◌=?◌}
+use Rattle.basics.specs.Choice.{when◌then◌else◌, ◌=?◌}
 use Rattle.basics.specs.Types.{Bytes, StoreBytes, Response, Value, Tag, Length, Offset, Count}
 use Rattle.tlv.specs.declared.TlvHeader.{TlvHeader}
 use Rattle.tlv.specs.declared.ObjectFront.{ObjectFront}
@@ -39,9 +39,9 @@ reading_of v n = record { verdict = v; objects = n }
 -- with so many bytes of body, or with a verdict where length, status or file decides
 unfoldable pub reading_beginning : Awaited → Response → ReadingBeginning
 reading_beginning a s =
-    if response_length_is2_to258 s then
-    if is_status9000 s then
-    if is_body_to_be_read a then ReadingBeginning.Body (length s - 2)
+    when response_length_is2_to258 s then
+    when is_status9000 s then
+    when is_body_to_be_read a then ReadingBeginning.Body (length s - 2)
     else ReadingBeginning.Decided Accepted
     else ReadingBeginning.Decided BadStatus
     else ReadingBeginning.Decided Malformed
@@ -50,8 +50,8 @@ reading_beginning a s =
 abbrev pub outer_object_of_front : Bytes → ObjectFront → OuterObject
 outer_object_of_front s front.Broken = OuterObject.Broken
 outer_object_of_front s (front.Object h) =
-    if h.start + h.len =? length s then
-    if h.template then OuterObject.Template h
+    when h.start + h.len =? length s then
+    when h.template then OuterObject.Template h
     else OuterObject.Primitive h
     else OuterObject.Broken
 
@@ -112,5 +112,5 @@ OpenedResponseDescribesResponse a s (Listed x) l = ListingGivesReading a s (λ b
 unfoldable pub listing_of_template : Awaited → Tag → TemplateWalkResult → ItemListing
 listing_of_template a t Broken = Decided (reading_of Malformed 0)
 listing_of_template a t (Whole u) =
-    if t =? response_template_tag a then Objects u
+    when t =? response_template_tag a then Objects u
     else Decided (reading_of Malformed u.objects)

@@ -4,7 +4,7 @@
 -- callers' proofs.
 -- Assumes nothing.
 use Rattle.std.specs.Prelude.{◌≡◌, true, false, not, List, [], ◌∷◌, ℕ, ◌+◌, ◌*◌, ◌/◌, ◌%◌, ◌≤◌, ◌<◌, length, get_or, set, take}
-use Rattle.basics.specs.Choice.{if◌then◌else◌, ◌and◌, ◌=?◌}
+use Rattle.basics.specs.Choice.{when◌then◌else◌, ◌and◌, ◌=?◌}
 use Rattle.basics.specs.Types.{Bytes, StoreBytes, RowNumber, Length, Count}
 use Rattle.tlv.specs.Tag.{is_private}
 use Rattle.dictionary.specs.declared.RowFound.{RowFound}
@@ -24,8 +24,8 @@ use Rattle.reading.specs.InnerItems.{packed_item_value_in, packed_item_value_len
 -- a known object is skipped if it is private and not for the card to set, else for its row if it is allowed here
 unfoldable pub judge_known_item : ℕ → PrimitiveItem → RowNumber → ItemVerdict
 judge_known_item answer i k =
-    if is_private i.tag and not (card_may_set (row_at k)) then Skipped
-    else if row_allows_value_from_card answer (row_at k) i.around i.value then ForRow k
+    when is_private i.tag and not (card_may_set (row_at k)) then Skipped
+    else when row_allows_value_from_card answer (row_at k) i.around i.value then ForRow k
     else NotAllowed
 
 -- by its row in the table; an unknown one is skipped
@@ -41,7 +41,7 @@ abbrev pub store_judged_item : StoreBytes → PrimitiveItem → ItemVerdict → 
 store_judged_item b i Skipped = storing_state true b
 store_judged_item b i NotAllowed = storing_state false b
 store_judged_item b i (ForRow k) =
-    if is_row_absent_or_empty dictionary_rows b k then storing_state true (put_row dictionary_rows b k i.value)
+    when is_row_absent_or_empty dictionary_rows b k then storing_state true (put_row dictionary_rows b k i.value)
     else storing_state false b
 
 -- ---- a pending value in one number: 2^16 times its row, 256 times the place of the byte before it, its length
@@ -78,7 +78,7 @@ pub record IsPendingList (answer_bytes : Bytes) (entry_count : Count) (packed_en
 -- a mark for row k, for which a value of n bytes is pending
 abbrev pub mark_row_filled_if_non_empty : List ℕ → RowNumber → Length → List ℕ
 mark_row_filled_if_non_empty filled k n =
-    if n =? 0 then filled
+    when n =? 0 then filled
     else set filled k 1
 
 -- the values xs are pending for the store b, with a mark for each row that has bytes pending

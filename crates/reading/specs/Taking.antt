@@ -3,7 +3,7 @@
 -- Assumes nothing.
 use Rattle.std.specs.Prelude.{Bool, true, false, not, List, [], ◌∷◌, ◌++◌, ℕ}
 use Rattle.basics.specs.Types.{StoreBytes, Value, Tag, RowNumber}
-use Rattle.basics.specs.Choice.{if◌then◌else◌, ◌and◌, ◌=?◌}
+use Rattle.basics.specs.Choice.{when◌then◌else◌, ◌and◌, ◌=?◌}
 use Rattle.basics.specs.Number.{has_bit_of_weight}
 use Rattle.tlv.specs.Tag.{is_private}
 use Rattle.tlv.specs.Tree.{Forest, end, leaf, node}
@@ -33,11 +33,11 @@ primitive_items a (node t f r) = primitive_items t f ++ primitive_items a r
 -- a template is one of a set of templates; one other than these five is in none
 abbrev pub is_template_in_set : ℕ → Tag → Bool
 is_template_in_set templates around =
-    if around =? 0x70 then has_bit_of_weight templates in_template70
-    else if around =? 0x77 then has_bit_of_weight templates in_template77
-    else if around =? 0xA5 then has_bit_of_weight templates in_template_a5
-    else if around =? 0xBF0C then has_bit_of_weight templates in_template_bf0c
-    else if around =? 0x6F then has_bit_of_weight templates in_template6f
+    when around =? 0x70 then has_bit_of_weight templates in_template70
+    else when around =? 0x77 then has_bit_of_weight templates in_template77
+    else when around =? 0xA5 then has_bit_of_weight templates in_template_a5
+    else when around =? 0xBF0C then has_bit_of_weight templates in_template_bf0c
+    else when around =? 0x6F then has_bit_of_weight templates in_template6f
     else false
 
 -- a row's object may be directly inside this template
@@ -73,8 +73,8 @@ storing_state g b = record { good = g; store = b }
 -- a known object is skipped if it is private and not for the card to set, stored if it is allowed, else not allowed
 abbrev pub store_known_item : ℕ → StoreBytes → PrimitiveItem → RowNumber → StoringState
 store_known_item answer b i k =
-    if is_private i.tag and not (card_may_set (row_at k)) then storing_state true b
-    else if row_allows_value_and_absent_or_empty answer b k i.around i.value then storing_state true
+    when is_private i.tag and not (card_may_set (row_at k)) then storing_state true b
+    else when row_allows_value_and_absent_or_empty answer b k i.around i.value then storing_state true
     (put_row dictionary_rows b k i.value)
     else storing_state false b
 
@@ -90,7 +90,7 @@ store_item answer b i = store_item_of_row_found answer b i (find_row dictionary_
 -- nothing is taken after an object that is not allowed
 unfoldable pub store_next_item : ℕ → StoringState → PrimitiveItem → StoringState
 store_next_item answer w i =
-    if w.good then store_item answer w.store i
+    when w.good then store_item answer w.store i
     else w
 
 -- one object after the other

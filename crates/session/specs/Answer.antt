@@ -4,7 +4,7 @@
 use Rattle.std.specs.Prelude.{Bool, not, ◌+◌, ◌/◌}
 use Rattle.std.proofs.Math.Option.{Option, some, none}
 use Rattle.basics.specs.Types.{StoreBytes, Response, Buffer, Byte, RecordNumber, Amount, Reason}
-use Rattle.basics.specs.Choice.{if◌then◌else◌, ◌and◌, ◌=?◌}
+use Rattle.basics.specs.Choice.{when◌then◌else◌, ◌and◌, ◌=?◌}
 use Rattle.basics.specs.Reason.{reason_none, reason_object_missing, reason_afl_invalid, reason_above_limit}
 use Rattle.basics.specs.Reason.{reason_cryptogram_type_not_allowed, reason_no_supported_mode}
 use Rattle.store.specs.Held.{has_object, stored_byte}
@@ -56,9 +56,9 @@ aip_and_afl_present b = has_object b 0x82 and has_object b 0x94
 -- (document 02, Item 8): the session holds it from now on
 unfoldable pub next_after_gpo_read : StoreBytes → NextAction
 next_after_gpo_read b =
-    if not (aip_and_afl_present b) then end_for_reason reason_object_missing b
-    else if not (emv_or_mag_stripe_mode b) then end_for_reason reason_no_supported_mode b
-    else if not (accepts_afl (stored_afl b)) then end_for_reason reason_afl_invalid b
+    when not (aip_and_afl_present b) then end_for_reason reason_object_missing b
+    else when not (emv_or_mag_stripe_mode b) then end_for_reason reason_no_supported_mode b
+    else when not (accepts_afl (stored_afl b)) then end_for_reason reason_afl_invalid b
     else request_kth_record_or_else (transaction_limit b) 1 b (end_for_reason reason_afl_invalid b)
 
 -- the answer to GPO
@@ -85,14 +85,14 @@ requested_cryptogram l b = record { choice = choice_for_tvr b (findings_of b).bi
 -- missing (4); else 9F34 and the TVR are stored, the choice is made on the bits, and 8C is filled after
 unfoldable pub next_after_records_in_emv_mode : Amount → StoreBytes → NextAction
 next_after_records_in_emv_mode l b =
-    if stored_amount_above_limit l b then end_for_reason reason_above_limit b
-    else if not (expiry_pan_and_cdol1_non_empty b) then end_for_reason reason_object_missing b
+    when stored_amount_above_limit l b then end_for_reason reason_above_limit b
+    else when not (expiry_pan_and_cdol1_non_empty b) then end_for_reason reason_object_missing b
     else request_cryptogram (requested_cryptogram l b) (store_with_findings b (findings_of b))
 
 -- by the mode that the AIP (82) indicates: EMV mode, else mag-stripe mode
 unfoldable pub next_after_last_record : Amount → StoreBytes → NextAction
 next_after_last_record l b =
-    if emv_mode b then next_after_records_in_emv_mode l b
+    when emv_mode b then next_after_records_in_emv_mode l b
     else next_after_records_in_mag_stripe_mode l b
 
 -- after a record: the next one; the limit stays
@@ -137,9 +137,9 @@ outcome_for_tc Choice.Offline = some Outcome.Approved
 -- above; else none
 unfoldable pub outcome_for_cryptogram_type : Choice → Byte → Option Outcome
 outcome_for_cryptogram_type c kind =
-    if kind =? cryptogram_type_aac then some Outcome.Declined
-    else if kind =? cryptogram_type_arqc then outcome_for_arqc c
-    else if kind =? cryptogram_type_tc then outcome_for_tc c
+    when kind =? cryptogram_type_aac then some Outcome.Declined
+    else when kind =? cryptogram_type_arqc then outcome_for_arqc c
+    else when kind =? cryptogram_type_tc then outcome_for_tc c
     else none
 
 -- a decision has reason 0; a cryptogram of a type that the one requested does not allow ends the session with reason 8
@@ -154,7 +154,7 @@ cid_atc_and_cryptogram_present b = has_object b 0x9F27 and has_object b 0x9F36 a
 -- how the session ends once the answer is read: an object missing (4), then by the decision
 unfoldable pub cryptogram_ending : RequestedCryptogram → StoreBytes → Ending
 cryptogram_ending a b =
-    if not (cid_atc_and_cryptogram_present b) then ending_for_reason reason_object_missing
+    when not (cid_atc_and_cryptogram_present b) then ending_for_reason reason_object_missing
     else ending_for_decision (outcome_for_cryptogram_type a.choice (stored_byte b 0x9F27 1 / 64))
 
 -- every end reports the CVM held

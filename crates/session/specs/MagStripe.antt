@@ -3,7 +3,7 @@
 -- Assumes nothing.
 use Rattle.std.specs.Prelude.{Bool, not}
 use Rattle.basics.specs.Types.{StoreBytes, Value, Response, Amount}
-use Rattle.basics.specs.Choice.{if◌then◌else◌}
+use Rattle.basics.specs.Choice.{when◌then◌else◌}
 use Rattle.basics.specs.Reason.{reason_none, reason_object_not_allowed, reason_object_missing, reason_above_limit}
 use Rattle.dictionary.specs.Rows.{dictionary_rows}
 use Rattle.dictionary.specs.Named.{row_number_of_tag_or_zero}
@@ -36,8 +36,8 @@ request_checksum l b = request_command_or_end_for_dol (awaited_checksum_with_lim
 -- the amount above the limit that the session holds (6), track, bitmaps or the counter's digits missing (4)
 unfoldable pub next_after_records_in_mag_stripe_mode : Amount → StoreBytes → NextAction
 next_after_records_in_mag_stripe_mode l b =
-    if stored_amount_above_limit l b then end_for_reason reason_above_limit b
-    else if not (track2_and_bitmaps_non_empty b) then end_for_reason reason_object_missing b
+    when stored_amount_above_limit l b then end_for_reason reason_above_limit b
+    else when not (track2_and_bitmaps_non_empty b) then end_for_reason reason_object_missing b
     else request_checksum l b
 
 -- ---- the answer to the checksum
@@ -66,15 +66,15 @@ store_with_track_digits b =
 -- asks to go online
 unfoldable pub next_after_checksum_read : StoreBytes → NextAction
 next_after_checksum_read b =
-    if not (has_object b 0x9F36) then end_for_reason reason_object_missing b
-    else if not (has_object b 0x9F61) then end (ending_of Outcome.Declined reason_none) cvm_number_not_applicable b
+    when not (has_object b 0x9F36) then end_for_reason reason_object_missing b
+    else when not (has_object b 0x9F61) then end (ending_of Outcome.Declined reason_none) cvm_number_not_applicable b
     else end (ending_of Outcome.OnlineRequest reason_none) cvm_number_not_applicable (store_with_track_digits b)
 
 -- the reading left the store d: where the stored track b cannot take the digits (3) nothing of the answer is kept. The
 -- answer cannot change track and bitmaps: none is empty, and it may not bring one again, so that the digits can go in
 unfoldable pub next_if_track_takes_digits : StoreBytes → StoreBytes → NextAction
 next_if_track_takes_digits b d =
-    if stored_track_can_take_digits b then next_after_checksum_read d
+    when stored_track_can_take_digits b then next_after_checksum_read d
     else end_for_reason reason_object_not_allowed b
 
 -- the answer to COMPUTE CRYPTOGRAPHIC CHECKSUM

@@ -6,7 +6,7 @@ use Rattle.std.specs.Prelude.{◌≡◌, not, ◌+◌, length}
 use Rattle.std.proofs.Math.Option.{Option, some, none}
 use Rattle.basics.specs.Types.{StoreBytes, Response, CommandBytes, Buffer, TvrBytes}
 use Rattle.basics.specs.Types.{Count, Length, Reason, RefusalNumber, CvmNumber}
-use Rattle.basics.specs.Choice.{if◌then◌else◌, ◌<?◌, ◌=?◌}
+use Rattle.basics.specs.Choice.{when◌then◌else◌, ◌<?◌, ◌=?◌}
 use Rattle.basics.specs.Front.{written_over_front}
 use Rattle.basics.specs.Reason.{reason_none, reason_dol_broken_or_bad_length, reason_link, reason_stopped}
 use Rattle.basics.specs.Reason.{refusal_buffer_too_small, refusal_record_out_of_ranges, refusal_wrong_phase}
@@ -63,7 +63,7 @@ reason_of_next (end e m b) = e.reason
 unfoldable pub read_response_then : Awaited → CvmNumber → StoreBytes → Response → (StoreBytes → NextAction) → NextAction
 read_response_then a m b card next =
     let o = read_answer a b card in
-    if o.reason =? reason_none then next o.store
+    when o.reason =? reason_none then next o.store
     else end (ending_for_reason o.reason) m b
 
 -- the store with this TVR in 95
@@ -119,8 +119,8 @@ least_buffer = 261
 -- a call is refused for the buffer's size (22), then for the session's ranges (25); else by its own rules
 unfoldable pub step_if_admitted : Session → Buffer → CallEffect → Step
 step_if_admitted s buf x =
-    if length buf <? least_buffer then refused_step s refusal_buffer_too_small buf
-    else if not (session_record_in_ranges s) then refused_step s refusal_record_out_of_ranges buf
+    when length buf <? least_buffer then refused_step s refusal_buffer_too_small buf
+    else when not (session_record_in_ranges s) then refused_step s refusal_record_out_of_ranges buf
     else step_of_effect s buf x
 
 -- every call but start: one on a session that is not running is refused (21)

@@ -3,7 +3,7 @@
 use Rattle.std.specs.Prelude.{Bool, true, false, List, [], ◌∷◌, ◌++◌}
 use Rattle.std.proofs.Math.Option.{Option, some, none}
 use Rattle.basics.specs.Types.{CommandBytes}
-use Rattle.basics.specs.Choice.{if◌then◌else◌, ◌or◌}
+use Rattle.basics.specs.Choice.{when◌then◌else◌, ◌or◌}
 use Rattle.session.specs.Calls.{Call, start, answer, link_failed, stop, CallMade, call_result, call_refused, command_sent}
 
 -- ---- what a list of calls returned
@@ -17,7 +17,7 @@ commands_sent (m ∷ ms) = command_sent (call_result m) m.step.buffer ++ command
 unfoldable pub calls_accepted : List CallMade → List CallMade
 calls_accepted [] = []
 calls_accepted (m ∷ ms) =
-    if call_refused m then calls_accepted ms
+    when call_refused m then calls_accepted ms
     else m ∷ calls_accepted ms
 
 -- the last of a list, if there is one
@@ -44,7 +44,7 @@ has_answer (m ∷ ms) = is_answer m.call or has_answer ms
 unfoldable pub commands_with_no_later_answer : List CallMade → List CommandBytes
 commands_with_no_later_answer [] = []
 commands_with_no_later_answer (m ∷ ms) =
-    if has_answer ms then commands_with_no_later_answer ms
+    when has_answer ms then commands_with_no_later_answer ms
     else command_sent (call_result m) m.step.buffer ++ commands_with_no_later_answer ms
 
 -- refused calls answer nothing

@@ -4,7 +4,7 @@
 use Rattle.std.specs.Prelude.{Bool, List, [], ◌∷◌, ◌++◌, map, ◌-◌, length, get_or, take, drop}
 use Rattle.std.proofs.Math.Option.{Option, some, none}
 use Rattle.basics.specs.Types.{Value, Response, CommandBytes, AflBytes, Byte, Tag}
-use Rattle.basics.specs.Choice.{if◌then◌else◌, ◌and◌, ◌<?◌, ◌=?◌}
+use Rattle.basics.specs.Choice.{when◌then◌else◌, ◌and◌, ◌<?◌, ◌=?◌}
 use Rattle.basics.specs.Reason.{reason_none}
 use Rattle.afl.specs.Records.{afl_records}
 use Rattle.analysis.specs.Bits.{value_has_bit}
@@ -30,14 +30,14 @@ is_non_empty_object_directly_inside77 tag i =
 unfoldable pub first_non_empty_value_directly_inside77 : Tag → List PrimitiveItem → Option Value
 first_non_empty_value_directly_inside77 tag [] = none
 first_non_empty_value_directly_inside77 tag (i ∷ is) =
-    if is_non_empty_object_directly_inside77 tag i then some i.value
+    when is_non_empty_object_directly_inside77 tag i then some i.value
     else first_non_empty_value_directly_inside77 tag is
 
 -- the AFL: under 80 the bytes after the two of 82, where there are any; in a template the 94 inside a 77
 abbrev pub afl_in_gpo_body : Option ResponseBody → Option AflBytes
 afl_in_gpo_body none = none
 afl_in_gpo_body (some (primitive t v)) =
-    if t =? 0x80 and 2 <? length v then some (drop 2 v)
+    when t =? 0x80 and 2 <? length v then some (drop 2 v)
     else none
 afl_in_gpo_body (some (template t f)) = first_non_empty_value_directly_inside77 0x94 (primitive_items t f)
 
@@ -45,7 +45,7 @@ afl_in_gpo_body (some (template t f)) = first_non_empty_value_directly_inside77 
 abbrev pub aip_in_gpo_body : Option ResponseBody → Option Value
 aip_in_gpo_body none = none
 aip_in_gpo_body (some (primitive t v)) =
-    if t =? 0x80 and 1 <? length v then some (take 2 v)
+    when t =? 0x80 and 1 <? length v then some (take 2 v)
     else none
 aip_in_gpo_body (some (template t f)) = first_non_empty_value_directly_inside77 0x82 (primitive_items t f)
 
@@ -62,7 +62,7 @@ aip_in_gpo_response card = aip_in_gpo_body (parse_response_body (take (length ca
 unfoldable pub first_answer : List CallMade → Option CallMade
 first_answer [] = none
 first_answer (m ∷ ms) =
-    if is_answer m.call then some m
+    when is_answer m.call then some m
     else first_answer ms
 
 -- the card's bytes that a call brings; only an answer brings any
@@ -78,7 +78,7 @@ card_bytes (stop buf) = []
 abbrev pub afl_accepted_from_gpo_answer : Option CallMade → Option AflBytes
 afl_accepted_from_gpo_answer none = none
 afl_accepted_from_gpo_answer (some m) =
-    if gpo_reason (store_bytes m.before) (card_bytes m.call) =? reason_none
+    when gpo_reason (store_bytes m.before) (card_bytes m.call) =? reason_none
     then afl_in_gpo_response (card_bytes m.call)
     else none
 
@@ -98,16 +98,16 @@ begins_with_two_bytes a b c = get_or c 0 0 =? a and get_or c 1 0 =? b
 -- by its first two bytes
 unfoldable pub command_kind : CommandBytes → CommandKind
 command_kind c =
-    if begins_with_two_bytes cla_proprietary ins_gpo c then gpo
-    else if begins_with_two_bytes cla_proprietary ins_generate_ac c then cryptogram
-    else if begins_with_two_bytes cla_proprietary ins_compute_checksum c then checksum
+    when begins_with_two_bytes cla_proprietary ins_gpo c then gpo
+    else when begins_with_two_bytes cla_proprietary ins_generate_ac c then cryptogram
+    else when begins_with_two_bytes cla_proprietary ins_compute_checksum c then checksum
     else record_command_kind c
 
 -- the last command by an AIP: the checksum where byte 2 b8 is clear, else the cryptogram
 unfoldable pub final_command_kind_for_aip : Option Value → CommandKind
 final_command_kind_for_aip none = cryptogram
 final_command_kind_for_aip (some v) =
-    if value_has_bit v 2 8 then cryptogram
+    when value_has_bit v 2 8 then cryptogram
     else checksum
 
 -- by the first answer not refused: the AIP that it brings

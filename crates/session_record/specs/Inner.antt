@@ -5,7 +5,7 @@
 -- `brought_rows` to `all_required_at_start_present`. Assumes nothing.
 use Rattle.std.specs.Prelude.{◌≡◌, refl, Bool, not, List, [], ◌∷◌, suc, ◌+◌, ◌≤◌, ◌<◌, get_or}
 use Rattle.basics.specs.Types.{Bytes, StoreBytes, RowNumber, Offset, Count}
-use Rattle.basics.specs.Choice.{if, if◌then◌else◌, ◌and◌, ◌or◌, ◌≤?◌, ◌=?◌}
+use Rattle.basics.specs.Choice.{if, when◌then◌else◌, ◌and◌, ◌or◌, ◌≤?◌, ◌=?◌}
 use Rattle.dictionary.specs.Rows.{Row, dictionary_rows, row_count, optional_at_start}
 use Rattle.dictionary.specs.Named.{required_at_start_count, row_numbers_required_at_start}
 use Rattle.store.specs.Place.{value_in_place, row_size_in_store, row_offset}
@@ -53,7 +53,7 @@ required_rows = refl
 unfoldable pub row_numbers_required_at_start_from : RowNumber → List Row → List RowNumber
 row_numbers_required_at_start_from n [] = []
 row_numbers_required_at_start_from n (r ∷ rs) =
-    if r.must =? optional_at_start then row_numbers_required_at_start_from (suc n) rs
+    when r.must =? optional_at_start then row_numbers_required_at_start_from (suc n) rs
     else n ∷ row_numbers_required_at_start_from (suc n) rs
 
 -- and of all rows

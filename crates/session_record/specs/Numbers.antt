@@ -2,7 +2,7 @@
 -- their numbers").
 -- Assumes nothing.
 use Rattle.std.specs.Prelude.{Bool, not}
-use Rattle.basics.specs.Choice.{if◌then◌else◌, ◌and◌, ◌=?◌}
+use Rattle.basics.specs.Choice.{when◌then◌else◌, ◌and◌, ◌=?◌}
 use Rattle.basics.specs.Number.{between}
 use Rattle.basics.specs.Types.{Byte, Reason}
 use Rattle.basics.specs.Reason.{reason_none, reason_status_not9000, reason_above_limit, reason_no_supported_mode}
@@ -32,5 +32,5 @@ reason_matches_outcome Outcome.SelectNext n = n =? reason_above_limit
 -- the outcome of a reason other than none
 unfoldable pub outcome_of_nonzero_reason : Reason → Outcome
 outcome_of_nonzero_reason n =
-    if n =? reason_above_limit then Outcome.SelectNext
+    when n =? reason_above_limit then Outcome.SelectNext
     else Outcome.Ended

@@ -2,7 +2,7 @@
 -- Assumes nothing.
 use Rattle.std.specs.Prelude.{◌≡◌, Bool, true, false, not, List, [], ◌∷◌, length, get_or}
 use Rattle.std.proofs.Math.Option.{Option, some, none}
-use Rattle.basics.specs.Choice.{if◌then◌else◌, ◌and◌, ◌≤?◌, ◌=?◌}
+use Rattle.basics.specs.Choice.{when◌then◌else◌, ◌and◌, ◌≤?◌, ◌=?◌}
 use Rattle.basics.specs.Number.{has_bit_of_weight}
 use Rattle.basics.specs.Types.{StoreBytes, StartBytes, Value, Tag, RowNumber, Length, RefusalNumber}
 use Rattle.tlv.specs.Primitives.{Object, primitive_objects}
@@ -20,7 +20,7 @@ use Rattle.start_data.specs.declared.LoadResult.{LoadResult}
 -- a terminal type must be listed
 unfoldable pub is_listed_if_terminal_type : Tag → Value → Bool
 is_listed_if_terminal_type t v =
-    if t =? 0x9F35 then listed_terminal_type (get_or v 0 0)
+    when t =? 0x9F35 then listed_terminal_type (get_or v 0 0)
     else true
 
 -- a known object that a start may set, of a length and digits that fit, not present yet; a terminal type is listed
@@ -35,7 +35,7 @@ start_may_set_object_in_row b k o =
 abbrev pub set_object_of_row_found : StoreBytes → Object → RowFound → Option StoreBytes
 set_object_of_row_found b o RowFound.Unknown = some b
 set_object_of_row_found b o (RowFound.At k) =
-    if start_may_set_object_in_row b k o then some (put_row dictionary_rows b k o.value)
+    when start_may_set_object_in_row b k o then some (put_row dictionary_rows b k o.value)
     else none
 
 -- one object: unknown ones are skipped
@@ -72,7 +72,7 @@ pub data LoadedStore : Type 0 where
 -- all that a start must bring is present
 abbrev pub loaded_if_all_required : StoreBytes → LoadedStore
 loaded_if_all_required b =
-    if all_required_at_start_present b then loaded b
+    when all_required_at_start_present b then loaded b
     else refusal refusal_required_object_absent
 
 -- an object that may not be set is 23; else what a start must bring is checked
@@ -92,7 +92,7 @@ most_start_bytes = 1024
 -- the start bytes s into the store b
 unfoldable pub load_start_bytes : StoreBytes → StartBytes → LoadedStore
 load_start_bytes b s =
-    if length s ≤? most_start_bytes then loaded_from_objects b (primitive_objects s)
+    when length s ≤? most_start_bytes then loaded_from_objects b (primitive_objects s)
     else refusal refusal_bad_start_bytes
 
 -- ---- what the call returns

@@ -2,7 +2,7 @@
 -- room for every row at its greatest length at once. What holds here holds of every table.
 -- Assumes nothing.
 use Rattle.std.specs.Prelude.{Bool, true, false, List, [], ◌∷◌, ◌++◌, zero, suc, ◌+◌, ◌-◌, length, get_or, take, drop}
-use Rattle.basics.specs.Choice.{if◌then◌else◌, ◌=?◌}
+use Rattle.basics.specs.Choice.{when◌then◌else◌, ◌=?◌}
 use Rattle.basics.specs.Types.{Bytes, StoreBytes, Value, Byte, Tag, Length, Offset, RowNumber}
 use Rattle.dictionary.specs.Rows.{Row, dictionary_rows, row_in, find_row}
 use Rattle.dictionary.specs.declared.RowFound.{RowFound}
@@ -48,7 +48,7 @@ row_place_bytes table b k = take (row_size_in_store (row_in table k)) (drop (row
 unfoldable pub value_in_place : Bytes → StoredValue
 value_in_place [] = absent
 value_in_place (n ∷ v) =
-    if n =? 0 then absent
+    when n =? 0 then absent
     else present (take (n - 1) v)
 
 -- the value of row k

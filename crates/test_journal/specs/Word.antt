@@ -3,7 +3,7 @@
 -- Assumes nothing.
 use Rattle.std.specs.Prelude.{◌≡◌, ℕ, ◌+◌, ◌*◌, ◌%◌, length}
 use Rattle.basics.specs.Types.{Bytes, Length, ResultWord}
-use Rattle.basics.specs.Choice.{if◌then◌else◌, ◌<?◌}
+use Rattle.basics.specs.Choice.{when◌then◌else◌, ◌<?◌}
 use Rattle.basics.specs.Front.{written_over_front}
 use Rattle.journal.specs.declared.JournalVerdict.{JournalVerdict}
 
@@ -21,6 +21,6 @@ verdict_word (JournalVerdict.Truncated n) = 2 * verdict_kind_weight_in_word + n 
 
 -- how many bytes are given, and the slice afterwards
 pub record GivesBytesIfRoom (returned_size : Length) (buffer_after expected_bytes buffer_before : Bytes) : Type 0 where
-  pub size : returned_size ≡ (if length buffer_before <? length expected_bytes then 0 else length expected_bytes)
-  pub bytes : buffer_after ≡ (if length buffer_before <? length expected_bytes then buffer_before else written_over_front
+  pub size : returned_size ≡ (when length buffer_before <? length expected_bytes then 0 else length expected_bytes)
+  pub bytes : buffer_after ≡ (when length buffer_before <? length expected_bytes then buffer_before else written_over_front
       expected_bytes buffer_before)

@@ -2,7 +2,7 @@
 -- Assumes nothing.
 use Rattle.std.specs.Prelude.{◌≡◌, ℕ, ◌+◌, ◌*◌, length}
 use Rattle.basics.specs.Types.{StoreBytes, Response, ResultWord, SfiNumber, Length, Count}
-use Rattle.basics.specs.Choice.{if◌then◌else◌, ◌=?◌}
+use Rattle.basics.specs.Choice.{when◌then◌else◌, ◌=?◌}
 use Rattle.dictionary.specs.Rows.{store_size}
 use Rattle.reading.specs.declared.Awaited.{Awaited}
 use Rattle.reading.specs.Answer.{ReadingOutcome, read_answer}
@@ -35,16 +35,16 @@ nothing_read b = record { word = 0xFFFFFFFF; store = b }
 -- the answers by number: 0 GPO, 1 a record of this file, 2 the cryptogram, 3 the checksum
 unfoldable pub awaited_by_number : ℕ → SfiNumber → AwaitedAnswer
 awaited_by_number n sfi =
-    if n =? 0 then Answer Awaited.Gpo
-    else if n =? 1 then Answer (Awaited.Record (record { number = sfi }))
-    else if n =? 2 then Answer Awaited.Cryptogram
-    else if n =? 3 then Answer Awaited.Checksum
+    when n =? 0 then Answer Awaited.Gpo
+    else when n =? 1 then Answer (Awaited.Record (record { number = sfi }))
+    else when n =? 2 then Answer Awaited.Cryptogram
+    else when n =? 3 then Answer Awaited.Checksum
     else Nothing
 
 -- the same for a store of so many bytes, which must be its size
 unfoldable pub awaited_by_number_if_store_sized : Length → ℕ → SfiNumber → AwaitedAnswer
 awaited_by_number_if_store_sized size n sfi =
-    if size =? store_size then awaited_by_number n sfi
+    when size =? store_size then awaited_by_number n sfi
     else Nothing
 
 -- the card's answer s to what is expected, into the store b

@@ -1,7 +1,7 @@
 -- Digits: hexadecimal pairs as bytes, with blanks between them, and a decimal number.
 -- Assumes nothing.
 use Rattle.std.specs.Prelude.{Bool, ◌≡◌, [], ◌∷◌, ◌++◌, ℕ, ◌+◌, ◌*◌, ◌-◌, length, take}
-use Rattle.basics.specs.Choice.{if◌then◌else◌, ◌and◌, ◌≤?◌, ◌<?◌, every}
+use Rattle.basics.specs.Choice.{when◌then◌else◌, ◌and◌, ◌≤?◌, ◌<?◌, every}
 use Rattle.basics.specs.Front.{written_over_front}
 use Rattle.basics.specs.Number.{between}
 use Rattle.basics.specs.Types.{Byte, Bytes, Length}
@@ -12,9 +12,9 @@ use Rattle.text_line.specs.Text.{is_blank}
 -- the value of a hexadecimal digit '0' to '9', 'A' to 'F', 'a' to 'f'; 16 for any other character
 unfoldable pub hex_digit_value_or16 : Byte → ℕ
 hex_digit_value_or16 c =
-    if between 48 c 57 then c - 48
-    else if between 65 c 70 then c - 55
-    else if between 97 c 102 then c - 87
+    when between 48 c 57 then c - 48
+    else when between 65 c 70 then c - 55
+    else when between 97 c 102 then c - 87
     else 16
 
 -- two characters are hexadecimal digits
@@ -42,17 +42,17 @@ prepend_to_hex_decoding bs r = record { bytes = bs ++ r.bytes; problem = r.probl
 unfoldable pub hex_decoding_of : Bytes → HexTextDecoding
 hex_decoding_of [] = hex_decoding_stopped 0
 hex_decoding_of (a ∷ []) =
-    if is_blank a then hex_decoding_stopped 0
+    when is_blank a then hex_decoding_stopped 0
     else hex_decoding_stopped 3
 hex_decoding_of (a ∷ b ∷ s) =
-    if is_blank a then hex_decoding_of (b ∷ s)
-    else if is_hex_pair a b then prepend_to_hex_decoding (hex_pair_byte a b ∷ []) (hex_decoding_of s)
+    when is_blank a then hex_decoding_of (b ∷ s)
+    else when is_hex_pair a b then prepend_to_hex_decoding (hex_pair_byte a b ∷ []) (hex_decoding_of s)
     else hex_decoding_stopped 3
 
 -- no more bytes than there is room for (else 4)
 unfoldable pub hex_decoding_within_room : Length → HexTextDecoding → HexTextDecoding
 hex_decoding_within_room room r =
-    if length r.bytes ≤? room then r
+    when length r.bytes ≤? room then r
     else record { bytes = take room r.bytes; problem = 4 }
 
 -- what a decoding reports of a spelling
@@ -77,6 +77,6 @@ is_decimal_digit c = hex_digit_value_or16 c <? 10
 -- a buffer's length: one or more decimal digits whose number is at most 4,096 (else 6)
 unfoldable pub buffer_line_if_up_to4096 : Bytes → Line
 buffer_line_if_up_to4096 w =
-    if 0 <? length w and every is_decimal_digit w and append_decimal_characters 0 w ≤? 4096
+    when 0 <? length w and every is_decimal_digit w and append_decimal_characters 0 w ≤? 4096
     then Line.Buffer (record { bytes = append_decimal_characters 0 w })
     else Line.Wrong (record { number = 6 })

@@ -1,7 +1,7 @@
 -- What a line of a text file of calls means. A line is any list of characters, its end not counted.
 -- Assumes nothing.
 use Rattle.std.specs.Prelude.{◌≡◌, List, [], ◌∷◌, ℕ, length}
-use Rattle.basics.specs.Choice.{if◌then◌else◌, ◌<?◌, ◌=?◌}
+use Rattle.basics.specs.Choice.{when◌then◌else◌, ◌<?◌, ◌=?◌}
 use Rattle.basics.specs.Front.{written_over_front}
 use Rattle.basics.specs.Types.{Bytes}
 use Rattle.text_line.specs.declared.LineByteCount.{LineByteCount as BytesCount}
@@ -36,7 +36,7 @@ line_word_table =
 -- the word of a table with these characters
 abbrev pub word_in_table : List WordText → Bytes → LineWord
 word_in_table [] w = Unknown
-word_in_table (e ∷ es) w = if bytes_equal w e.text then e.word else word_in_table es w
+word_in_table (e ∷ es) w = when bytes_equal w e.text then e.word else word_in_table es w
 
 -- which word it is
 unfoldable pub line_word_of : Bytes → LineWord
@@ -50,12 +50,12 @@ wrong_line p = Line.Wrong (record { number = p })
 -- a line with only blanks after its words
 unfoldable pub line_if_only_blanks_follow : Bytes → Line → Line
 line_if_only_blanks_follow rest line =
-    if length (after_longest_prefix (is_character_of_kind Blank) rest) =? 0 then line else wrong_line 5
+    when length (after_longest_prefix (is_character_of_kind Blank) rest) =? 0 then line else wrong_line 5
 
 -- a start or an answer with the bytes that were decoded
 unfoldable pub line_if_hex_decoded : (BytesCount → Line) → HexDecoded → Line
 line_if_hex_decoded line d =
-    if d.problem =? 0 then line (record { size = d.size })
+    when d.problem =? 0 then line (record { size = d.size })
     else wrong_line d.problem
 
 -- what a line means, and the caller's bytes then
@@ -89,7 +89,7 @@ meaning_by_word Unknown rest out = line_without_bytes (wrong_line 2) out
 unfoldable pub line_meaning : Bytes → Bytes → LineMeaning
 line_meaning line out =
     let text = uncommented line in
-    if 8192 <? length line then line_without_bytes (wrong_line 1) out
+    when 8192 <? length line then line_without_bytes (wrong_line 1) out
     else meaning_by_word (line_word_of (first_word text)) (behind_first_word text) out
 
 -- the line r and the caller's bytes at exit are those of a meaning

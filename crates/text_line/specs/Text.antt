@@ -1,7 +1,7 @@
 -- The text of a line as characters: its comment, its blanks and its words.
 -- Assumes nothing.
 use Rattle.std.specs.Prelude.{Bool, not, [], ◌∷◌}
-use Rattle.basics.specs.Choice.{if◌then◌else◌, ◌or◌, ◌=?◌}
+use Rattle.basics.specs.Choice.{when◌then◌else◌, ◌or◌, ◌=?◌}
 use Rattle.basics.specs.Types.{Byte, Bytes}
 use Rattle.text_line.specs.declared.CharacterKind.{CharacterKind}
 use Rattle.text_line.specs.declared.CharacterKind.TheVariants.{Blank, NotBlank, NotHash}
@@ -19,12 +19,12 @@ is_character_of_kind NotHash c = not (c =? 35)
 -- the longest part at the front whose characters all pass a test
 unfoldable pub longest_prefix : (Byte → Bool) → Bytes → Bytes
 longest_prefix f [] = []
-longest_prefix f (c ∷ s) = if f c then c ∷ longest_prefix f s else []
+longest_prefix f (c ∷ s) = when f c then c ∷ longest_prefix f s else []
 
 -- what follows that part
 unfoldable pub after_longest_prefix : (Byte → Bool) → Bytes → Bytes
 after_longest_prefix f [] = []
-after_longest_prefix f (c ∷ s) = if f c then after_longest_prefix f s else (c ∷ s)
+after_longest_prefix f (c ∷ s) = when f c then after_longest_prefix f s else (c ∷ s)
 
 -- a line without its comment: what is before the first '#'
 abbrev pub uncommented : Bytes → Bytes

@@ -1,15 +1,15 @@
 -- The shortest encoding of a tree (Book 3, annex B): each length in as few bytes as it needs.
 -- Assumes nothing.
 use Rattle.std.specs.Prelude.{◌≡◌, Bool, true, false, List, [], ◌∷◌, ◌++◌, ℕ, zero, suc, ◌/◌, ◌%◌, ◌<◌, length}
-use Rattle.basics.specs.Choice.{if◌then◌else◌, ◌and◌, ◌<?◌, ◌=?◌}
+use Rattle.basics.specs.Choice.{when◌then◌else◌, ◌and◌, ◌<?◌, ◌=?◌}
 use Rattle.tlv.specs.Tag.{tag_size, is_template}
 use Rattle.tlv.specs.Tree.{Forest, end, leaf, node}
 
 -- a tag's bytes
 unfoldable pub tag_bytes : ℕ → List ℕ
 tag_bytes t =
-    if t <? 0x100 then t ∷ []
-    else if t <? 0x10000 then t / 0x100 ∷ t % 0x100 ∷ []
+    when t <? 0x100 then t ∷ []
+    else when t <? 0x10000 then t / 0x100 ∷ t % 0x100 ∷ []
     else t / 0x10000 ∷ t / 0x100 % 0x100 ∷ t % 0x100 ∷ []
 
 -- a number is a well-formed tag: its bytes are one whole tag
@@ -19,8 +19,8 @@ well_formed_tag t = t <? 0x1000000 and tag_size (tag_bytes t) =? length (tag_byt
 -- a length in as few bytes as it can be
 unfoldable pub length_bytes : ℕ → List ℕ
 length_bytes n =
-    if n <? 0x80 then n ∷ []
-    else if n <? 0x100 then 0x81 ∷ n ∷ []
+    when n <? 0x80 then n ∷ []
+    else when n <? 0x100 then 0x81 ∷ n ∷ []
     else 0x82 ∷ n / 0x100 ∷ n % 0x100 ∷ []
 
 -- an object: tag, length, value

@@ -1,7 +1,7 @@
 -- Length of a data object (document 01, "Reading an answer"; Book 3, annex B): one to three bytes, any value in them.
 -- Assumes nothing.
 use Rattle.std.specs.Prelude.{List, [], ◌∷◌, ℕ, ◌+◌, ◌*◌}
-use Rattle.basics.specs.Choice.{if◌then◌else◌, ◌<?◌, ◌=?◌}
+use Rattle.basics.specs.Choice.{when◌then◌else◌, ◌<?◌, ◌=?◌}
 use Rattle.tlv.specs.declared.LengthFront.{LengthFront}
 use Rattle.tlv.specs.declared.LengthFront.TheVariants.{Sized, Unsized}
 
@@ -24,7 +24,7 @@ length_after82 (a ∷ b ∷ s) = length_parsed (a * 256 + b) 3
 unfoldable pub length_at : List ℕ → LengthFront
 length_at [] = Unsized
 length_at (a ∷ s) =
-    if a <? 0x80 then length_parsed a 1
-    else if a =? 0x81 then length_after81 s
-    else if a =? 0x82 then length_after82 s
+    when a <? 0x80 then length_parsed a 1
+    else when a =? 0x81 then length_after81 s
+    else when a =? 0x82 then length_after82 s
     else Unsized

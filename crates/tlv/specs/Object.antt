@@ -1,7 +1,7 @@
 -- A data object at the front of some bytes (document 01, "Reading an answer"): tag, length and value, all inside them.
 -- Assumes nothing.
 use Rattle.std.specs.Prelude.{List, ℕ, ◌+◌, length, take, drop}
-use Rattle.basics.specs.Choice.{if◌then◌else◌, ◌≤?◌}
+use Rattle.basics.specs.Choice.{when◌then◌else◌, ◌≤?◌}
 use Rattle.tlv.specs.declared.Tag.{Tag}
 use Rattle.tlv.specs.declared.TagFront.{TagFront}
 use Rattle.tlv.specs.declared.TagFront.TheVariants.{Tagged, Untagged}
@@ -21,7 +21,7 @@ tlv_header t a n = record { tag = t; start = a; len = n; template = is_template 
 abbrev pub header_with_length : List ℕ → Tag → LengthFront → ObjectFront
 header_with_length s t Unsized = Broken
 header_with_length s t (Sized e) =
-    if t.size + e.size + e.len ≤? length s then Object (tlv_header t.number (t.size + e.size) e.len)
+    when t.size + e.size + e.len ≤? length s then Object (tlv_header t.number (t.size + e.size) e.len)
     else Broken
 
 -- a tag: its length follows it

@@ -2,7 +2,7 @@
 -- Assumes nothing.
 use Rattle.std.specs.Prelude.{Bool, true, false, List, [], ◌∷◌, ℕ}
 use Rattle.std.proofs.Math.Option.{Option, some, none}
-use Rattle.basics.specs.Choice.{if◌then◌else◌}
+use Rattle.basics.specs.Choice.{when◌then◌else◌}
 use Rattle.basics.specs.Recursion.{recurse_with_fuel_from_length}
 use Rattle.tlv.specs.declared.ObjectFront.{ObjectFront}
 use Rattle.tlv.specs.Object.{header_of, header_value, behind_object}
@@ -25,7 +25,7 @@ prepend_object o (some os) = some (o ∷ os)
 abbrev pub front_broken_if_template : ObjectFront → ObjectFront
 front_broken_if_template ObjectFront.Broken = ObjectFront.Broken
 front_broken_if_template (ObjectFront.Object h) =
-    if h.template then ObjectFront.Broken
+    when h.template then ObjectFront.Broken
     else ObjectFront.Object h
 
 -- the primitive object at the front of the bytes

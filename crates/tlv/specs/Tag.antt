@@ -1,7 +1,7 @@
 -- Tag of a data object (document 01, "Reading an answer"; Book 3, annex B): one to three bytes.
 -- Assumes nothing.
 use Rattle.std.specs.Prelude.{Bool, List, [], ◌∷◌, ℕ, ◌/◌, ◌%◌, take}
-use Rattle.basics.specs.Choice.{if◌then◌else◌, ◌≤?◌, ◌<?◌, ◌=?◌}
+use Rattle.basics.specs.Choice.{when◌then◌else◌, ◌≤?◌, ◌<?◌, ◌=?◌}
 use Rattle.basics.specs.Number.{big_endian_number, has_bit_of_weight}
 use Rattle.tlv.specs.declared.TagFront.{TagFront}
 use Rattle.tlv.specs.declared.TagFront.TheVariants.{Tagged, Untagged}
@@ -18,23 +18,23 @@ tag_later_byte_continues b = 0x80 ≤? b
 unfoldable pub tag_size_from_third_byte : List ℕ → ℕ
 tag_size_from_third_byte [] = 0
 tag_size_from_third_byte (b ∷ s) =
-    if tag_later_byte_continues b then 0
+    when tag_later_byte_continues b then 0
     else 3
 
 -- with a second byte, which is not 80
 unfoldable pub tag_size_from_second_byte : List ℕ → ℕ
 tag_size_from_second_byte [] = 0
 tag_size_from_second_byte (b ∷ s) =
-    if b =? 0x80 then 0
-    else if tag_later_byte_continues b then tag_size_from_third_byte s
+    when b =? 0x80 then 0
+    else when tag_later_byte_continues b then tag_size_from_third_byte s
     else 2
 
 -- how many bytes at the front are a tag, 0 where no whole tag is there; the first byte is not 00
 unfoldable pub tag_size : List ℕ → ℕ
 tag_size [] = 0
 tag_size (b ∷ s) =
-    if b =? 0 then 0
-    else if tag_first_byte_continues b then tag_size_from_second_byte s
+    when b =? 0 then 0
+    else when tag_first_byte_continues b then tag_size_from_second_byte s
     else 1
 
 -- a tag of k bytes that are the number n
@@ -44,14 +44,14 @@ tag_parsed n k = Tagged (record { number = n; size = k })
 -- the tag at the front: its bytes as one number, and their count
 unfoldable pub tag_at : List ℕ → TagFront
 tag_at s =
-    if tag_size s =? 0 then Untagged
+    when tag_size s =? 0 then Untagged
     else tag_parsed (big_endian_number (take (tag_size s) s)) (tag_size s)
 
 -- the first byte of a tag that is given as a number
 unfoldable pub tag_first_byte : ℕ → ℕ
 tag_first_byte t =
-    if t <? 0x100 then t
-    else if t <? 0x10000 then t / 0x100
+    when t <? 0x100 then t
+    else when t <? 0x10000 then t / 0x100
     else t / 0x10000
 
 -- a template has bit b6 set in its first byte

@@ -4,7 +4,7 @@
 -- Assumes nothing.
 use Rattle.std.specs.Prelude.{List, [], ◌∷◌, ℕ, zero, suc, ◌+◌}
 use Rattle.std.proofs.Math.Option.{Option, some, none}
-use Rattle.basics.specs.Choice.{if◌then◌else◌, ◌=?◌}
+use Rattle.basics.specs.Choice.{when◌then◌else◌, ◌=?◌}
 use Rattle.basics.specs.Recursion.{recurse_with_fuel_from_length}
 use Rattle.tlv.specs.declared.ObjectFront.{ObjectFront}
 use Rattle.tlv.specs.declared.ObjectFront.TheVariants.{Object, Broken}
@@ -41,7 +41,7 @@ next_in_template_shifted n (Inner h) = Inner (header_shifted n h)
 unfoldable pub next_in_template : List ℕ → NextInTemplate
 next_in_template [] = End
 next_in_template (b ∷ s) =
-    if b =? 0 then next_in_template_shifted 1 (next_in_template s)
+    when b =? 0 then next_in_template_shifted 1 (next_in_template s)
     else next_in_template_of_front (header_of (b ∷ s))
 
 -- a run after a leaf, or after a node; malformed where any part is
@@ -65,7 +65,7 @@ abbrev pub forest_of_object_then_rest : (ℕ → List ℕ → Option Forest) →
 forest_of_object_then_rest k levels s End = some end
 forest_of_object_then_rest k levels s Malformed = none
 forest_of_object_then_rest k levels s (Inner h) =
-    if h.template then forest_of_template_then_rest k levels h.tag (header_value s h) (behind_object s h)
+    when h.template then forest_of_template_then_rest k levels h.tag (header_value s h) (behind_object s h)
     else prepend_leaf h.tag (header_value s h) (k levels (behind_object s h))
 
 -- one step of the parse: the object that is next, and what k parses of the bytes in it and after it, by the levels
