@@ -3,7 +3,7 @@ root=sys.argv[1]; apply='--apply' in sys.argv
 m=collections.defaultdict(set)
 chain=[]
 for t in ['table.txt','late_table.txt','final_P1.txt','final_P3.txt','final_P4.txt']:
-    try: L=open('/work/team/rename/'+t,encoding='utf8')
+    try: L=open('rename/'+t,encoding='utf8')
     except OSError: continue
     step={}
     for l in L:
