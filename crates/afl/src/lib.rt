@@ -8,7 +8,7 @@ ghost use Rattle.afl.specs.Entry.{first_afl_entry, entry_record_count, valid_ent
 ghost use Rattle.afl.specs.Records.{afl_records as records_in, accepts_afl, afl_checked, afl_reason, record_at_index, kth_record_of_accepted_afl};
 
 // A record of a card: the file that it is in and its number there.
-#[derive(Drop)]
+#[derive(Clone, Copy)]
 pub struct CardRecord {
     pub sfi: u8,
     pub number: u8,
@@ -25,18 +25,18 @@ pub struct AflEntry {
 }
 
 // What an accepted AFL amounts to: how many records it names, 1 to 128.
-#[derive(Drop)]
+#[derive(Clone, Copy)]
 pub struct AflExtent {
     pub records: usize,
 }
 
-#[derive(Drop)]
+#[derive(Clone, Copy)]
 pub enum AflCheck {
     Accepted(AflExtent),
     Rejected,
 }
 
-#[derive(Drop)]
+#[derive(Clone, Copy)]
 pub enum RecordFound {
     At(CardRecord),
     Nothing,

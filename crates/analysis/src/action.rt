@@ -17,7 +17,7 @@ use crate::restrictions::IssuerCountryMatch;
 use crate::{byte, choice, cvm, digits, restrictions, tvr};
 
 // What the analysis finds before the choice: the three bytes of 9F34, the five of 95, and the CVM.
-#[derive(Drop)]
+#[derive(Clone, Copy)]
 pub struct AnalysisFindings {
     pub results: [u8; 3],
     pub bits: [u8; 5],

@@ -14,7 +14,7 @@ pub struct ActionCodes {
 }
 
 // The lowest bit that a stage holds, or that it holds none.
-#[derive(Drop)]
+#[derive(Clone, Copy)]
 pub enum LowestBit {
     Bit(usize),
     NoBit,

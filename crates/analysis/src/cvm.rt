@@ -35,7 +35,7 @@ pub struct CvmConditions {
 }
 
 // What is chosen: the three bytes of 9F34, the bits of bytes 1 and 3 of 95, and the CVM.
-#[derive(Drop)]
+#[derive(Clone, Copy)]
 pub struct CvmResult {
     pub code: u8,
     pub condition: u8,

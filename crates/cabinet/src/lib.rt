@@ -43,14 +43,14 @@ const STATE_SIZE: usize = RECORD_SIZE + 16;
 const NO_AMOUNT: u64 = 0xFFFFFFFFFFFFFFFF;
 
 // What remains of the cap, and what is reserved.
-#[derive(Drop)]
+#[derive(Clone, Copy)]
 pub struct Amounts {
     pub remaining: u64,
     pub reserved: u64,
 }
 
 // What a state reports besides the session's store.
-#[derive(Drop)]
+#[derive(Clone, Copy)]
 pub struct CabinetWithoutStore {
     pub phase: Phase,
     pub count: u8,
@@ -58,7 +58,7 @@ pub struct CabinetWithoutStore {
 }
 
 // Whether a call is taken, on what the state reports, or the word of its refusal.
-#[derive(Drop)]
+#[derive(Clone, Copy)]
 pub enum CabinetAdmission {
     Admitted(CabinetWithoutStore),
     Refused(u32),

@@ -62,4 +62,4 @@ lookup_word_length w = w % 0x10000
 
 -- ---- what holds of it, proved in proofs/Laws and proofs/Named, where both lists together have fewer than 2^32 bytes
 --   word-below     the word of a place is never all ones
---   word-start     the word's start, source and length are those of the tag's value (`word_Source`, `word_length`)
+--   word-start     the word's start, source and length are those of the tag's value (`word_source`, `word_length`)

@@ -27,14 +27,14 @@ const SITE: u64 = 0x10000;
 const DEFAULTS: u64 = 0x20000;
 
 // Where a value lies: its first byte, counted from 0, and how many there are.
-#[derive(Drop)]
+#[derive(Clone, Copy)]
 pub struct LookupSpan {
     pub start: usize,
     pub len: usize,
 }
 
 // What one list has of a tag: the value of the first object, or no object.
-#[derive(Drop)]
+#[derive(Clone, Copy)]
 pub enum LookupFound {
     At(LookupSpan),
     Absent,

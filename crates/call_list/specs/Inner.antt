@@ -1,6 +1,6 @@
 -- What the private functions of this crate promise, for the proofs of their callers: the call at the front of some
 -- bytes, how many calls they hold, and one call of a list, played in place. This file states no rule, and a reader of
--- the rules can skip it: `next-front` in proofs/Read ties it to `parse_calls_step`, and `Going-end` in proofs/Loop and
+-- the rules can skip it: `next-front` in proofs/Read ties it to `parse_calls_step`, and `going_end` in proofs/Loop and
 -- `runs_played` in proofs/Whole to `PlaysCalls` and `PlaysListInPublishedOrder` of Playing.antt.
 -- Assumes nothing.
 use Rattle.std.specs.Prelude.{◌≡◌, List, [], ◌++◌, ◌*◌, ◌≤◌, length, drop}

@@ -27,7 +27,7 @@ use session_record::{CallResult, Reply, Session};
 
 // What a run reports: all calls were played, the bytes are no list of calls, or `replies` is too short for the replies.
 // In the last two cases nothing is played and nothing is written.
-#[derive(Drop)]
+#[derive(Clone, Copy)]
 pub enum PlayResult {
     Played,
     Malformed,
@@ -35,7 +35,7 @@ pub enum PlayResult {
 }
 
 // The session after the last call that was played, and what the run reports.
-#[derive(Drop)]
+#[derive(Clone, Copy)]
 pub struct ListPlayed {
     pub session: Session,
     pub said: PlayResult,
@@ -50,21 +50,21 @@ pub struct CallHeader {
 }
 
 // What is at the front of some bytes.
-#[derive(Drop)]
+#[derive(Clone, Copy)]
 pub enum CallFront {
     Call(CallHeader),
     Malformed,
 }
 
 // How many calls some bytes hold.
-#[derive(Drop)]
+#[derive(Clone, Copy)]
 pub enum CallsCounted {
     Calls(usize),
     Malformed,
 }
 
 // A call that was played: the session after it, and how many bytes it takes up.
-#[derive(Drop)]
+#[derive(Clone, Copy)]
 pub struct CallPlayed {
     pub session: Session,
     pub size: usize,

@@ -40,13 +40,13 @@ const COMMAND_TEMPLATE: u8 = 0x83;
 const MOST_PDOL_BYTES: usize = 252;
 
 // A command at the front of the buffer: how many bytes it has.
-#[derive(Drop)]
+#[derive(Clone, Copy)]
 pub struct DolCommandSize {
     pub len: usize,
 }
 
 // What a call wrote: a command, or nothing.
-#[derive(Drop)]
+#[derive(Clone, Copy)]
 pub enum DolCommand {
     Command(DolCommandSize),
     NoCommand,

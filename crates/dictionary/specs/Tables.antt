@@ -1,5 +1,5 @@
 -- The table as a call binds it once and passes it down: its tags, and its rows' numbers.
--- This file states no rule of document 01. proofs/Lent ties it to specs/Rows: `Lent-found`, `lent_row`.
+-- This file states no rule of document 01. proofs/Lent ties it to specs/Rows: `lent_found`, `lent_row`.
 -- Assumes nothing.
 use Rattle.std.specs.Prelude.{◌≡◌, List, map, ℕ}
 use Rattle.basics.specs.Types.{TagList}

@@ -54,21 +54,21 @@ pub struct RowAttributes {
 }
 
 // Where a tag is in the table.
-#[derive(Drop)]
+#[derive(Clone, Copy)]
 pub enum RowFound {
     At(usize),
     Unknown,
 }
 
 // A search: where the tag is, and how many tags were probed.
-#[derive(Drop)]
+#[derive(Clone, Copy)]
 pub struct SearchResult {
     pub found: RowFound,
     pub probes: usize,
 }
 
 // Some rows of the table: from one on, up to one that is no more among them.
-#[derive(Drop)]
+#[derive(Clone, Copy)]
 pub struct RowRange {
     pub from: usize,
     pub to: usize,

@@ -19,14 +19,14 @@ pub struct DolEntry {
 }
 
 // What is at the front of a list: an entry and its size in the list, or none.
-#[derive(Drop)]
+#[derive(Clone, Copy)]
 pub enum DolEntryFront {
     Asked(DolEntry, usize),
     Broken,
 }
 
 // How many bytes a list requests: a total of at most 255, or a list that is broken or requests more.
-#[derive(Drop)]
+#[derive(Clone, Copy)]
 pub enum DolTotal {
     Total(usize),
     Unfit,

@@ -34,14 +34,14 @@ pub enum Stage {
 }
 
 // The stage that decided, or nothing where a store lacks what determines it.
-#[derive(Drop)]
+#[derive(Clone, Copy)]
 pub enum DecidingStage {
     At(Stage),
     Nothing,
 }
 
 // Whose code holds a bit.
-#[derive(Drop)]
+#[derive(Clone, Copy)]
 pub enum ActionCodeHolder {
     Nobody,
     Card,
@@ -50,7 +50,7 @@ pub enum ActionCodeHolder {
 }
 
 // A bit that forced a choice: 0 is byte 1 b8 of the TVR, 39 is byte 5 b1.
-#[derive(Drop)]
+#[derive(Clone, Copy)]
 pub struct ForcedChoiceCause {
     pub stage: Stage,
     pub bit: u8,
@@ -59,7 +59,7 @@ pub struct ForcedChoiceCause {
 
 // Why a session is where it is: refused with 25; ended with a reason other than 0; no choice yet; a cryptogram lower
 // than the one that was requested; a bit that forced the choice; or the stage consulted last, where no bit did.
-#[derive(Drop)]
+#[derive(Clone, Copy)]
 pub enum Explanation {
     Refused,
     Reason(u8),

@@ -25,14 +25,14 @@ pub const NONE: u64 = 0xFFFFFFFFFFFFFFFF;
 pub const BROKEN: u64 = 0xFFFFFFFFFFFFFFFE;
 
 // Where a value is: its first byte, counted from 0, and how many there are.
-#[derive(Drop)]
+#[derive(Clone, Copy)]
 pub struct ValueSpan {
     pub start: usize,
     pub len: usize,
 }
 
 // What a search finds: the value of the first object of the tag, no such object, or bytes that are malformed.
-#[derive(Drop)]
+#[derive(Clone, Copy)]
 pub enum TagFound {
     At(ValueSpan),
     Absent,

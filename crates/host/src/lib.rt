@@ -27,7 +27,7 @@ use session::LEAST_BUFFER;
 use session_record::{Phase, Transition};
 
 // Whether a call is taken, on the record of a head, or the word of its refusal.
-#[derive(Drop)]
+#[derive(Clone, Copy)]
 pub enum HostAdmission {
     Admitted(SessionRecordHead),
     Refused(u32),

@@ -56,7 +56,7 @@ use session_record::{CallResult, OutcomeParameters, Reply, Session};
 
 // What a journal is: accepted, with the number of its records; or the number of the first record that differs from what
 // the rules give, or of the one that is truncated. Records count from 1.
-#[derive(Drop)]
+#[derive(Clone, Copy)]
 pub enum JournalVerdict {
     Accepted(usize),
     Mismatch(usize),
@@ -75,7 +75,7 @@ pub struct JournalCheckState {
 
 // A checker after some bytes: the records seen, the one that is a mismatch included, and the part of a record
 // that is held.
-#[derive(Drop)]
+#[derive(Clone, Copy)]
 pub struct JournalChecker {
     pub standing: JournalCheckState,
     pub held: [u8; START_RECORD],
@@ -85,7 +85,7 @@ pub struct JournalChecker {
 
 // The one conforming record in place of a mismatching one, at the front of `bytes`; of size 0 where no record is a
 // mismatch, and where a call was expected, as then none or more than one would be conforming.
-#[derive(Drop)]
+#[derive(Clone, Copy)]
 pub struct ExpectedReplyRecord {
     pub bytes: [u8; COMMAND_RECORD],
     pub size: usize,

@@ -50,7 +50,7 @@ const ON_ENDED: u8 = 4;
 const ON_CHECKSUM: u8 = 5;
 
 // What the head reports of a phase: its number, and what it holds with its transaction limit, 0 where it holds nothing.
-#[derive(Drop)]
+#[derive(Clone, Copy)]
 pub struct PhaseFields {
     pub number: u8,
     pub datum: u8,
@@ -60,14 +60,14 @@ pub struct PhaseFields {
 }
 
 // The phase and the count that a record's head has.
-#[derive(Drop)]
+#[derive(Clone, Copy)]
 pub struct SessionRecordHead {
     pub phase: Phase,
     pub count: u8,
 }
 
 // What bytes hold: a record, or nothing.
-#[derive(Drop)]
+#[derive(Clone, Copy)]
 pub enum DecodedRecordHead {
     Record(SessionRecordHead),
     Nothing,

@@ -23,7 +23,7 @@ pub struct Bitmaps {
 
 // CVC3 (9F61), the Unpredictable Number UN (9F6A), whose digits are its nibbles, and the Application Transaction
 // Counter ATC (9F36).
-#[derive(Drop)]
+#[derive(Clone, Copy)]
 pub struct DigitValues {
     pub cvc3: u16,
     pub un: u32,
@@ -31,7 +31,7 @@ pub struct DigitValues {
 }
 
 // The discretionary data of a track: where they end, counted in nibbles, and how many digits they have.
-#[derive(Drop)]
+#[derive(Clone, Copy)]
 pub struct DiscretionaryData {
     pub end: usize,
     pub count: usize,

@@ -23,21 +23,21 @@ ghost use Rattle.personalise.specs.Read.{CardReadsBackAsObjectsIfWritten};
 ghost use Rattle.personalise.specs.Inner.{AreObjectsAllowedInRecord, RecordContentsWithin253Bytes, RecordsAndAflBuffersLargeEnough, result_from_entry_checks, result_from_record_checks, result_all_written};
 
 // Where an object goes: the number of its record and its own, both counted from 1.
-#[derive(Drop)]
+#[derive(Clone, Copy)]
 pub struct Placement {
     pub into: u8,
     pub object: u8,
 }
 
 // The number of the first that is bad, if any is.
-#[derive(Drop)]
+#[derive(Clone, Copy)]
 pub enum FirstBadItemNumber {
     At(usize),
     Nothing,
 }
 
 // How many bytes of records and of the AFL are written.
-#[derive(Drop)]
+#[derive(Clone, Copy)]
 pub struct WrittenSizes {
     pub records: usize,
     pub afl: usize,
@@ -45,7 +45,7 @@ pub struct WrittenSizes {
 
 // What a personalisation answers: all is written, or what is refused. Entries and records are counted from 1; a
 // placement that names record 0 makes 0 the number of a bad record.
-#[derive(Drop)]
+#[derive(Clone, Copy)]
 pub enum PersonaliseResult {
     Written(WrittenSizes),
     ShortRecords,

@@ -82,7 +82,7 @@ pub enum Awaited {
 }
 
 // What a reading reports of an answer.
-#[derive(Drop)]
+#[derive(Clone, Copy)]
 pub enum ResponseVerdict {
     Accepted,
     BadStatus,
@@ -91,14 +91,14 @@ pub enum ResponseVerdict {
 }
 
 // A reading: its verdict, and the count of objects in the answer's tree.
-#[derive(Drop)]
+#[derive(Clone, Copy)]
 pub struct Reading {
     pub verdict: ResponseVerdict,
     pub objects: usize,
 }
 
 // The readings of one answer by both readers.
-#[derive(Drop)]
+#[derive(Clone, Copy)]
 pub struct BothReadings {
     pub recursive: Reading,
     pub flat: Reading,
@@ -106,14 +106,14 @@ pub struct BothReadings {
 
 // How the reading of an answer begins: with so many bytes of body, or with a verdict where length, status or
 // file decides.
-#[derive(Drop)]
+#[derive(Clone, Copy)]
 pub enum ReadingBeginning {
     Body(usize),
     Decided(ResponseVerdict),
 }
 
 // The one object that a body is, with no byte after it.
-#[derive(Drop)]
+#[derive(Clone, Copy)]
 pub enum OuterObject {
     Template(TlvHeader),
     Primitive(TlvHeader),
@@ -121,42 +121,42 @@ pub enum OuterObject {
 }
 
 // A template's contents: where they start and end in the bytes.
-#[derive(Drop)]
+#[derive(Clone, Copy)]
 pub struct ContentsRange {
     pub start: usize,
     pub end: usize,
 }
 
 // How many objects were visited, templates included, and how many of them, the primitive ones, are listed.
-#[derive(Drop)]
+#[derive(Clone, Copy)]
 pub struct VisitTally {
     pub objects: usize,
     pub items: usize,
 }
 
 // What a walk over a template's contents reports.
-#[derive(Drop)]
+#[derive(Clone, Copy)]
 pub enum TemplateWalkResult {
     Whole(VisitTally),
     Broken,
 }
 
 // The objects of an answer, which are to be judged; or a reading where the answer is decided without them.
-#[derive(Drop)]
+#[derive(Clone, Copy)]
 pub enum ItemListing {
     Objects(VisitTally),
     Decided(Reading),
 }
 
 // What an answer is before a walk: a template, whose contents are to be walked, or listed without one.
-#[derive(Drop)]
+#[derive(Clone, Copy)]
 pub enum OpenedResponse {
     Template(TlvHeader),
     Listed(ItemListing),
 }
 
 // The verdict on an object before the store is asked: skipped, not allowed, or a value for a row.
-#[derive(Drop)]
+#[derive(Clone, Copy)]
 pub enum ItemVerdict {
     Skipped,
     NotAllowed,
@@ -164,14 +164,14 @@ pub enum ItemVerdict {
 }
 
 // The verdict on all objects: so many values are pending, or one object is not allowed.
-#[derive(Drop)]
+#[derive(Clone, Copy)]
 pub enum ItemsVerdict {
     Pending(usize),
     NotAllowed,
 }
 
 // A reading, and how many values are pending: none, unless all objects are allowed.
-#[derive(Drop)]
+#[derive(Clone, Copy)]
 pub struct PendingReading {
     pub reading: Reading,
     pub pending: usize,

@@ -58,20 +58,20 @@ pub const CID_TC: u8 = 1;
 pub const CID_ARQC: u8 = 2;
 
 // A test that a step makes before it goes on. Which reason a failed one gives is at the step that makes it.
-#[derive(Drop)]
+#[derive(Clone, Copy)]
 pub enum Check {
     Passed,
     Failed,
 }
 
 // What a cryptogram decides: an outcome, or nothing where the one requested does not allow its type.
-#[derive(Drop)]
+#[derive(Clone, Copy)]
 pub enum CryptogramOutcome {
     On(Decision),
     Nothing,
 }
 
-#[derive(Drop)]
+#[derive(Clone, Copy)]
 pub struct Decision {
     pub outcome: Outcome,
 }

@@ -127,14 +127,14 @@ pub struct Reply {
 }
 
 // The position of a walk over the store: at a row, and at the byte where its place starts.
-#[derive(Drop)]
+#[derive(Clone, Copy)]
 pub struct RowPosition {
     pub row: usize,
     pub at: usize,
 }
 
 // What a call returns besides the store.
-#[derive(Drop)]
+#[derive(Clone, Copy)]
 pub struct Transition {
     pub phase: Phase,
     pub count: u8,

@@ -16,7 +16,7 @@ use session_record::Refusal;
 use tlv::ObjectFront;
 
 // What a loading reports of the start bytes.
-#[derive(Drop)]
+#[derive(Clone, Copy)]
 pub enum LoadResult {
     Loaded,
     Refused(Refusal),

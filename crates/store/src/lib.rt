@@ -24,7 +24,7 @@ pub struct Store {
 const START: u32 = 256;
 
 // A row's place: where it starts, and the greatest length of its value.
-#[derive(Drop)]
+#[derive(Clone, Copy)]
 pub struct RowOffsetAndMaxLength {
     pub at: usize,
     pub most: usize,

@@ -14,7 +14,7 @@ use dictionary::SIZE;
 use reading::{Awaited, Reading, Sfi};
 
 // The answer that is awaited, or none.
-#[derive(Drop)]
+#[derive(Clone, Copy)]
 pub enum AwaitedAnswer {
     Answer(Awaited),
     Nothing,

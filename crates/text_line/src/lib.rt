@@ -18,24 +18,24 @@ ghost use Rattle.text_line.specs.Line.{line_word_of, line_if_only_blanks_follow 
 ghost use Rattle.text_line.specs.Inner.{hex_pair_at_front};
 
 // How many bytes a call brings: the front of the caller's slice.
-#[derive(Drop)]
+#[derive(Clone, Copy)]
 pub struct LineByteCount {
     pub size: usize,
 }
 
 // A requested length of the command buffer.
-#[derive(Drop)]
+#[derive(Clone, Copy)]
 pub struct LineBufferSize {
     pub bytes: usize,
 }
 
 // What is wrong with a line.
-#[derive(Drop)]
+#[derive(Clone, Copy)]
 pub struct LineProblem {
     pub number: u8,
 }
 
-#[derive(Drop)]
+#[derive(Clone, Copy)]
 pub enum Line {
     Blank,
     Start(LineByteCount),
@@ -100,7 +100,7 @@ enum HexPair {
 }
 
 // How many bytes were decoded, and the number of the problem that stopped it, 0 for none.
-#[derive(Drop)]
+#[derive(Clone, Copy)]
 pub struct HexDecoded {
     pub size: usize,
     pub problem: u8,

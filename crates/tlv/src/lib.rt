@@ -15,28 +15,28 @@ ghost use Rattle.tlv.specs.Padding.{PaddingDoesNotChangeParse, LeadingPaddingEnd
 ghost use Rattle.tlv.specs.Primitives.{primitive_at_front, primitive_objects, are_primitive_objects_parsed};
 
 // A tag: its bytes read as one number, and how many they are.
-#[derive(Drop)]
+#[derive(Clone, Copy)]
 pub struct Tag {
     pub number: u32,
     pub size: usize,
 }
 
 // What is read where a tag is expected: a whole one, or none.
-#[derive(Drop)]
+#[derive(Clone, Copy)]
 pub enum TagFront {
     Tagged(Tag),
     Untagged,
 }
 
 // A length: its value, and how many bytes carry it.
-#[derive(Drop)]
+#[derive(Clone, Copy)]
 pub struct TlvLength {
     pub len: usize,
     pub size: usize,
 }
 
 // What is read where a length is expected: a whole one, or none.
-#[derive(Drop)]
+#[derive(Clone, Copy)]
 pub enum LengthFront {
     Sized(TlvLength),
     Unsized,
@@ -44,7 +44,7 @@ pub enum LengthFront {
 
 // An object's header: the tag, where the value starts, how many bytes it has, and whether the tag is a template's
 // and of the private class.
-#[derive(Drop)]
+#[derive(Clone, Copy)]
 pub struct TlvHeader {
     pub tag: u32,
     pub start: usize,
@@ -54,14 +54,14 @@ pub struct TlvHeader {
 }
 
 // What is at the front of some bytes: an object that lies whole inside them, or none.
-#[derive(Drop)]
+#[derive(Clone, Copy)]
 pub enum ObjectFront {
     Object(TlvHeader),
     Broken,
 }
 
 // What is next within a template's contents: nothing more, an object, or no object.
-#[derive(Drop)]
+#[derive(Clone, Copy)]
 pub enum NextInTemplate {
     End,
     Inner(TlvHeader),
