@@ -161,7 +161,7 @@ fn read_part(rt: &HostRuntime, state: CheckProgress, source: &mut impl Read) -> 
 }
 
 fn fed(checker: JournalChecker) -> CheckProgress {
-    let going = !is_mismatch(&checker);
+    let going = !is_mismatch(checker);
     CheckProgress {
         checker,
         going,
@@ -177,21 +177,11 @@ fn ended(state: CheckProgress, failed: bool) -> CheckProgress {
 }
 
 // Whether a record was a mismatch; then nothing after it is examined.
-fn is_mismatch(checker: &JournalChecker) -> bool {
-    let verdict = journal::finish(same(checker));
+fn is_mismatch(checker: JournalChecker) -> bool {
+    let verdict = journal::finish(checker);
     match verdict {
         JournalVerdict::Mismatch(_) => true,
         _ => false,
-    }
-}
-
-// A checker that stands where this one does.
-fn same(checker: &JournalChecker) -> JournalChecker {
-    JournalChecker {
-        standing: checker.standing,
-        held: checker.held,
-        length: checker.length,
-        records: checker.records,
     }
 }
 
@@ -203,7 +193,7 @@ fn shown(rt: &HostRuntime, state: CheckProgress) -> u8 {
         return NO_VERDICT;
     }
     let checker = state.checker;
-    let verdict = journal::finish(same(&checker));
+    let verdict = journal::finish(checker);
     match verdict {
         JournalVerdict::Accepted(n) => {
             print::print_text(rt, b"accepted, ");
