@@ -1,10 +1,10 @@
 -- Worked AFLs, by computation: the one of document 01's bench, two entries in order, and each rule at its edge.
 -- Assumes nothing.
+use Rattle.std.specs.Prelude.{Some}
 use mathlib.Core.Path.{◌≡◌, refl}
 use mathlib.Core.Bool.{true, false}
 use mathlib.Core.List.{[], ◌∷◌, map}
 use Rattle.basics.specs.Choice.{if, both, every}
-use Rattle.afl.specs.declared.RecordFound.TheVariants.{At}
 use Rattle.afl.specs.Entry.{valid_entry}
 use Rattle.afl.specs.Records.{afl_entries, afl_length_is_multiple_of4, consecutive_records, records_of_entries}
 use Rattle.afl.specs.Records.{sum_over_entries, afl_records, accepts_afl, record_at_index, kth_record_from_one}
@@ -16,7 +16,7 @@ two_entries : afl_records (0x08 ∷ 1 ∷ 2 ∷ 1 ∷ 0x10 ∷ 3 ∷ 3 ∷ 0 ∷
 unfolding afl_entries records_of_entries consecutive_records
 two_entries = refl
 
-third : kth_record_of_accepted_afl (0x08 ∷ 1 ∷ 2 ∷ 1 ∷ 0x10 ∷ 3 ∷ 3 ∷ 0 ∷ []) 3 ≡ At (record { sfi = 2; number = 3 })
+third : kth_record_of_accepted_afl (0x08 ∷ 1 ∷ 2 ∷ 1 ∷ 0x10 ∷ 3 ∷ 3 ∷ 0 ∷ []) 3 ≡ Some (record { sfi = 2; number = 3 })
 unfolding kth_record_of_accepted_afl kth_record_from_one record_at_index accepts_afl afl_length_is_multiple_of4 afl_entries every
     valid_entry both if records_of_entries sum_over_entries consecutive_records
 third = refl

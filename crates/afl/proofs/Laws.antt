@@ -1,6 +1,7 @@
 -- What callers of this crate may rely on, over every list: what an entry that satisfies the rules is, what an accepted
 -- AFL is, and which record is the k-th.
 -- Assumes nothing.
+use Rattle.std.specs.Prelude.{Option, Some, None}
 use mathlib.Core.Path.{◌≡◌, refl, sym, ap, ◌∙◌}
 use mathlib.Core.Bool.{true, false}
 use mathlib.Core.Logic.{inl, inr}
@@ -13,11 +14,8 @@ use borrow.Author.Tests.{leb-true, leb-false, eqb-true, le-leb, eq-eqb}
 use Rattle.basics.specs.Choice.{every}
 use Rattle.basics.specs.Reason.{reason_afl_invalid, reason_unless}
 use Rattle.basics.proofs.Laws.{if_yes, if_no, bool_cases, both_yes, both_left, both_right}
-use Rattle.afl.specs.declared.AflCheck.{AflCheck}
-use Rattle.afl.specs.declared.AflCheck.TheVariants.{Accepted, Rejected}
 use Rattle.afl.specs.declared.AflExtent.{AflExtent}
 use Rattle.afl.specs.declared.AflEntry.{AflEntry}
-use Rattle.afl.specs.declared.RecordFound.TheVariants.{At, Nothing}
 use Rattle.afl.specs.declared.CardRecord.{CardRecord}
 use Rattle.afl.specs.Entry.{entry_sfi, entry_record_count, valid_entry}
 use Rattle.afl.specs.Records.{afl_entries, afl_length_is_multiple_of4, sum_over_entries, afl_records, afl_record_count}
@@ -105,15 +103,15 @@ module _ (s : List ℕ) (a : accepts_afl s ≡ true) where
 
 -- ---- a check's answer
 
-pub checked_yes : (s : List ℕ) → accepts_afl s ≡ true → afl_checked s ≡ Accepted (record { records = afl_record_count s })
+pub checked_yes : (s : List ℕ) → accepts_afl s ≡ true → afl_checked s ≡ Some (record { records = afl_record_count s })
 unfolding afl_checked
 checked_yes s a = if_yes _ _ a
 
-pub checked_no : (s : List ℕ) → accepts_afl s ≡ false → afl_checked s ≡ Rejected
+pub checked_no : (s : List ℕ) → accepts_afl s ≡ false → afl_checked s ≡ None
 unfolding afl_checked
 checked_no s a = if_no _ _ a
 
-pub is_accepted : (s : List ℕ) (x : AflExtent) → afl_checked s ≡ Accepted x
+pub is_accepted : (s : List ℕ) (x : AflExtent) → afl_checked s ≡ Some x
     → (accepts_afl s ≡ true) × (x ≡ record { records = afl_record_count s })
 is_accepted s x e =
     elim (bool_cases (accepts_afl s)) [
@@ -121,7 +119,7 @@ is_accepted s x e =
       | inr n ↦ (let f = checked_no s n in let z : ◌≡◌ {A = ℕ} 0 1 = cc in absurd (omega arith))
     ]
 
-pub is_rejected : (s : List ℕ) → afl_checked s ≡ Rejected → accepts_afl s ≡ false
+pub is_rejected : (s : List ℕ) → afl_checked s ≡ None → accepts_afl s ≡ false
 is_rejected s e =
     elim (bool_cases (accepts_afl s)) [
       | inl y ↦ (let f = checked_yes s y in let z : ◌≡◌ {A = ℕ} 0 1 = cc in absurd (omega arith))
@@ -137,7 +135,7 @@ checked_number s =
     ]
 
 -- what a check states of its answer
-pub checked_says : (s : List ℕ) (r : AflCheck) → afl_checked s ≡ r
+pub checked_says : (s : List ℕ) (r : Option AflExtent) → afl_checked s ≡ r
     → (r ≡ afl_checked s) × (afl_reason r ≡ reason_unless (accepts_afl s) reason_afl_invalid)
 checked_says s r e = (sym e, ap afl_reason (sym e) ∙ checked_number s)
 
@@ -149,7 +147,7 @@ unfolding kth_record_from_one
 kth_nth zero l h = absurd (omega arith)
 kth_nth (suc i) l h = let e : suc i - 1 ≡ i = omega arith in rw e
 
-pub kth_zero : (k : ℕ) (l : List CardRecord) → k ≡ 0 → kth_record_from_one k l ≡ Nothing
+pub kth_zero : (k : ℕ) (l : List CardRecord) → k ≡ 0 → kth_record_from_one k l ≡ None
 unfolding kth_record_from_one
 kth_zero k l e = rw e
 
@@ -159,17 +157,17 @@ pub record_yes : (s : List ℕ) (k : ℕ) → accepts_afl s ≡ true → kth_rec
 unfolding kth_record_of_accepted_afl
 record_yes s k a = if_yes _ _ a
 
-pub record_no : (s : List ℕ) (k : ℕ) → accepts_afl s ≡ false → kth_record_of_accepted_afl s k ≡ Nothing
+pub record_no : (s : List ℕ) (k : ℕ) → accepts_afl s ≡ false → kth_record_of_accepted_afl s k ≡ None
 unfolding kth_record_of_accepted_afl
 record_no s k a = if_no _ _ a
 
 -- every k from 1 to R has its record, and no other k
 pub record_there : (s : List ℕ) (k : ℕ) (d : CardRecord) → accepts_afl s ≡ true → 1 ≤ k → k ≤ afl_record_count s
-    → kth_record_of_accepted_afl s k ≡ At (get_or (afl_records s) (k - 1) d)
+    → kth_record_of_accepted_afl s k ≡ Some (get_or (afl_records s) (k - 1) d)
 record_there s k d a lo hi = record_yes s k a ∙ kth_nth k (afl_records s) lo ∙ nth_there (k - 1) (afl_records s) d
     (omega (arith, records_length s))
 
-pub record_zero : (s : List ℕ) → kth_record_of_accepted_afl s 0 ≡ Nothing
+pub record_zero : (s : List ℕ) → kth_record_of_accepted_afl s 0 ≡ None
 record_zero s =
     elim (bool_cases (accepts_afl s)) [
       | inl y ↦ record_yes s 0 y ∙ kth_zero 0 (afl_records s) refl
@@ -177,7 +175,7 @@ record_zero s =
           record_no s 0 n
     ]
 
-pub record_past : (s : List ℕ) (k : ℕ) → afl_record_count s < k → kth_record_of_accepted_afl s k ≡ Nothing
+pub record_past : (s : List ℕ) (k : ℕ) → afl_record_count s < k → kth_record_of_accepted_afl s k ≡ None
 record_past s k h =
     elim (bool_cases (accepts_afl s)) [
       | inl y ↦ record_yes s k y ∙ kth_nth k (afl_records s) (omega arith) ∙ nth_none (k - 1) (afl_records s)
@@ -185,7 +183,7 @@ record_past s k h =
       | inr n ↦ record_no s k n
     ]
 
-module _ (s : List ℕ) (k : ℕ) (r : CardRecord) (e : kth_record_of_accepted_afl s k ≡ At r) where
+module _ (s : List ℕ) (k : ℕ) (r : CardRecord) (e : kth_record_of_accepted_afl s k ≡ Some r) where
   pub record_accepted : accepts_afl s ≡ true
   record_accepted =
       elim (bool_cases (accepts_afl s)) [
@@ -202,7 +200,7 @@ module _ (s : List ℕ) (k : ℕ) (r : CardRecord) (e : kth_record_of_accepted_a
             not_at e (record_yes s k record_accepted ∙ kth_zero k (afl_records s) (omega arith)))
       ]
 
-  record_nth : record_at_index (k - 1) (afl_records s) ≡ At r
+  record_nth : record_at_index (k - 1) (afl_records s) ≡ Some r
   record_nth = sym (record_yes s k record_accepted ∙ kth_nth k (afl_records s) record_from) ∙ e
 
   pub record_inside : (1 ≤ k) × (k ≤ afl_record_count s)

@@ -1,6 +1,7 @@
 -- The entries and the records of a list of bytes: four bytes at the front are one entry, whole entries join, and there
 -- are as many records as the entries' counts sum to. By clauses on the list, as the definitions go.
 -- Assumes nothing.
+use Rattle.std.specs.Prelude.{Option, Some, None}
 use mathlib.Core.Path.{◌≡◌, refl, sym, ap, ◌∙◌}
 use mathlib.Core.Bool.{Bool, true, false}
 use mathlib.Core.Logic.{inl, inr}
@@ -8,15 +9,13 @@ use mathlib.Core.List.{List, [], ◌∷◌, ◌++◌, append_assoc}
 use Prim.Native.Nat.{ℕ, zero, suc, ◌+◌, ◌-◌, ◌%◌, ◌≤◌, ◌<◌}
 use native.Mathlib.Nat.{zero-add, add-zero}
 use native.Mathlib.Omega.{arith}
-use lib.Dec.{eqb, leb, ltb}
-use lib.ListN.{length, get_or, take, drop, length-append, length-drop}
+use lib.Dec.{leb, ltb}
+use lib.ListN.{length, get_or, take, drop, length-append}
 use borrow.Author.Tests.{eqb-true, eq-eqb, ne_eqb, le-leb, ltb-true, ltb-false}
 use Rattle.basics.specs.Choice.{every}
 use Rattle.basics.proofs.Laws.{bool_cases, both_yes, both_left, both_right}
 use Rattle.afl.specs.declared.AflEntry.{AflEntry}
 use Rattle.afl.specs.declared.CardRecord.{CardRecord}
-use Rattle.afl.specs.declared.RecordFound.{RecordFound}
-use Rattle.afl.specs.declared.RecordFound.TheVariants.{At, Nothing}
 use Rattle.afl.specs.Entry.{first_afl_entry, entry_sfi, entry_record_count}
 use Rattle.afl.specs.Records.{afl_entries, afl_length_is_multiple_of4, consecutive_records, entry_records}
 use Rattle.afl.specs.Records.{records_of_entries, sum_over_entries, afl_records, afl_record_count, record_at_index}
@@ -53,12 +52,6 @@ whole_of s e = eq-eqb (length s % 4) 0 e
 pub part_of : (s : List ℕ) → (length s % 4 ≡ 0 → ⊥) → afl_length_is_multiple_of4 s ≡ false
 unfolding afl_length_is_multiple_of4
 part_of s e = ne_eqb (length s % 4) 0 e
-
-pub whole_front : (s : List ℕ) → 4 ≤ length s → afl_length_is_multiple_of4 s ≡ afl_length_is_multiple_of4 (drop 4 s)
-unfolding afl_length_is_multiple_of4
-whole_front s h =
-    let e : length s % 4 ≡ length (drop 4 s) % 4 = rw length-drop (omega arith) in
-    ap (λ (n : ℕ). eqb n 0) e
 
 -- the entries of whole entries with more after them
 pub entries_join : (s t : List ℕ) → length s % 4 ≡ 0 → afl_entries (s ++ t) ≡ afl_entries s ++ afl_entries t
@@ -101,19 +94,10 @@ records_of_length (e ∷ x) =
 pub records_length : (s : List ℕ) → length (afl_records s) ≡ afl_record_count s
 records_length s = records_of_length (afl_entries s)
 
-pub records_front : (s : List ℕ) → 4 ≤ length s → afl_records s ≡ entry_records (first_afl_entry s) ++ afl_records (drop 4 s)
-unfolding records_of_entries
-records_front s h = ap records_of_entries (entries_front s h)
-
-pub total_front : (s : List ℕ) → 4 ≤ length s → afl_record_count s ≡ entry_record_count (first_afl_entry s)
-    + afl_record_count (drop 4 s)
-unfolding sum_over_entries
-total_front s h = ap (sum_over_entries entry_record_count) (entries_front s h)
-
 -- ---- a place in a list of records
 
 -- nothing is no record
-pub not_at : {A : Type 0} {f : RecordFound} {r : CardRecord} → f ≡ At r → f ≡ Nothing → A
+pub not_at : {A : Type 0} {f : Option CardRecord} {r : CardRecord} → f ≡ Some r → f ≡ None → A
 not_at e n = let z : ◌≡◌ {A = ℕ} 0 1 = cc in absurd (omega arith)
 
 nth_left : (i : ℕ) (a b : List CardRecord) → i < length a → record_at_index i (a ++ b) ≡ record_at_index i a
@@ -129,18 +113,18 @@ nth_right i (r ∷ a) b =
     let e : suc (length a) + i ≡ suc (length a + i) = omega arith in
     rw e (nth_right i a b)
 
-nth_run : (i f k n : ℕ) → i < n → record_at_index i (consecutive_records f k n) ≡ At (record { sfi = f; number = k + i })
+nth_run : (i f k n : ℕ) → i < n → record_at_index i (consecutive_records f k n) ≡ Some (record { sfi = f; number = k + i })
 unfolding record_at_index consecutive_records
 nth_run i f k zero h = absurd (omega arith)
 nth_run zero f k (suc n) h = rw add-zero
 nth_run (suc i) f k (suc n) h =
     let e : k + 1 + i ≡ k + suc i = omega arith in
-    nth_run i f (k + 1) n (omega arith) ∙ ap (λ (m : ℕ). At (record { sfi = f; number = m })) e
+    nth_run i f (k + 1) n (omega arith) ∙ ap (λ (m : ℕ). Some (record { sfi = f; number = m })) e
 
 -- an entry's records before others: a place below its count is its own, any other one of theirs
 module _ (e : AflEntry) (l : List CardRecord) (i : ℕ) where
   pub nth_named : i < entry_record_count e → record_at_index i (entry_records e ++ l)
-      ≡ At (record { sfi = entry_sfi e; number = e.first + i })
+      ≡ Some (record { sfi = entry_sfi e; number = e.first + i })
   nth_named h = nth_left i (entry_records e) l (rw (length_named e) h) ∙ nth_run i (entry_sfi e) e.first
       (entry_record_count e) h
 
@@ -150,33 +134,33 @@ module _ (e : AflEntry) (l : List CardRecord) (i : ℕ) where
       let j : i ≡ length (entry_records e) + (i - entry_record_count e) = rw (length_named e) (omega arith) in
       ap (λ (m : ℕ). record_at_index m (entry_records e ++ l)) j ∙ nth_right (i - entry_record_count e) (entry_records e) l
 
-pub nth_split : (i : ℕ) (l : List CardRecord) (r : CardRecord) → record_at_index i l ≡ At r
+pub nth_split : (i : ℕ) (l : List CardRecord) (r : CardRecord) → record_at_index i l ≡ Some r
     → l ≡ take i l ++ (r ∷ drop (suc i) l)
 unfolding record_at_index
 nth_split i [] r e = not_at e refl
 nth_split zero (x ∷ l) r e = let y : x ≡ r = cc in ap (λ (q : CardRecord). q ∷ l) y
 nth_split (suc i) (x ∷ l) r e = ap (λ (q : List CardRecord). x ∷ q) (nth_split i l r e)
 
-pub nth_take : (i : ℕ) (l : List CardRecord) (r : CardRecord) → record_at_index i l ≡ At r
+pub nth_take : (i : ℕ) (l : List CardRecord) (r : CardRecord) → record_at_index i l ≡ Some r
     → take (suc i) l ≡ take i l ++ (r ∷ [])
 unfolding record_at_index
 nth_take i [] r e = not_at e refl
 nth_take zero (x ∷ l) r e = let y : x ≡ r = cc in ap (λ (q : CardRecord). q ∷ []) y
 nth_take (suc i) (x ∷ l) r e = ap (λ (q : List CardRecord). x ∷ q) (nth_take i l r e)
 
-pub nth_inside : (i : ℕ) (l : List CardRecord) (r : CardRecord) → record_at_index i l ≡ At r → i < length l
+pub nth_inside : (i : ℕ) (l : List CardRecord) (r : CardRecord) → record_at_index i l ≡ Some r → i < length l
 unfolding record_at_index
 nth_inside i [] r e = not_at e refl
 nth_inside zero (x ∷ l) r e = omega arith
 nth_inside (suc i) (x ∷ l) r e = let h = nth_inside i l r e in omega arith
 
-pub nth_there : (i : ℕ) (l : List CardRecord) (d : CardRecord) → i < length l → record_at_index i l ≡ At (get_or l i d)
+pub nth_there : (i : ℕ) (l : List CardRecord) (d : CardRecord) → i < length l → record_at_index i l ≡ Some (get_or l i d)
 unfolding record_at_index
 nth_there i [] d h = absurd (omega arith)
 nth_there zero (x ∷ l) d h = refl
 nth_there (suc i) (x ∷ l) d h = nth_there i l d (omega arith)
 
-pub nth_none : (i : ℕ) (l : List CardRecord) → length l ≤ i → record_at_index i l ≡ Nothing
+pub nth_none : (i : ℕ) (l : List CardRecord) → length l ≤ i → record_at_index i l ≡ None
 unfolding record_at_index
 nth_none i [] h = refl
 nth_none zero (x ∷ l) h = absurd (omega arith)
@@ -188,7 +172,7 @@ nth_none (suc i) (x ∷ l) h = nth_none i l (omega arith)
 pub records_all : (p : AflEntry → Bool) (Q : CardRecord → Type 0)
     → ((e : AflEntry) → p e ≡ true → (i : ℕ) → i < entry_record_count e
     → Q (record { sfi = entry_sfi e; number = e.first + i }))
-    → (x : List AflEntry) → every p x ≡ true → (i : ℕ) (r : CardRecord) → record_at_index i (records_of_entries x) ≡ At r
+    → (x : List AflEntry) → every p x ≡ true → (i : ℕ) (r : CardRecord) → record_at_index i (records_of_entries x) ≡ Some r
     → Q r
 unfolding every records_of_entries record_at_index
 records_all p Q q [] t i r h = not_at h refl

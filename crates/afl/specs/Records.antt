@@ -1,16 +1,13 @@
 -- The AFL, tag 94, as a whole (document 01, "Commands and steps", Locator, "What demand 3 counts"): its entries, the
 -- records that it names in the published order, and when it is accepted. An AFL is any list of bytes.
 -- Assumes nothing.
-use Rattle.std.specs.Prelude.{Bool, List, [], ◌∷◌, ◌++◌, ℕ, zero, suc, ◌+◌, ◌%◌, length}
+use Rattle.afl.specs.declared.AflExtent.{AflExtent}
+use Rattle.std.specs.Prelude.{Bool, List, [], ◌∷◌, ◌++◌, ℕ, zero, suc, ◌+◌, ◌%◌, length, Option, Some, None}
 use Rattle.basics.specs.Types.{AflBytes, Count, Reason, RecordNumber, SfiNumber}
 use Rattle.basics.specs.Choice.{when◌then◌else◌, ◌and◌, ◌=?◌, every}
 use Rattle.basics.specs.Reason.{reason_none, reason_afl_invalid}
 use Rattle.afl.specs.declared.AflEntry.{AflEntry}
 use Rattle.afl.specs.declared.CardRecord.{CardRecord}
-use Rattle.afl.specs.declared.AflCheck.{AflCheck}
-use Rattle.afl.specs.declared.AflCheck.TheVariants.{Accepted, Rejected}
-use Rattle.afl.specs.declared.RecordFound.{RecordFound}
-use Rattle.afl.specs.declared.RecordFound.TheVariants.{At, Nothing}
 use Rattle.afl.specs.Entry.{afl_entry, entry_sfi, entry_record_count, valid_entry}
 use Rattle.basics.specs.Number.{between}
 
@@ -58,26 +55,26 @@ unfoldable pub accepts_afl : AflBytes → Bool
 accepts_afl s = afl_length_is_multiple_of4 s and every valid_entry (afl_entries s) and between 1 (afl_record_count s) 128
 
 -- what a check of an AFL reports: R if it is accepted
-unfoldable pub afl_checked : AflBytes → AflCheck
-afl_checked s = when accepts_afl s then Accepted (record { records = afl_record_count s }) else Rejected
+unfoldable pub afl_checked : AflBytes → Option AflExtent
+afl_checked s = when accepts_afl s then Some (record { records = afl_record_count s }) else None
 
 -- the number of a check's answer (document 01, "Calls and their numbers"): 0 where it gives no reason, else 5, an AFL
 -- that breaks its rules
-abbrev pub afl_reason : AflCheck → Reason
-afl_reason (Accepted e) = reason_none
-afl_reason Rejected = reason_afl_invalid
+abbrev pub afl_reason : Option AflExtent → Reason
+afl_reason (Some e) = reason_none
+afl_reason None = reason_afl_invalid
 
 -- the record at a place of a list, places counted from 0
-unfoldable pub record_at_index : ℕ → List CardRecord → RecordFound
-record_at_index i [] = Nothing
-record_at_index zero (r ∷ l) = At r
+unfoldable pub record_at_index : ℕ → List CardRecord → Option CardRecord
+record_at_index i [] = None
+record_at_index zero (r ∷ l) = Some r
 record_at_index (suc i) (r ∷ l) = record_at_index i l
 
 -- the k-th record of a list, k from 1
-unfoldable pub kth_record_from_one : RecordNumber → List CardRecord → RecordFound
-kth_record_from_one zero l = Nothing
+unfoldable pub kth_record_from_one : RecordNumber → List CardRecord → Option CardRecord
+kth_record_from_one zero l = None
 kth_record_from_one (suc i) l = record_at_index i l
 
 -- the k-th record of an accepted AFL, k from 1 to R
-unfoldable pub kth_record_of_accepted_afl : AflBytes → RecordNumber → RecordFound
-kth_record_of_accepted_afl s k = when accepts_afl s then kth_record_from_one k (afl_records s) else Nothing
+unfoldable pub kth_record_of_accepted_afl : AflBytes → RecordNumber → Option CardRecord
+kth_record_of_accepted_afl s k = when accepts_afl s then kth_record_from_one k (afl_records s) else None

@@ -1,6 +1,7 @@
 -- TVR bits and the choice on both sides of each rule's edge, by computation: each needed bit alone, and all
 -- bits but it.
 -- Assumes nothing.
+use Rattle.std.specs.Prelude.{Some, None}
 use mathlib.Core.Path.{◌≡◌, refl}
 use mathlib.Core.Bool.{Bool, true, false}
 use mathlib.Core.List.{List, [], ◌∷◌, map}
@@ -31,7 +32,6 @@ use Rattle.analysis.specs.Tvr.{tvr_byte4_amount_above_floor_limit, tvr_from_byte
 use Rattle.analysis.specs.Value.{first_bytes_zero_padded}
 use Rattle.analysis.specs.Cvm.{aip_and_configuration_support_on_device_cvm}
 use Rattle.analysis.specs.declared.choice.Choice.TheVariants.{Decline, Online, Offline}
-use Rattle.analysis.specs.declared.choice.LowestBit.TheVariants.{Bit, NoBit}
 use Rattle.analysis.specs.declared.restrictions.IssuerCountryMatch.TheVariants.{Home, Abroad, NotGiven}
 
 -- ---- dates, amounts and versions
@@ -247,7 +247,7 @@ result_bytes_lem = refl
 bit_numbers : map (λ s. lowest_tvr_bit_in_codes s (record { card = s; terminal = all_zeros_action_code }))
     ((0x80 ∷ 0 ∷ 0 ∷ 0 ∷ 0 ∷ []) ∷ (0x01 ∷ 0 ∷ 0 ∷ 0 ∷ 0 ∷ []) ∷ (0 ∷ 0x80 ∷ 0 ∷ 0 ∷ 0 ∷ [])
     ∷ (0 ∷ 0 ∷ 0 ∷ 0 ∷ 0x01 ∷ []) ∷ all_zeros_action_code ∷ [])
-    ≡ Bit 0 ∷ Bit 7 ∷ Bit 8 ∷ Bit 39 ∷ NoBit ∷ []
+    ≡ Some 0 ∷ Some 7 ∷ Some 8 ∷ Some 39 ∷ None ∷ []
 unfolding lowest_tvr_bit_in_codes lowest_bit_from_start_within_count tvr_bit_is_in_either_action_code has_bit_counted_from_zero_at_byte1b8 both either if
 bit_numbers = refl
 
@@ -256,7 +256,7 @@ held_bits : map (lowest_tvr_bit_in_codes (0x80 ∷ 0 ∷ 0 ∷ 0 ∷ 0 ∷ []))
     (record { card = 0x80 ∷ 0 ∷ 0 ∷ 0 ∷ 0 ∷ []; terminal = all_zeros_action_code }
     ∷ record { card = all_zeros_action_code; terminal = 0x80 ∷ 0 ∷ 0 ∷ 0 ∷ 0 ∷ [] }
     ∷ record { card = 0x7F ∷ 0xFF ∷ 0xFF ∷ 0xFF ∷ 0xFF ∷ []; terminal = 0x7F ∷ 0xFF ∷ 0xFF ∷ 0xFF ∷ 0xFF ∷ [] } ∷ [])
-    ≡ Bit 0 ∷ Bit 0 ∷ NoBit ∷ []
+    ≡ Some 0 ∷ Some 0 ∷ None ∷ []
 unfolding lowest_tvr_bit_in_codes lowest_bit_from_start_within_count tvr_bit_is_in_either_action_code has_bit_counted_from_zero_at_byte1b8 both either if
 held_bits = refl
 

@@ -1,3 +1,6 @@
+pub mod Arrays
+pub mod Rows
+pub mod Tests
 pub mod Bench
 pub mod Bits
 pub mod Decimal

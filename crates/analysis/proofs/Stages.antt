@@ -1,10 +1,11 @@
 -- The choice, walked: a byte's bits are the stage's bits eight at a time, and the first stage that is consulted and
 -- holds a bit decides.
 -- Assumes nothing.
+use Rattle.std.specs.Prelude.{Option, Some, None, is_some}
 use mathlib.Core.Bool.{Bool, true, false}
 use mathlib.Core.List.{List}
 use mathlib.Core.Logic.{inl, inr}
-use mathlib.Core.Path.{◌≡◌, ap, ap₂, ◌∙◌}
+use mathlib.Core.Path.{◌≡◌, sym, ap, ap₂, ◌∙◌}
 use Prim.Native.Nat.{ℕ, zero, suc, ◌+◌, ◌-◌, ◌*◌, ◌/◌, ◌%◌, ◌≤◌, ◌<◌}
 use native.Mathlib.Nat.{zero-div}
 use native.Mathlib.Omega.{arith}
@@ -13,10 +14,9 @@ use Rattle.basics.proofs.Order.{le-or-gt}
 use Rattle.basics.specs.Choice.{if, both, either}
 use Rattle.analysis.specs.Bits.{has_bit_counted_from_zero_at_byte1b8, byte_has_bit}
 use Rattle.analysis.specs.Choice.{tvr_bit_is_in_either_action_code, lowest_bit_from_start_within_count, lowest_tvr_bit_in_codes}
-use Rattle.analysis.specs.Choice.{some_tvr_bit_in_codes_of_stage, online_capability_of_type, choice_by_stages}
+use Rattle.analysis.specs.Choice.{is_some_bit, no_action_codes, some_tvr_bit_in_codes_of_stage, online_capability_of_type, choice_by_stages}
 use Rattle.analysis.specs.Choice.{terminal_action_analysis}
 use Rattle.analysis.specs.Inner.{tvr_byte_bit_in_codes, stage_consulted, choice_forced_at_stage, choice_without_forcing_bit}
-use Rattle.analysis.specs.declared.choice.LowestBit.TheVariants.{Bit, NoBit}
 use Rattle.analysis.specs.declared.choice.ActionCodes.{ActionCodes}
 use Rattle.analysis.specs.declared.choice.OnlineCapability.TheVariants.{OnlineOnly, OnlineCapable, OfflineOnly}
 use Rattle.analysis.specs.declared.choice.OnlineCapability.TheVariants.{Unlisted}
@@ -33,12 +33,12 @@ bit_at s i k h =
     ap₂ (λ (j b : ℕ). byte_has_bit (get_or s j 0) b) e d
 
 -- what is known of the lowest bit that a stage holds
-pub lowest_held : (result : List ℕ) (pair : ActionCodes) (k : ℕ) → lowest_tvr_bit_in_codes result pair ≡ Bit k
+pub lowest_held : (result : List ℕ) (pair : ActionCodes) (k : ℕ) → lowest_tvr_bit_in_codes result pair ≡ Some k
     → Found (tvr_bit_is_in_either_action_code result pair) 40 0 k
 unfolding lowest_tvr_bit_in_codes
 lowest_held result pair k e = found (tvr_bit_is_in_either_action_code result pair) 40 0 k e
 
-pub none_held : (result : List ℕ) (pair : ActionCodes) → lowest_tvr_bit_in_codes result pair ≡ NoBit → (m : ℕ) → m < 40
+pub none_held : (result : List ℕ) (pair : ActionCodes) → lowest_tvr_bit_in_codes result pair ≡ None → (m : ℕ) → m < 40
     → tvr_bit_is_in_either_action_code result pair m ≡ false
 unfolding lowest_tvr_bit_in_codes
 none_held result pair e m h = none_passes (tvr_bit_is_in_either_action_code result pair) 40 0 e m (omega arith) (omega arith)
@@ -63,8 +63,8 @@ module _ (result : List ℕ) (pair : ActionCodes) where
       ap (tvr_bit_is_in_either_action_code result pair) e ∙ held_at i (m - i * 8) (omega arith)
 
   -- the bytes before are clear, and this one has a bit: it is the lowest
-  pub byte_found : (i k : ℕ) → i < 5 → Clear (i * 8) → lowest_bit_from_start_within_count (at_byte i) 0 8 ≡ Bit k
-      → lowest_tvr_bit_in_codes result pair ≡ Bit (i * 8 + k)
+  pub byte_found : (i k : ℕ) → i < 5 → Clear (i * 8) → lowest_bit_from_start_within_count (at_byte i) 0 8 ≡ Some k
+      → lowest_tvr_bit_in_codes result pair ≡ Some (i * 8 + k)
   unfolding lowest_tvr_bit_in_codes
   byte_found i k h clear e =
       let r = found (at_byte i) 8 0 k e in
@@ -81,14 +81,14 @@ module _ (result : List ℕ) (pair : ActionCodes) where
       })
 
   -- .. or is clear as well
-  pub byte_clear : (i : ℕ) → Clear (i * 8) → lowest_bit_from_start_within_count (at_byte i) 0 8 ≡ NoBit → Clear ((i + 1) * 8)
+  pub byte_clear : (i : ℕ) → Clear (i * 8) → lowest_bit_from_start_within_count (at_byte i) 0 8 ≡ None → Clear ((i + 1) * 8)
   byte_clear i clear e m v =
       elim (le-or-gt (i * 8) m) [
         | inl g ↦ held_of i m g (omega arith) ∙ none_passes (at_byte i) 8 0 e (m - i * 8) (omega arith) (omega arith)
         | inr l ↦ clear m l
       ]
 
-  pub all_clear : Clear 40 → lowest_tvr_bit_in_codes result pair ≡ NoBit
+  pub all_clear : Clear 40 → lowest_tvr_bit_in_codes result pair ≡ None
   unfolding lowest_tvr_bit_in_codes
   all_clear clear = lowest_none (tvr_bit_is_in_either_action_code result pair) 40 0 (λ m u v. clear m (omega arith))
 
@@ -97,10 +97,18 @@ unfolding tvr_byte_bit_in_codes both
 nothing_in_zero card terminal m = simp zero-div
 
 -- a zero byte of the TVR holds nothing
-pub zero_byte : (card terminal : ℕ) → lowest_bit_from_start_within_count (tvr_byte_bit_in_codes 0 card terminal) 0 8 ≡ NoBit
+pub zero_byte : (card terminal : ℕ) → lowest_bit_from_start_within_count (tvr_byte_bit_in_codes 0 card terminal) 0 8 ≡ None
 zero_byte card terminal = lowest_none (tvr_byte_bit_in_codes 0 card terminal) 8 0 (λ m u v. nothing_in_zero card terminal m)
 
 -- ---- the stages
+
+-- whether a stage holds a bit, as the code tests it
+pub stage_test : (result : List ℕ) (pairs : List ActionCodes) (s : ℕ) (o : Option ℕ) (b : Bool)
+    → o ≡ lowest_tvr_bit_in_codes result (get_or pairs s no_action_codes) → b ≡ is_some o
+    → some_tvr_bit_in_codes_of_stage result pairs s ≡ b
+unfolding some_tvr_bit_in_codes_of_stage
+stage_test result pairs s None b e f = sym (ap is_some_bit e) ∙ sym f
+stage_test result pairs s (Some k) b e f = sym (ap is_some_bit e) ∙ sym f
 
 -- no stage before s is consulted and holds a bit
 abbrev pub Unforced : OnlineCapability → (ℕ → Bool) → ℕ → Type 0

@@ -1,5 +1,4 @@
--- Values handed over as a flag and bytes, their first bytes one by one. Assumes nothing.
-use mathlib.Core.Bool.{Bool, true, false}
+-- The first bytes of a value, one by one. Assumes nothing.
 use mathlib.Core.List.{List, [], ◌∷◌}
 use mathlib.Core.Path.{◌≡◌, refl, ap, ◌∙◌}
 use Prim.Native.Nat.{ℕ, zero, suc, ◌+◌, ◌*◌}
@@ -7,14 +6,7 @@ use native.Mathlib.Omega.{arith}
 use lib.ListN.{length, get_or, drop}
 use lib.Seq.{get_or-drop}
 use Rattle.basics.specs.Number.{big_endian_number, append_big_endian_bytes}
-use Rattle.store.specs.Place.{absent, present}
-use Rattle.analysis.specs.Value.{stored_value_if, first_bytes_zero_padded}
-
-pub given_there : (t : Bool) (s : List ℕ) → t ≡ true → stored_value_if t s ≡ present s
-given_there t s e = ap (λ (b : Bool). stored_value_if b s) e
-
-pub given_absent : (t : Bool) (s : List ℕ) → t ≡ false → stored_value_if t s ≡ absent
-given_absent t s e = ap (λ (b : Bool). stored_value_if b s) e
+use Rattle.analysis.specs.Value.{first_bytes_zero_padded}
 
 -- a value of n bytes is its own first n
 pub front_whole : (n : ℕ) (s : List ℕ) → length s ≡ n → first_bytes_zero_padded n s ≡ s

@@ -1,7 +1,7 @@
 -- The choice (document 01, "Result bits and the choice"; Book C-2, 7.8), over a TVR, a terminal's type and three pairs
 -- of action codes: which bit a stage holds, where the type lets the terminal decide, and what is requested.
 -- Assumes nothing.
-use Rattle.std.specs.Prelude.{Bool, true, false, List, [], ◌∷◌, ℕ, zero, suc, ◌%◌, get_or}
+use Rattle.std.specs.Prelude.{Bool, true, false, List, [], ◌∷◌, ℕ, zero, suc, ◌%◌, get_or, Option, Some, None}
 use Rattle.basics.specs.Types.{Byte, TvrBytes, Value}
 use Rattle.basics.specs.Choice.{when◌then◌else◌, ◌and◌, ◌or◌, ◌=?◌}
 use Rattle.analysis.specs.Bits.{has_bit_counted_from_zero_at_byte1b8}
@@ -9,8 +9,6 @@ use Rattle.analysis.specs.Digits.{is_one_of}
 use Rattle.store.specs.Place.{StoredValue, absent, present}
 use Rattle.analysis.specs.Value.{first_bytes_zero_padded}
 use Rattle.analysis.specs.declared.choice.ActionCodes.{ActionCodes}
-use Rattle.analysis.specs.declared.choice.LowestBit.{LowestBit}
-use Rattle.analysis.specs.declared.choice.LowestBit.TheVariants.{Bit, NoBit}
 use Rattle.analysis.specs.declared.choice.OnlineCapability.{OnlineCapability}
 use Rattle.analysis.specs.declared.choice.OnlineCapability.TheVariants.{OnlineOnly, OnlineCapable}
 use Rattle.analysis.specs.declared.choice.OnlineCapability.TheVariants.{OfflineOnly, Unlisted}
@@ -26,18 +24,18 @@ tvr_bit_is_in_either_action_code result pair i =
     and (has_bit_counted_from_zero_at_byte1b8 pair.card i or has_bit_counted_from_zero_at_byte1b8 pair.terminal i)
 
 -- the lowest of the n numbers from i on that passes a test
-unfoldable pub lowest_bit_from_start_within_count : (ℕ → Bool) → ℕ → ℕ → LowestBit
-lowest_bit_from_start_within_count f i zero = NoBit
-lowest_bit_from_start_within_count f i (suc n) = when f i then Bit i else lowest_bit_from_start_within_count f (suc i) n
+unfoldable pub lowest_bit_from_start_within_count : (ℕ → Bool) → ℕ → ℕ → Option ℕ
+lowest_bit_from_start_within_count f i zero = None
+lowest_bit_from_start_within_count f i (suc n) = when f i then Some i else lowest_bit_from_start_within_count f (suc i) n
 
 -- the lowest bit, 0 to 39, that a stage holds, or none
-unfoldable pub lowest_tvr_bit_in_codes : TvrBytes → ActionCodes → LowestBit
+unfoldable pub lowest_tvr_bit_in_codes : TvrBytes → ActionCodes → Option ℕ
 lowest_tvr_bit_in_codes result pair = lowest_bit_from_start_within_count (tvr_bit_is_in_either_action_code result pair) 0 40
 
 -- there is such a bit
-abbrev pub is_some_bit : LowestBit → Bool
-is_some_bit (Bit i) = true
-is_some_bit NoBit = false
+abbrev pub is_some_bit : Option ℕ → Bool
+is_some_bit (Some i) = true
+is_some_bit None = false
 
 -- ---- the action codes
 

@@ -1,5 +1,7 @@
 // Action analysis over the bytes of a session's store: the TVR, cardholder verification, the action codes, the choice,
 // the transaction limit.
+#![tactic(auto, using(crate::proofs::Tests::choices, crate::proofs::Rows::rows), unfolding(crate::specs::Action::card_and_kernel_support_on_device_cvm, crate::specs::Action::transaction_limit, crate::specs::Action::stored_amount_above_limit, crate::specs::Action::auc_violated_in_store, crate::specs::Action::restrictions_tvr_byte2, crate::specs::Action::tvr_before_cvm, crate::specs::Action::currencies_present_and_equal, crate::specs::Action::cvm_conditions_in, crate::specs::Action::cvm_result_in, crate::specs::Action::tvr_with_cvm, crate::specs::Action::findings_of, crate::specs::Action::action_codes_of, crate::specs::Action::choice_for_tvr))]
+
 ghost use Rattle.std.specs.Prelude.{◌≡◌, get_or};
 ghost use Rattle.dictionary.specs.Rows.{dictionary_rows};
 ghost use Rattle.store.specs.Place.{bytes_or_empty_if_absent, row_value, object_value};
@@ -34,15 +36,18 @@ pub fn tvr_before_cvm(bytes: &[u8]) -> [u8; 5]
 }
 
 // What the restrictions, the limit and cardholder verification give: 9F34, 95 and the CVM.
+#[tactic(auto, using(crate::proofs::CvmStore::on_device_rules), unfolding(crate::specs::Action::findings_of))]
 pub fn findings_of(bytes: &[u8]) -> AnalysisFindings
     ensures findings { result ≡ findings_of bytes.now }
     ensures phones { OnDeviceCvmIgnoresCvmList }
 {
     let verified = cvm_result_in(bytes);
-    let results = [verified.code, verified.condition, verified.result];
     let bits = tvr_with_cvm(bytes, verified.tvr1, verified.tvr3);
-    let cvm = verified.cvm;
-    AnalysisFindings { results, bits, cvm }
+    AnalysisFindings {
+        results: [verified.code, verified.condition, verified.result],
+        bits,
+        cvm: verified.cvm,
+    }
 }
 
 // What cardholder verification gives: the CVM, the bytes of 9F34 and the bits for 95.
@@ -53,9 +58,8 @@ pub fn cvm_result_in(bytes: &[u8]) -> CvmResult
         return on_device_result(bytes);
     }
     let aip = byte_in(bytes, dictionary::ROW_AIP);
-    let there = store::is_present(bytes, dictionary::ROW_CVM_LIST);
-    let list = store::value(bytes, dictionary::ROW_CVM_LIST);
-    cvm::perform_cvm(aip, there, list, cvm_conditions_in(bytes))
+    let list = store::value_if_present(bytes, dictionary::ROW_CVM_LIST);
+    cvm::perform_cvm(aip, list, cvm_conditions_in(bytes))
 }
 
 // The three pairs of action codes.
@@ -63,25 +67,23 @@ pub fn action_codes_of(bytes: &[u8]) -> [ActionCodes; 3]
     ensures { result ≡ action_codes_of bytes.now }
 {
     [
-        action_codes_in(
-            bytes,
+        (
             DENIAL,
             dictionary::ROW_IAC_DENIAL,
             dictionary::ROW_TAC_DENIAL,
         ),
-        action_codes_in(
-            bytes,
+        (
             ONLINE,
             dictionary::ROW_IAC_ONLINE,
             dictionary::ROW_TAC_ONLINE,
         ),
-        action_codes_in(
-            bytes,
+        (
             DEFAULT,
             dictionary::ROW_IAC_DEFAULT,
             dictionary::ROW_TAC_DEFAULT,
         ),
     ]
+    .map(|(stage, card, terminal)| action_codes_in(bytes, stage, card, terminal))
 }
 
 // What is requested for a TVR.
@@ -103,10 +105,12 @@ pub fn stored_amount_above_limit(bytes: &[u8], limit: u64) -> bool
 pub fn transaction_limit(bytes: &[u8]) -> u64
     ensures { result ≡ transaction_limit bytes.now }
 {
-    if card_and_kernel_support_on_device_cvm(bytes) {
-        return digits::amount_of(store::value(bytes, dictionary::ROW_LIMIT_ON_DEVICE_CVM));
-    }
-    digits::amount_of(store::value(bytes, dictionary::ROW_LIMIT_NO_ON_DEVICE_CVM))
+    let row = if card_and_kernel_support_on_device_cvm(bytes) {
+        dictionary::ROW_LIMIT_ON_DEVICE_CVM
+    } else {
+        dictionary::ROW_LIMIT_NO_ON_DEVICE_CVM
+    };
+    digits::amount_of(store::value(bytes, row))
 }
 
 // A device with on-device CVM, by the AIP and the terminal's configuration.
@@ -144,14 +148,13 @@ fn restrictions_byte(bytes: &[u8]) -> u8
 }
 
 // Byte 2 b8: the card's application version is present and differs from the reader's.
+// Kept: it reads two objects for one test, as `not_yet_effective_in` and `country_in` do for theirs; one function of both
+// rows and the test would be called with as many words.
 fn version_differs_in(bytes: &[u8]) -> bool
     ensures { result ≡ card_version_present_and_differs (object_value bytes.now 0x9F08) (stored_bytes bytes.now 0x9F09) }
 {
-    let there = store::is_present(bytes, dictionary::ROW_CARD_VERSION);
-    let card = store::value(bytes, dictionary::ROW_CARD_VERSION);
     restrictions::version_differs(
-        there,
-        card,
+        store::value_if_present(bytes, dictionary::ROW_CARD_VERSION),
         store::value(bytes, dictionary::ROW_READER_VERSION),
     )
 }
@@ -160,11 +163,8 @@ fn version_differs_in(bytes: &[u8]) -> bool
 fn not_yet_effective_in(bytes: &[u8]) -> bool
     ensures { result ≡ not_yet_effective (object_value bytes.now 0x5F25) (stored_bytes bytes.now 0x9A) }
 {
-    let there = store::is_present(bytes, dictionary::ROW_EFFECTIVE_DATE);
-    let effective = store::value(bytes, dictionary::ROW_EFFECTIVE_DATE);
     restrictions::not_yet_effective(
-        there,
-        effective,
+        store::value_if_present(bytes, dictionary::ROW_EFFECTIVE_DATE),
         store::value(bytes, dictionary::ROW_TRANSACTION_DATE),
     )
 }
@@ -173,17 +173,11 @@ fn not_yet_effective_in(bytes: &[u8]) -> bool
 fn auc_violated_in(bytes: &[u8]) -> bool
     ensures { result ≡ auc_violated_in_store bytes.now }
 {
-    let there = store::is_present(bytes, dictionary::ROW_AUC);
-    let control = store::value(bytes, dictionary::ROW_AUC);
-    let atm = atm_in(bytes);
-    let country = country_in(bytes);
-    let transaction = byte_in(bytes, dictionary::ROW_TRANSACTION_TYPE);
     restrictions::auc_violated(
-        there,
-        control,
-        atm,
-        country,
-        transaction,
+        store::value_if_present(bytes, dictionary::ROW_AUC),
+        atm_in(bytes),
+        country_in(bytes),
+        byte_in(bytes, dictionary::ROW_TRANSACTION_TYPE),
         cashback_in(bytes),
     )
 }
@@ -192,20 +186,18 @@ fn auc_violated_in(bytes: &[u8]) -> bool
 fn atm_in(bytes: &[u8]) -> bool
     ensures { result ≡ is_atm_type_with_cash_capability (terminal_type bytes.now) (object_value bytes.now 0x9F40) }
 {
-    let there = store::is_present(bytes, dictionary::ROW_ADDITIONAL_CAPABILITIES);
-    let capabilities = store::value(bytes, dictionary::ROW_ADDITIONAL_CAPABILITIES);
-    restrictions::is_atm_type_with_cash_capability(terminal_type(bytes), there, capabilities)
+    restrictions::is_atm_type_with_cash_capability(
+        terminal_type(bytes),
+        store::value_if_present(bytes, dictionary::ROW_ADDITIONAL_CAPABILITIES),
+    )
 }
 
 // The issuer's country against the terminal's.
 fn country_in(bytes: &[u8]) -> IssuerCountryMatch
     ensures { result ≡ issuer_country_match (object_value bytes.now 0x5F28) (stored_bytes bytes.now 0x9F1A) }
 {
-    let there = store::is_present(bytes, dictionary::ROW_ISSUER_COUNTRY);
-    let issuer = store::value(bytes, dictionary::ROW_ISSUER_COUNTRY);
     restrictions::issuer_country_match(
-        there,
-        issuer,
+        store::value_if_present(bytes, dictionary::ROW_ISSUER_COUNTRY),
         store::value(bytes, dictionary::ROW_TERMINAL_COUNTRY),
     )
 }
@@ -214,8 +206,7 @@ fn country_in(bytes: &[u8]) -> IssuerCountryMatch
 fn cashback_in(bytes: &[u8]) -> bool
     ensures { result ≡ cashback_requested (object_value bytes.now 0x9F03) }
 {
-    let there = store::is_present(bytes, dictionary::ROW_AMOUNT_OTHER);
-    restrictions::cashback_requested(there, store::value(bytes, dictionary::ROW_AMOUNT_OTHER))
+    restrictions::cashback_requested(store::value_if_present(bytes, dictionary::ROW_AMOUNT_OTHER))
 }
 
 // What on-device CVM has verified: by the amount, against the Reader CVM Required Limit.
@@ -233,26 +224,16 @@ fn cvm_conditions_in(bytes: &[u8]) -> CvmConditions
 {
     let list = store::value(bytes, dictionary::ROW_CVM_LIST);
     let transaction = byte_in(bytes, dictionary::ROW_TRANSACTION_TYPE);
-    let capabilities = basics::byte_at(
-        store::value(bytes, dictionary::ROW_TERMINAL_CAPABILITIES),
-        1,
-    );
-    let amount = digits::amount_of(store::value(bytes, dictionary::ROW_AMOUNT));
-    let atm = atm_in(bytes);
-    let currency = currency_in(bytes);
-    let x = byte::four_byte_number_at(list, 0);
-    let y = byte::four_byte_number_at(list, 4);
-    let cash = is_cash(transaction);
-    let cashback = transaction == 0x09;
+    let capabilities = store::value(bytes, dictionary::ROW_TERMINAL_CAPABILITIES);
     CvmConditions {
-        capabilities,
-        cash,
-        cashback,
-        atm,
-        currency,
-        amount,
-        x,
-        y,
+        capabilities: basics::byte_at(capabilities, 1),
+        cash: is_cash(transaction),
+        cashback: transaction == 0x09,
+        atm: atm_in(bytes),
+        currency: currency_in(bytes),
+        amount: digits::amount_of(store::value(bytes, dictionary::ROW_AMOUNT)),
+        x: byte::four_byte_number_at(list, 0),
+        y: byte::four_byte_number_at(list, 4),
     }
 }
 
@@ -260,23 +241,19 @@ fn cvm_conditions_in(bytes: &[u8]) -> CvmConditions
 fn is_cash(transaction: u8) -> bool
     ensures { result ≡ is_one_of transaction 0x01 0x17 }
 {
-    (transaction == 0x01) | (transaction == 0x17)
+    matches!(transaction, 0x01 | 0x17)
 }
 
 // The transaction's currency is the application's, and both are present.
 fn currency_in(bytes: &[u8]) -> bool
     ensures { result ≡ currencies_present_and_equal (object_value bytes.now 0x5F2A) (object_value bytes.now 0x9F42) }
 {
-    if !store::is_present(bytes, dictionary::ROW_TRANSACTION_CURRENCY) {
-        return false;
+    let transaction = store::value_if_present(bytes, dictionary::ROW_TRANSACTION_CURRENCY);
+    let application = store::value_if_present(bytes, dictionary::ROW_APPLICATION_CURRENCY);
+    match (transaction, application) {
+        (Some(transaction), Some(application)) => transaction == application,
+        _ => false,
     }
-    if !store::is_present(bytes, dictionary::ROW_APPLICATION_CURRENCY) {
-        return false;
-    }
-    basics::bytes_equal(
-        store::value(bytes, dictionary::ROW_TRANSACTION_CURRENCY),
-        store::value(bytes, dictionary::ROW_APPLICATION_CURRENCY),
-    )
 }
 
 // The five bytes of 95, with the verification's bits in bytes 1 and 3.
@@ -284,23 +261,21 @@ fn tvr_with_cvm(bytes: &[u8], tvr1: u8, tvr3: u8) -> [u8; 5]
     requires { (tvr1 ≡ (cvm_result_in bytes.now).tvr1) × (tvr3 ≡ (cvm_result_in bytes.now).tvr3) }
     ensures { result ≡ tvr_with_cvm bytes.now }
 {
-    let result = tvr_before_cvm(bytes);
-    [
-        result[0] + tvr1,
-        result[1],
-        result[2] + tvr3,
-        result[3],
-        result[4],
-    ]
+    let mut result = tvr_before_cvm(bytes);
+    result[0] += tvr1;
+    result[2] += tvr3;
+    result
 }
 
 // The pair of a stage, from the rows of the card's code and the terminal's.
 fn action_codes_in(bytes: &[u8], stage: usize, card: usize, terminal: usize) -> ActionCodes
     ensures { result ≡ action_codes_at stage (row_value dictionary_rows bytes.now card) (bytes_or_empty_if_absent (row_value dictionary_rows bytes.now terminal)) }
 {
-    let there = store::is_present(bytes, card);
-    let code = store::value(bytes, card);
-    choice::action_codes(stage, there, code, store::value(bytes, terminal))
+    choice::action_codes(
+        stage,
+        store::value_if_present(bytes, card),
+        store::value(bytes, terminal),
+    )
 }
 
 // The first byte of a row's value, 0 where there is none.

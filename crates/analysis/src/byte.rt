@@ -9,28 +9,25 @@ ghost use Rattle.analysis.specs.Value.{first_bytes_zero_padded};
 pub fn first_five_bytes(s: &[u8]) -> [u8; 5]
     ensures { result ≡ first_bytes_zero_padded 5 s.now }
 {
-    [
-        basics::byte_at(s, 0),
-        basics::byte_at(s, 1),
-        basics::byte_at(s, 2),
-        basics::byte_at(s, 3),
-        basics::byte_at(s, 4),
-    ]
+    std::array::from_fn(|i| basics::byte_at(s, i))
 }
 
 // The four bytes from place i on, counted from 0, as one number, high byte first; bytes past the end are 0.
+#[tactic(auto, using(crate::proofs::Value::number_four))]
 pub fn four_byte_number_at(s: &[u8], i: usize) -> u64
     requires { i ≤ 4 }
     ensures { result ≡ big_endian_number (first_bytes_zero_padded 4 (drop i s.now)) }
 {
-    let a = basics::widen32(basics::byte_at(s, i)) as u64;
-    let b = basics::widen32(basics::byte_at(s, i + 1)) as u64;
-    let c = basics::widen32(basics::byte_at(s, i + 2)) as u64;
-    let d = basics::widen32(basics::byte_at(s, i + 3)) as u64;
-    ((a * 256 + b) * 256 + c) * 256 + d
+    u64::from(u32::from_be_bytes([
+        basics::byte_at(s, i),
+        basics::byte_at(s, i + 1),
+        basics::byte_at(s, i + 2),
+        basics::byte_at(s, i + 3),
+    ]))
 }
 
 // Bit b of byte n of a value, the first byte 1.
+// Kept: `byte_at` reads 0 past the end, where `s.get(n - 1).is_some_and(..)` says the same in more words.
 pub fn value_has_bit(s: &[u8], n: usize, b: usize) -> bool
     requires { (0 < n) × ((0 < b) × (b ≤ 8)) }
     ensures { result ≡ bit_of s.now n b }

@@ -1,6 +1,8 @@
 // The choice of the cryptogram to request, from the TVR, the terminal's type and three pairs of action codes.
-ghost use Rattle.std.specs.Prelude.{◌≡◌, ◌<◌};
-ghost use Rattle.analysis.specs.Value.{stored_value_if};
+#![tactic(auto, using(crate::proofs::Tests::choices), unfolding(crate::specs::Inner::tvr_byte_bit_in_codes, crate::specs::Choice::online_capability_by_digit, crate::specs::Choice::iac_or_default))]
+
+ghost use Rattle.std.specs.Prelude.{◌≡◌, ◌<◌, option_copied};
+ghost use Rattle.store.specs.Place.{stored_value_of};
 ghost use Rattle.analysis.specs.Choice.{lowest_bit_from_start_within_count, lowest_tvr_bit_in_codes, online_capability_of_type, terminal_action_analysis, generate_ac_p1, generate_ac_p1_for, iac_or_default, action_codes_at};
 ghost use Rattle.analysis.specs.Inner.{tvr_byte_bit_in_codes, stage_consulted as is_consulted, choice_forced_at_stage, choice_without_forcing_bit};
 
@@ -13,15 +15,8 @@ pub struct ActionCodes {
     pub terminal: [u8; 5],
 }
 
-// The lowest bit that a stage holds, or that it holds none.
-#[derive(Clone, Copy)]
-pub enum LowestBit {
-    Bit(usize),
-    NoBit,
-}
-
 // Where a terminal's type lets it decide, by the type's last digit.
-#[derive(Clone, Copy)]
+#[derive(Clone, Copy, PartialEq, Eq)]
 pub enum OnlineCapability {
     OnlineOnly,
     OnlineCapable,
@@ -29,7 +24,7 @@ pub enum OnlineCapability {
     Unlisted,
 }
 
-#[derive(Clone, Copy)]
+#[derive(Clone, Copy, PartialEq, Eq)]
 pub enum Choice {
     Decline,
     Online,
@@ -37,35 +32,32 @@ pub enum Choice {
 }
 
 // The stages, by their place among the pairs.
+// Kept: numbers, since `action_codes` and `iac_or_default` take any number, and an enum would narrow them.
 pub const DENIAL: usize = 0;
 
 pub const ONLINE: usize = 1;
 
 pub const DEFAULT: usize = 2;
 
-// The pair of a stage, from the card's code, which counts only where it is present, and the terminal's.
-pub fn action_codes(stage: usize, there: bool, card: &[u8], terminal: &[u8]) -> ActionCodes
-    ensures { result ≡ action_codes_at stage (stored_value_if there card.now) terminal.now }
+// The pair of a stage, from the card's code, which may be absent, and the terminal's.
+pub fn action_codes(stage: usize, card: Option<&[u8]>, terminal: &[u8]) -> ActionCodes
+    ensures { result ≡ action_codes_at stage (stored_value_of (option_copied card.entry)) terminal.now }
 {
-    let c = iac_or_default(stage, there, card);
-    let t = byte::first_five_bytes(terminal);
     ActionCodes {
-        card: c,
-        terminal: t,
+        card: iac_or_default(stage, card),
+        terminal: byte::first_five_bytes(terminal),
     }
 }
 
 // The card's code of a stage. An absent one is zeros for denial and ones for the others.
-pub fn iac_or_default(stage: usize, there: bool, code: &[u8]) -> [u8; 5]
-    ensures { result ≡ iac_or_default stage (stored_value_if there code.now) }
+pub fn iac_or_default(stage: usize, code: Option<&[u8]>) -> [u8; 5]
+    ensures { result ≡ iac_or_default stage (stored_value_of (option_copied code.entry)) }
 {
-    if there {
-        return byte::first_five_bytes(code);
+    match code {
+        Some(code) => byte::first_five_bytes(code),
+        None if stage == DENIAL => [0; 5],
+        None => [0xFF; 5],
     }
-    if stage == DENIAL {
-        return [0; 5];
-    }
-    [0xFF; 5]
 }
 
 // The choice: the first stage that the type consults and that holds a bit forces it, and else the type alone gives it.
@@ -74,50 +66,32 @@ pub fn terminal_action_analysis(bits: [u8; 5], kind: u8, pairs: [ActionCodes; 3]
     ensures number { generate_ac_p1 result ≡ generate_ac_p1_for bits kind pairs }
 {
     let capability = online_capability_of_type(kind);
-    let mut stage = 0;
-    while stage < 3 {
-        if consulted(capability, stage) {
-            let pair = pairs[stage];
-            if let LowestBit::Bit(_) = lowest_tvr_bit_in_codes(bits, pair) {
-                return forced(stage);
-            }
+    for (stage, pair) in pairs.iter().enumerate() {
+        if consulted(capability, stage) && lowest_tvr_bit_in_codes(bits, *pair).is_some() {
+            return forced(stage);
         }
-        stage += 1;
     }
     unforced(capability)
 }
 
 // The lowest TVR bit, 0 to 39, that the card's code or the terminal's has.
-pub fn lowest_tvr_bit_in_codes(bits: [u8; 5], pair: ActionCodes) -> LowestBit
+pub fn lowest_tvr_bit_in_codes(bits: [u8; 5], pair: ActionCodes) -> Option<usize>
     ensures { result ≡ lowest_tvr_bit_in_codes bits pair }
 {
-    let card = pair.card;
-    let terminal = pair.terminal;
-    let mut i = 0;
-    while i < 5 {
-        if let LowestBit::Bit(k) = byte_bit(bits[i], card[i], terminal[i]) {
-            return LowestBit::Bit(i * 8 + k);
+    // Kept: an index, since three arrays are read at one place, and two zips inside an `enumerate` are no plainer.
+    for i in 0..5 {
+        if let Some(k) = byte_bit(bits[i], pair.card[i], pair.terminal[i]) {
+            return Some(i * 8 + k);
         }
-        i += 1;
     }
-    LowestBit::NoBit
+    None
 }
 
 // The same within a byte: 0 is b8 and 7 is b1.
-fn byte_bit(res: u8, card: u8, terminal: u8) -> LowestBit
+fn byte_bit(res: u8, card: u8, terminal: u8) -> Option<usize>
     ensures { result ≡ lowest_bit_from_start_within_count (tvr_byte_bit_in_codes res card terminal) 0 8 }
 {
-    if res == 0 {
-        return LowestBit::NoBit;
-    }
-    let mut k = 0;
-    while k < 8 {
-        if holds_bit(res, card, terminal, k) {
-            return LowestBit::Bit(k);
-        }
-        k += 1;
-    }
-    LowestBit::NoBit
+    (0..8).find(|k| holds_bit(res, card, terminal, *k))
 }
 
 // Bit k of the TVR is in the card's code or the terminal's.
@@ -126,16 +100,11 @@ fn holds_bit(res: u8, card: u8, terminal: u8, k: usize) -> bool
     ensures { result ≡ tvr_byte_bit_in_codes res card terminal k }
 {
     let b = 8 - k;
-    if !byte::byte_has_bit(res, b) {
-        return false;
-    }
-    if byte::byte_has_bit(card, b) {
-        return true;
-    }
-    byte::byte_has_bit(terminal, b)
+    byte::byte_has_bit(res, b) && (byte::byte_has_bit(card, b) || byte::byte_has_bit(terminal, b))
 }
 
 // P1 of the command that requests the choice.
+// Kept: no `From<Choice> for u8` beside it, which would hide which of a choice's numbers is meant: P1 or the rank.
 pub fn generate_ac_p1(choice: Choice) -> u8
     ensures { result ≡ generate_ac_p1 choice }
 {
@@ -150,8 +119,7 @@ pub fn generate_ac_p1(choice: Choice) -> u8
 pub fn online_capability_of_type(kind: u8) -> OnlineCapability
     ensures { result ≡ online_capability_of_type kind }
 {
-    let ending = kind % 16;
-    match ending {
+    match kind % 16 {
         1 | 4 => OnlineCapability::OnlineOnly,
         2 | 5 => OnlineCapability::OnlineCapable,
         3 | 6 => OnlineCapability::OfflineOnly,
@@ -163,15 +131,12 @@ pub fn online_capability_of_type(kind: u8) -> OnlineCapability
 fn consulted(capability: OnlineCapability, stage: usize) -> bool
     ensures { result ≡ is_consulted capability stage }
 {
-    if stage == DENIAL {
-        return true;
-    }
-    match capability {
-        OnlineCapability::OnlineOnly => false,
-        OnlineCapability::OnlineCapable => stage == ONLINE,
-        OnlineCapability::OfflineOnly => stage == DEFAULT,
-        OnlineCapability::Unlisted => false,
-    }
+    stage == DENIAL
+        || match capability {
+            OnlineCapability::OnlineCapable => stage == ONLINE,
+            OnlineCapability::OfflineOnly => stage == DEFAULT,
+            OnlineCapability::OnlineOnly | OnlineCapability::Unlisted => false,
+        }
 }
 
 // What a bit held at a stage forces.
@@ -191,8 +156,7 @@ fn unforced(capability: OnlineCapability) -> Choice
 {
     match capability {
         OnlineCapability::OnlineOnly => Choice::Online,
-        OnlineCapability::OnlineCapable => Choice::Offline,
-        OnlineCapability::OfflineOnly => Choice::Offline,
+        OnlineCapability::OnlineCapable | OnlineCapability::OfflineOnly => Choice::Offline,
         OnlineCapability::Unlisted => Choice::Decline,
     }
 }

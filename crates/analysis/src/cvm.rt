@@ -1,16 +1,18 @@
 // Cardholder verification: the CVM by the CVM List, or with on-device CVM by the amount; the bytes of 9F34, and the
 // bits that it adds to 95.
-ghost use Rattle.std.specs.Prelude.{◌≡◌, false};
-ghost use Rattle.analysis.specs.Value.{stored_value_if};
+#![tactic(auto, using(crate::proofs::Tests::choices), unfolding(crate::specs::Cvm::cvm_supported, crate::specs::Cvm::cvm_recognised, crate::specs::Cvm::cvm_condition_met, crate::specs::Cvm::cvm_result_of_supported, crate::specs::Cvm::cvm_result_of_unsuccessful, crate::specs::Cvm::cvm_rules_from_pairs, crate::specs::Cvm::cvm_result_by_rules, crate::specs::Cvm::cvm_processing, crate::specs::Cvm::aip_and_configuration_support_on_device_cvm, crate::specs::Cvm::on_device_cvm_result_by_above_limit))]
+
+ghost use Rattle.std.specs.Prelude.{◌≡◌, false, option_copied};
+ghost use Rattle.store.specs.Place.{stored_value_of};
 ghost use Rattle.analysis.specs.Cvm.{cvm_number, cvm_recognised as is_recognised, cvm_supported as is_supported, cvm_supported_not_fail, cvm_condition_met as is_met};
 ghost use Rattle.analysis.specs.Inner.{cvm_amount_condition_met};
-ghost use Rattle.analysis.specs.Cvm.{cvm_rules_from_pairs, cvm_result_of_supported as taken_by, cvm_result_no_rule_succeeded, cvm_result_of_unsuccessful as unsuccessful_by, next_cvm_rule_applies, cvm_result_not_performed, cvm_result_by_rules, cvm_processing};
+ghost use Rattle.analysis.specs.Cvm.{cvm_result as result_of, cvm_rules_from_pairs, cvm_result_of_supported as taken_by, cvm_result_no_rule_succeeded, cvm_result_of_unsuccessful as unsuccessful_by, next_cvm_rule_applies, cvm_result_not_performed, cvm_result_by_rules, cvm_processing};
 ghost use Rattle.analysis.specs.Cvm.{aip_and_configuration_support_on_device_cvm, on_device_cvm_result_by_above_limit};
 
 use crate::byte;
 
 // The CVMs that the outcome carries.
-#[derive(Clone, Copy)]
+#[derive(Clone, Copy, PartialEq, Eq)]
 pub enum Cvm {
     NoCvm,
     Signature,
@@ -46,6 +48,7 @@ pub struct CvmResult {
 }
 
 // The codes of the CVMs, b6 to b1 of a rule's first byte (Book C-2, Annex A; Book 3, Annex C3).
+// Kept: numbers, as the card's list holds any code, and 9F34 repeats it.
 const CVM_FAIL: u8 = 0x00;
 
 const CVM_PLAINTEXT_PIN: u8 = 0x01;
@@ -96,6 +99,7 @@ const RESULT_SUCCESSFUL: u8 = 2;
 pub const NOT_APPLICABLE: u8 = 15;
 
 // The CVM's number in the outcome.
+// Kept: no `From<Cvm> for u8` beside it, which would hide which of a CVM's numbers is meant: this one or its code.
 pub fn cvm_number(cvm: Cvm) -> u8
     ensures { result ≡ cvm_number cvm }
 {
@@ -108,30 +112,24 @@ pub fn cvm_number(cvm: Cvm) -> u8
     }
 }
 
-// By byte 1 of the AIP (82), the CVM List (8E), which counts only where it is present, and the terms.
-pub fn perform_cvm(aip: u8, there: bool, list: &[u8], terms: CvmConditions) -> CvmResult
-    ensures { result ≡ cvm_processing aip (stored_value_if there list.now) terms }
+// By byte 1 of the AIP (82), the CVM List (8E), which may be absent, and the terms.
+pub fn perform_cvm(aip: u8, list: Option<&[u8]>, terms: CvmConditions) -> CvmResult
+    ensures { result ≡ cvm_processing aip (stored_value_of (option_copied list.entry)) terms }
 {
     if !byte::byte_has_bit(aip, 5) {
         return cvm_not_performed(false);
     }
-    if !there {
-        return cvm_not_performed(true);
+    match list {
+        Some(list) if !list.is_empty() => by_cvm_rules(list.get(8..).unwrap_or(&[]), terms),
+        _ => cvm_not_performed(true),
     }
-    if list.len() == 0 {
-        return cvm_not_performed(true);
-    }
-    if list.len() < 8 {
-        return no_cvm_performed(false);
-    }
-    by_cvm_rules(&list[8..], terms)
 }
 
 // A device with on-device CVM: b2 of byte 1 of the AIP (82), and b6 of the kernel configuration DF811B.
 pub fn supports_on_device_cvm(aip: u8, configuration: u8) -> bool
     ensures { result ≡ aip_and_configuration_support_on_device_cvm aip configuration }
 {
-    byte::byte_has_bit(aip, 2) & byte::byte_has_bit(configuration, 6)
+    byte::byte_has_bit(aip, 2) && byte::byte_has_bit(configuration, 6)
 }
 
 // What on-device CVM has verified, by whether the amount is above the Reader CVM Required Limit.
@@ -139,22 +137,29 @@ pub fn on_device_cvm_result(above: bool) -> CvmResult
     ensures { result ≡ on_device_cvm_result_by_above_limit above }
 {
     if above {
-        return CvmResult {
-            code: CVM_PLAINTEXT_PIN,
-            condition: ALWAYS,
-            result: RESULT_SUCCESSFUL,
-            tvr1: 0,
-            tvr3: 0,
-            cvm: Cvm::ConfirmationCode,
-        };
+        cvm_result(
+            CVM_PLAINTEXT_PIN,
+            ALWAYS,
+            RESULT_SUCCESSFUL,
+            0,
+            Cvm::ConfirmationCode,
+        )
+    } else {
+        cvm_result(CODE_NOT_PERFORMED, ALWAYS, RESULT_SUCCESSFUL, 0, Cvm::NoCvm)
     }
+}
+
+// The three bytes of 9F34, byte 3 of 95, and the CVM; byte 1 of 95 gets no bit.
+fn cvm_result(code: u8, condition: u8, res: u8, tvr3: u8, cvm: Cvm) -> CvmResult
+    ensures { result ≡ result_of code condition res tvr3 cvm }
+{
     CvmResult {
-        code: CODE_NOT_PERFORMED,
-        condition: ALWAYS,
-        result: RESULT_SUCCESSFUL,
+        code,
+        condition,
+        result: res,
         tvr1: 0,
-        tvr3: 0,
-        cvm: Cvm::NoCvm,
+        tvr3,
+        cvm,
     }
 }
 
@@ -162,34 +167,30 @@ pub fn on_device_cvm_result(above: bool) -> CvmResult
 fn cvm_not_performed(missing: bool) -> CvmResult
     ensures { result ≡ cvm_result_not_performed missing }
 {
-    let tvr1 = byte::weight_if_set(missing, 0x20);
     CvmResult {
-        code: CODE_NOT_PERFORMED,
-        condition: ALWAYS,
-        result: RESULT_UNKNOWN,
-        tvr1,
-        tvr3: 0,
-        cvm: Cvm::NoCvm,
+        tvr1: byte::weight_if_set(missing, 0x20),
+        ..cvm_result(CODE_NOT_PERFORMED, ALWAYS, RESULT_UNKNOWN, 0, Cvm::NoCvm)
     }
 }
 
 // Rule after rule, each of two bytes.
+#[tactic(auto, using(crate::proofs::Tests::choices, crate::proofs::CvmSteps::rule_steps), unfolding(crate::specs::Cvm::cvm_rules_from_pairs, crate::specs::Cvm::cvm_result_by_rules))]
 fn by_cvm_rules(rules: &[u8], terms: CvmConditions) -> CvmResult
     ensures { result ≡ cvm_result_by_rules terms false (cvm_rules_from_pairs rules.now) }
 {
+    // Kept: a walk by a slice pattern, since the step asks the rest whether a rule follows; `chunks_exact(2)` would have
+    // to be peeked at.
     let mut rest = rules;
     let mut unrecognised = false;
-    while 2 <= rest.len() {
-        let code = rest[0];
-        let condition = rest[1];
-        rest = &rest[2..];
-        if cvm_condition_met(terms, code, condition) {
-            if cvm_performed(terms.capabilities, code) {
-                return cvm_successful(code, condition, unrecognised);
+    while let [code, condition, next @ ..] = rest {
+        rest = next;
+        if cvm_condition_met(terms, *code, *condition) {
+            if cvm_performed(terms.capabilities, *code) {
+                return cvm_successful(*code, *condition, unrecognised);
             }
-            unrecognised = unrecognised | !cvm_recognised(code);
-            if !next_cvm_applies(code, rest) {
-                return cvm_unsuccessful(code, condition, unrecognised);
+            unrecognised = unrecognised || !cvm_recognised(*code);
+            if !next_cvm_applies(*code, rest) {
+                return cvm_unsuccessful(*code, *condition, unrecognised);
             }
         }
     }
@@ -200,10 +201,7 @@ fn by_cvm_rules(rules: &[u8], terms: CvmConditions) -> CvmResult
 fn next_cvm_applies(code: u8, rest: &[u8]) -> bool
     ensures { result ≡ next_cvm_rule_applies code (cvm_rules_from_pairs rest.now) }
 {
-    if rest.len() < 2 {
-        return false;
-    }
-    byte::byte_has_bit(code, 7)
+    rest.len() >= 2 && byte::byte_has_bit(code, 7)
 }
 
 // The condition of a rule is understood, has its data, and is true.
@@ -212,12 +210,12 @@ fn cvm_condition_met(terms: CvmConditions, code: u8, condition: u8) -> bool
 {
     match condition {
         ALWAYS => true,
-        UNATTENDED_CASH => terms.cash & terms.atm,
-        NOT_CASH => !terms.cash & !terms.cashback,
+        UNATTENDED_CASH => terms.cash && terms.atm,
+        NOT_CASH => !terms.cash && !terms.cashback,
         CVM_SUPPORTED => cvm_supported(terms.capabilities, code),
-        MANUAL_CASH => terms.cash & !terms.atm,
+        MANUAL_CASH => terms.cash && !terms.atm,
         CASHBACK => terms.cashback,
-        _ => terms.currency & cvm_amount_met(terms, condition),
+        _ => terms.currency && cvm_amount_met(terms, condition),
     }
 }
 
@@ -238,16 +236,17 @@ fn cvm_amount_met(terms: CvmConditions, condition: u8) -> bool
 fn cvm_supported(capabilities: u8, code: u8) -> bool
     ensures { result ≡ is_supported capabilities code }
 {
-    let cvm = code % 64;
-    match cvm {
+    match code % 64 {
         CVM_FAIL => true,
         CVM_PLAINTEXT_PIN => byte::byte_has_bit(capabilities, 8),
         CVM_ONLINE_PIN => byte::byte_has_bit(capabilities, 7),
-        CVM_PLAINTEXT_PIN_AND_SIGNATURE => byte::byte_has_bit(capabilities, 8)
-            & byte::byte_has_bit(capabilities, 6),
+        CVM_PLAINTEXT_PIN_AND_SIGNATURE => {
+            byte::byte_has_bit(capabilities, 8) && byte::byte_has_bit(capabilities, 6)
+        }
         CVM_ENCIPHERED_PIN => byte::byte_has_bit(capabilities, 5),
-        CVM_ENCIPHERED_PIN_AND_SIGNATURE => byte::byte_has_bit(capabilities, 5)
-            & byte::byte_has_bit(capabilities, 6),
+        CVM_ENCIPHERED_PIN_AND_SIGNATURE => {
+            byte::byte_has_bit(capabilities, 5) && byte::byte_has_bit(capabilities, 6)
+        }
         CVM_SIGNATURE => byte::byte_has_bit(capabilities, 6),
         CVM_NO_CVM => byte::byte_has_bit(capabilities, 4),
         _ => false,
@@ -258,56 +257,29 @@ fn cvm_supported(capabilities: u8, code: u8) -> bool
 fn cvm_performed(capabilities: u8, code: u8) -> bool
     ensures { result ≡ cvm_supported_not_fail capabilities code }
 {
-    cvm_supported(capabilities, code) & (code % 64 != CVM_FAIL)
+    cvm_supported(capabilities, code) && code % 64 != CVM_FAIL
 }
 
 // A CVM of the Books' table.
 fn cvm_recognised(code: u8) -> bool
     ensures { result ≡ is_recognised code }
 {
-    let cvm = code % 64;
-    (cvm <= CVM_ENCIPHERED_PIN_AND_SIGNATURE) | ((cvm == CVM_SIGNATURE) | (cvm == CVM_NO_CVM))
+    matches!(
+        code % 64,
+        CVM_FAIL..=CVM_ENCIPHERED_PIN_AND_SIGNATURE | CVM_SIGNATURE | CVM_NO_CVM
+    )
 }
 
 // The CVM of a code is taken.
 fn cvm_successful(code: u8, condition: u8, unrecognised: bool) -> CvmResult
     ensures { result ≡ taken_by code condition unrecognised }
 {
-    let cvm = code % 64;
-    let bits = byte::weight_if_set(unrecognised, 0x40);
-    match cvm {
-        CVM_ONLINE_PIN => CvmResult {
-            code,
-            condition,
-            result: RESULT_UNKNOWN,
-            tvr1: 0,
-            tvr3: bits + 0x04,
-            cvm: Cvm::OnlinePin,
-        },
-        CVM_SIGNATURE => CvmResult {
-            code,
-            condition,
-            result: RESULT_UNKNOWN,
-            tvr1: 0,
-            tvr3: bits,
-            cvm: Cvm::Signature,
-        },
-        CVM_NO_CVM => CvmResult {
-            code,
-            condition,
-            result: RESULT_SUCCESSFUL,
-            tvr1: 0,
-            tvr3: bits,
-            cvm: Cvm::NoCvm,
-        },
-        _ => CvmResult {
-            code,
-            condition,
-            result: RESULT_UNKNOWN,
-            tvr1: 0,
-            tvr3: bits,
-            cvm: Cvm::OfflinePin,
-        },
+    let tvr3 = byte::weight_if_set(unrecognised, 0x40);
+    match code % 64 {
+        CVM_ONLINE_PIN => cvm_result(code, condition, RESULT_UNKNOWN, tvr3 + 0x04, Cvm::OnlinePin),
+        CVM_SIGNATURE => cvm_result(code, condition, RESULT_UNKNOWN, tvr3, Cvm::Signature),
+        CVM_NO_CVM => cvm_result(code, condition, RESULT_SUCCESSFUL, tvr3, Cvm::NoCvm),
+        _ => cvm_result(code, condition, RESULT_UNKNOWN, tvr3, Cvm::OfflinePin),
     }
 }
 
@@ -316,17 +288,14 @@ fn cvm_unsuccessful(code: u8, condition: u8, unrecognised: bool) -> CvmResult
     ensures { result ≡ unsuccessful_by code condition unrecognised }
 {
     if code % 64 == CVM_FAIL {
-        let tvr3 = 0x80 + byte::weight_if_set(unrecognised, 0x40);
-        return CvmResult {
+        CvmResult {
             code,
             condition,
-            result: RESULT_FAILED,
-            tvr1: 0,
-            tvr3,
-            cvm: Cvm::NoCvm,
-        };
+            ..no_cvm_performed(unrecognised)
+        }
+    } else {
+        no_cvm_performed(unrecognised)
     }
-    no_cvm_performed(unrecognised)
 }
 
 // No rule was taken.
@@ -334,12 +303,5 @@ fn no_cvm_performed(unrecognised: bool) -> CvmResult
     ensures { result ≡ cvm_result_no_rule_succeeded unrecognised }
 {
     let tvr3 = 0x80 + byte::weight_if_set(unrecognised, 0x40);
-    CvmResult {
-        code: CODE_NOT_PERFORMED,
-        condition: ALWAYS,
-        result: RESULT_FAILED,
-        tvr1: 0,
-        tvr3,
-        cvm: Cvm::NoCvm,
-    }
+    cvm_result(CODE_NOT_PERFORMED, ALWAYS, RESULT_FAILED, tvr3, Cvm::NoCvm)
 }

@@ -1,4 +1,6 @@
 // Dates and amounts, two digits to a byte, compared as decimal numbers.
+#![tactic(auto, using(crate::proofs::Tests::choices), unfolding(crate::specs::Digits::four_digit_year, crate::specs::Digits::date_as_number, crate::specs::Digits::first_date_is_later, crate::specs::Digits::amount_of, crate::specs::Digits::first_amount_is_above, crate::specs::Inner::bcd_byte))]
+
 ghost use Rattle.std.specs.Prelude.{◌≡◌, ◌≤◌};
 ghost use Rattle.analysis.specs.Digits.{four_digit_year, date_as_number, first_date_is_later, amount_of, first_amount_is_above};
 ghost use Rattle.analysis.specs.Inner.{bcd_byte, bcd_three_bytes};
@@ -19,6 +21,7 @@ pub fn first_amount_is_above(a: &[u8], b: &[u8]) -> bool
 }
 
 // The eight digits of a date, YYYYMMDD.
+#[tactic(auto, using(crate::proofs::Decimal::year_digits, crate::proofs::Decimal::month_and_day), unfolding(crate::specs::Digits::date_as_number))]
 fn date_of(s: &[u8]) -> u64
     ensures { result ≡ date_as_number s.now }
 {
@@ -33,13 +36,11 @@ fn year_of(year: u64) -> u64
     requires { year ≤ 165 }
     ensures { (result ≡ four_digit_year year) × (result ≤ 2065) }
 {
-    if year < 50 {
-        return 2000 + year;
-    }
-    1900 + year
+    if year < 50 { 2000 + year } else { 1900 + year }
 }
 
 // The twelve digits of an amount.
+#[tactic(auto, using(crate::proofs::Decimal::decimal_six, crate::proofs::Value::front_six), unfolding(crate::specs::Digits::amount_of))]
 pub fn amount_of(s: &[u8]) -> u64
     ensures { result ≡ amount_of s.now }
 {
@@ -47,6 +48,7 @@ pub fn amount_of(s: &[u8]) -> u64
 }
 
 // The six digits in the three bytes from a place on.
+#[tactic(auto, using(crate::proofs::Decimal::decimal_three))]
 fn six_digits(s: &[u8], i: usize) -> u64
     requires { i ≤ 3 }
     ensures { (result ≡ bcd_three_bytes s.now i) × (result ≤ 1666665) }
@@ -60,7 +62,5 @@ fn six_digits(s: &[u8], i: usize) -> u64
 fn two_digits(b: u8) -> u64
     ensures { (result ≡ bcd_byte b) × (result ≤ 165) }
 {
-    let high = (b / 16) as u64;
-    let low = (b % 16) as u64;
-    high * 10 + low
+    u64::from(b / 16) * 10 + u64::from(b % 16)
 }

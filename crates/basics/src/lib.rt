@@ -1,5 +1,8 @@
 // What every layer uses: the numbers of reasons and refusals, bytes widened to numbers, a byte of a list,
 // and lists compared. The definitions that all specifications share are in specs/.
+//
+// Kept: `widen`, `widen32`, `is_between`, `bytes_equal` and `copy` say what std says; docs/CONTRACTS.md names them, and the
+// library calls std itself.
 #![tactic(auto)]
 
 ghost use Rattle.std.specs.Prelude.{◌≡◌, ◌<◌, ◌≤◌, ◌++◌, length, take, drop, get_or};
@@ -7,6 +10,8 @@ ghost use Rattle.basics.specs.Number.{between};
 ghost use Rattle.basics.specs.Alike.{bytes_equal};
 
 // Why a call is refused.
+// Kept: numbers, as `refuse_call` and `fail_session` of session_record take any number, and a session record may hold any
+// reason: an enum would narrow both.
 pub const REFUSED_BYTES: u8 = 20;
 
 pub const REFUSED_PHASE: u8 = 21;
@@ -48,51 +53,37 @@ pub const REASON_MODE: u8 = 11;
 pub fn widen(x: u8) -> usize
     ensures { (result ≡ x) × (result < 256) }
 {
-    x as usize
+    usize::from(x)
 }
 
 // A byte as a 32-bit number.
 pub fn widen32(x: u8) -> u32
     ensures { (result ≡ x) × (result < 256) }
 {
-    x as u32
+    u32::from(x)
 }
 
 // The byte at place i, counted from 0; past the end it reads as 0.
 pub fn byte_at(v: &[u8], i: usize) -> u8
     ensures { result ≡ get_or v.now i 0 }
 {
-    if i < v.len() {
-        return v[i];
-    }
-    0
+    v.get(i).copied().unwrap_or(0)
 }
 
 // Whether x lies between two bytes, inclusive.
+#[tactic(auto, using(std::proofs::lemmas::Bool::Decides::nat_tests), unfolding(crate::specs::Choice::both))]
 pub fn is_between(low: u8, x: u8, high: u8) -> bool
     ensures { result ≡ between low x high }
 {
-    if x < low {
-        return false;
-    }
-    x <= high
+    (low..=high).contains(&x)
 }
 
 // The same bytes.
+#[tactic(auto, using(crate::proofs::Alike::alike_pointwise))]
 pub fn bytes_equal(a: &[u8], b: &[u8]) -> bool
     ensures { result ≡ bytes_equal a.now b.now }
 {
-    if a.len() != b.len() {
-        return false;
-    }
-    let mut i = 0;
-    while i < a.len() {
-        if a[i] != b[i] {
-            return false;
-        }
-        i += 1;
-    }
-    true
+    a == b
 }
 
 // Copies some bytes over the front of others, which have room for them, and reports how many.

@@ -1,8 +1,7 @@
 -- The bench table's marked rows (document 01, "Bench table"), a field for each, over the definitions that the calls'
 -- promises cite.
 -- Assumes nothing.
-use Rattle.std.specs.Prelude.{◌≡◌, [], ◌∷◌, ◌++◌, ◌≤◌, length}
-use Rattle.std.proofs.Math.Option.{some}
+use Rattle.std.specs.Prelude.{◌≡◌, [], ◌∷◌, ◌++◌, ◌≤◌, length, Some}
 use Rattle.basics.specs.Types.{Bytes, StoreBytes, Value, Response, StartBytes, CommandBytes, Buffer, TvrBytes, Count}
 use Rattle.basics.specs.Front.{written_over_front}
 use Rattle.dictionary.specs.Rows.{dictionary_rows}
@@ -91,10 +90,10 @@ bench_tvr = 0x80 ∷ 0x00 ∷ 0x00 ∷ 0x80 ∷ 0x00 ∷ []
 
 -- each requested at a shorter and at a longer length
 pub record BenchDolFillings (store : StoreBytes) : Type 0 where
-  pub amount-2 : dol_filled dictionary_rows store (0x9F ∷ 0x02 ∷ 0x02 ∷ []) ≡ some (0x12 ∷ 0x34 ∷ [])
-  pub amount_7 : dol_filled dictionary_rows store (0x9F ∷ 0x02 ∷ 0x07 ∷ []) ≡ some (0x00 ∷ bench_amount)
-  pub results_3 : dol_filled dictionary_rows store (0x95 ∷ 0x03 ∷ []) ≡ some (0x80 ∷ 0x00 ∷ 0x00 ∷ [])
-  pub results_6 : dol_filled dictionary_rows store (0x95 ∷ 0x06 ∷ []) ≡ some (bench_tvr ++ (0x00 ∷ []))
+  pub amount-2 : dol_filled dictionary_rows store (0x9F ∷ 0x02 ∷ 0x02 ∷ []) ≡ Some (0x12 ∷ 0x34 ∷ [])
+  pub amount_7 : dol_filled dictionary_rows store (0x9F ∷ 0x02 ∷ 0x07 ∷ []) ≡ Some (0x00 ∷ bench_amount)
+  pub results_3 : dol_filled dictionary_rows store (0x95 ∷ 0x03 ∷ []) ≡ Some (0x80 ∷ 0x00 ∷ 0x00 ∷ [])
+  pub results_6 : dol_filled dictionary_rows store (0x95 ∷ 0x06 ∷ []) ≡ Some (bench_tvr ++ (0x00 ∷ []))
 
 -- a code with no bit set, and the TVR that the choice is made on
 abbrev pub bench_zero_action_code : Value

@@ -2,16 +2,17 @@
 -- kernel's step; the state around the store that a step left in its place; and a start on a fresh session and a
 -- buffer of its own.
 -- Assumes nothing.
+use Rattle.std.specs.Prelude.{Some, Result, Ok, Err, Option, None}
+use Rattle.std.specs.Option.{ok_or}
 use mathlib.Core.Path.{◌≡◌, refl, sym, ap, subst, ◌∙◌}
 use mathlib.Core.Bool.{Bool, true, false}
 use mathlib.Core.List.{List, ◌++◌}
 use mathlib.Core.Logic.{inl, inr}
-use mathlib.Core.Option.{Option, some, none}
 use Prim.Native.Nat.{ℕ, ◌+◌, ◌-◌, ◌≤◌, ◌<◌}
 use native.Mathlib.Omega.{arith}
 use lib.Dec.{leb, ltb}
 use lib.ListN.{length, take, drop, length-take, length-drop}
-use lib.Seq.{take-append_seam, take-length, length-take-le}
+use lib.Seq.{take-append_seam}
 use borrow.Author.Tests.{leb-true, le-leb, lt-leb, lt-ltb, le-ltb, ltb-false, eq-eqb, ne_eqb}
 use borrow.Rule.Slice.PartMut.{put_mid, put_same}
 use Rattle.basics.specs.Choice.{if, both}
@@ -33,18 +34,15 @@ use Rattle.session.specs.Steps.{NextAction, ask, end, CallEffect, refuse, follow
 use Rattle.session.specs.Steps.{least_buffer}
 use Rattle.session.specs.Start.{start_effect, start_step}
 use Rattle.session.proofs.Laws.{admitted_in}
-use Rattle.layout.specs.declared.SessionRecordHead.{SessionRecordHead}
-use Rattle.layout.specs.declared.DecodedRecordHead.{DecodedRecordHead}
-use Rattle.layout.specs.Layout.{record_head_size, session_record_size, decoded_session, decoded_record_head}
+use Rattle.layout.specs.Layout.{record_head_size, session_record_size, decoded_session}
 use Rattle.layout.specs.Layout.{record_head_written_over_front_if_room}
 use Rattle.layout.specs.Word.{refusal_word, result_word}
 use Rattle.layout.proofs.Lists.{put_head}
 use Rattle.layout.proofs.Laws.{held_store}
 use Rattle.session.specs.Calls.{is_refusal}
 use Rattle.session_record.specs.Session.{is_running, is_ended}
-use Rattle.step_laws.proofs.EveryCall.{Came, start_came, refused_nothing, command_sent_lem, buffer_length}
+use Rattle.step_laws.proofs.EveryCall.{start_came, command_sent_lem, buffer_length}
 use Rattle.step_laws.proofs.Ranges.{start_keeps}
-use Rattle.cabinet.specs.declared.CabinetAdmission.{CabinetAdmission}
 use Rattle.cabinet.specs.declared.Amounts.{Amounts}
 use Rattle.cabinet.specs.declared.CabinetWithoutStore.{CabinetWithoutStore}
 use Rattle.cabinet.specs.State.{Cabinet, cabinet, greatest_twelve_digit_amount, cabinet_state_size}
@@ -56,10 +54,10 @@ use Rattle.cabinet.specs.Calls.{CabinetResult, ReturnsCabinetResult, refused_amo
 use Rattle.cabinet.specs.Calls.{apply_to_cabinet_or_refuse, admit_cabinet_call, cabinet_result_with_amounts_settled}
 use Rattle.cabinet.specs.Calls.{kernel_step_on_cabinet, session_for_new_start, cabinet_start_if_amount_remains}
 use Rattle.cabinet.specs.Calls.{amount_of_start_step, cabinet_start_by_result, start_on_cabinet}
-use Rattle.cabinet.specs.Inner.{cabinet_without_store, cabinet_admission_refused, cabinet_admission_by_amounts_alone}
+use Rattle.cabinet.specs.Inner.{cabinet_without_store, cabinet_admission_by_amounts_alone}
 use Rattle.cabinet.specs.Inner.{cabinet_admission_for_session, admission_by_state_bytes, admission_by_state_and_buffer_size}
 use Rattle.cabinet.specs.Inner.{cabinet_with_store_in, cabinet_call_if_session_in_ranges, cabinet_start_on_fresh}
-use Rattle.cabinet.specs.Inner.{command_size_or_zero, command_copied_to_buffer, state_with_amounts, amounts_after_result}
+use Rattle.cabinet.specs.Inner.{RefusesAsKernel, command_size_or_zero, command_copied_to_buffer, state_with_amounts, amounts_after_result}
 use Rattle.cabinet.specs.Inner.{state_after_result, state_after_transition}
 use Rattle.cabinet.proofs.State.{amounts_behind}
 
@@ -72,52 +70,37 @@ store_in l = take store_size (drop record_head_size l)
 pub store_long : (l : List ℕ) → session_record_size ≤ length l → length (store_in l) ≡ store_size
 store_long l h = simp (length-take, length-drop) (omega arith)
 
--- the session of a head that is said
-pub head_session : (l : List ℕ) (h : SessionRecordHead) → decoded_record_head (decoded_session l)
-    ≡ DecodedRecordHead.Record h → decoded_session l ≡ some (session_of h.phase h.count (store_in l))
-head_session l h e = go (decoded_session l) refl e
-  where
-    go : (x : Option Session) → decoded_session l ≡ x → decoded_record_head x ≡ DecodedRecordHead.Record h
-        → x ≡ some (session_of h.phase h.count (store_in l))
-    go none d e = let z : ◌≡◌ {A = ℕ} 0 1 = cc in absurd (omega arith)
-    go (some s) d e =
-        let g : record { phase = s.phase; count = s.count } ≡ h = cc in
-        let k = (held_store l s d).1 in
-        λ i. some (session_of (g i).phase (g i).count (k i))
-
 -- what is said of bytes that are too few, that hold no record, and of those that hold one, by the two tests
 -- of the amounts
 module _ (l : List ℕ) where
-  pub holding_short : length l < cabinet_state_size → admission_by_state_bytes l ≡ cabinet_admission_refused
-      refusal_record_out_of_ranges
+  pub holding_short : length l < cabinet_state_size → admission_by_state_bytes l ≡ None
   unfolding admission_by_state_bytes
   holding_short h = if_no _ _ (lt-leb _ _ h)
 
   module _ (h : cabinet_state_size ≤ length l) where
-    pub holding_none_lem : decoded_session l ≡ none → admission_by_state_bytes l ≡ cabinet_admission_refused
-        refusal_record_out_of_ranges
+    pub holding_none_lem : decoded_session l ≡ None → admission_by_state_bytes l ≡ None
     unfolding admission_by_state_bytes
     holding_none_lem e = if_yes _ _ (le-leb _ _ h) ∙ ap (cabinet_admission_for_session l) e
 
-    module _ (p : Phase) (n : ℕ) (e : decoded_session l ≡ some (session_of p n (store_in l))) where
+    module _ (p : Phase) (n : ℕ) (e : decoded_session l ≡ Some (session_of p n (store_in l))) where
       holding_some : admission_by_state_bytes l ≡ cabinet_admission_by_amounts_alone
           (cabinet (session_of p n (store_in l)) (remaining_in_cabinet_state l) (reserved_in_cabinet_state l))
       unfolding admission_by_state_bytes
       holding_some = if_yes _ _ (le-leb _ _ h) ∙ ap (cabinet_admission_for_session l) e
 
       pub holding_undue : (reserved_in_cabinet_state l ≡ running_session_amount_or_zero p (store_in l) → ⊥)
-          → admission_by_state_bytes l ≡ cabinet_admission_refused refusal_record_out_of_ranges
+          → admission_by_state_bytes l ≡ None
       unfolding reserved_matches_session_and_sum_in_range
       holding_undue f = holding_some ∙ if_no _ _ (both_no_left _ _ (ne_eqb _ _ f))
 
       pub holding_over : leb (remaining_in_cabinet_state l + reserved_in_cabinet_state l) greatest_twelve_digit_amount ≡ false
-          → admission_by_state_bytes l ≡ cabinet_admission_refused refusal_record_out_of_ranges
+          → admission_by_state_bytes l ≡ None
       unfolding reserved_matches_session_and_sum_in_range
       holding_over f = holding_some ∙ if_no _ _ (both_no_right _ _ f)
 
       pub holding_fits : reserved_in_cabinet_state l ≡ running_session_amount_or_zero p (store_in l)
           → leb (remaining_in_cabinet_state l + reserved_in_cabinet_state l) greatest_twelve_digit_amount ≡ true
-          → admission_by_state_bytes l ≡ CabinetAdmission.Admitted
+          → admission_by_state_bytes l ≡ Some
           (record {
             phase = p;
             count = n;
@@ -143,52 +126,42 @@ module _ (l : List ℕ) where
     pub enough : cabinet_state_size ≤ length l
     pub fits : h.amounts.remaining + h.amounts.reserved ≤ greatest_twelve_digit_amount
     pub held : decoded_cabinet_if_valid l ≡ if (session_record_in_ranges (cabinet_with_store_in h l).session)
-        (some (cabinet_with_store_in h l)) none
+        (Some (cabinet_with_store_in h l)) None
 
-  pub record Untold (w : ℕ) : Type 0 where
-    pub word : w ≡ refusal_word refusal_record_out_of_ranges
-    pub held : decoded_cabinet_if_valid l ≡ none
-
-  held_refused : (x : Option Session) (w : ℕ) → cabinet_admission_for_session l x ≡ CabinetAdmission.Refused w
-      → (w ≡ refusal_word refusal_record_out_of_ranges) × (decoded_cabinet_of_session l x ≡ none)
-  held_refused none w e = (cc, refl)
-  held_refused (some s) w e =
+  held_refused : (x : Option Session) → cabinet_admission_for_session l x ≡ None → decoded_cabinet_of_session l x ≡ None
+  held_refused None e = refl
+  held_refused (Some s) e =
       elim
       (bool_cases
       (reserved_matches_session_and_sum_in_range (cabinet s (remaining_in_cabinet_state l) (reserved_in_cabinet_state l)))) [
         | inl t ↦
-            let f : CabinetAdmission.Admitted
+            let f : Some
             (cabinet_without_store (cabinet s (remaining_in_cabinet_state l) (reserved_in_cabinet_state l)))
-            ≡ CabinetAdmission.Refused w = sym (if_yes _ _ t) ∙ e in
+            ≡ None = sym (if_yes _ _ t) ∙ e in
             let z : ◌≡◌ {A = ℕ} 0 1 = cc in
             absurd (omega arith)
-        | inr t ↦
-            let f : cabinet_admission_refused refusal_record_out_of_ranges ≡ CabinetAdmission.Refused w = sym (if_no _ _ t) ∙
-            e in
-            (cc, if_no _ _ (both_no_right _ _ t))
+        | inr t ↦ if_no _ _ (both_no_right _ _ t)
       ]
 
   held_taken : (x : Option Session) (h : CabinetWithoutStore) → decoded_session l ≡ x → cabinet_admission_for_session l x
-      ≡ CabinetAdmission.Admitted h
+      ≡ Some h
       → (h.amounts.remaining + h.amounts.reserved ≤ greatest_twelve_digit_amount)
       × (decoded_cabinet_of_session l x ≡ if (session_record_in_ranges (cabinet_with_store_in h l).session)
-      (some (cabinet_with_store_in h l)) none)
+      (Some (cabinet_with_store_in h l)) None)
   unfolding reserved_matches_session_and_sum_in_range
-  held_taken none h d e = let z : ◌≡◌ {A = ℕ} 0 1 = cc in absurd (omega arith)
-  held_taken (some s) h d e =
+  held_taken None h d e = let z : ◌≡◌ {A = ℕ} 0 1 = cc in absurd (omega arith)
+  held_taken (Some s) h d e =
       elim
       (bool_cases
       (reserved_matches_session_and_sum_in_range (cabinet s (remaining_in_cabinet_state l) (reserved_in_cabinet_state l)))) [
         | inl t ↦
-            let f : CabinetAdmission.Admitted
+            let f : Some
             (cabinet_without_store (cabinet s (remaining_in_cabinet_state l) (reserved_in_cabinet_state l)))
-            ≡ CabinetAdmission.Admitted h = sym (if_yes _ _ t) ∙ e in
+            ≡ Some h = sym (if_yes _ _ t) ∙ e in
             let g : cabinet_without_store (cabinet s (remaining_in_cabinet_state l) (reserved_in_cabinet_state l)) ≡ h = cc in
             (subst Sum g (total t), subst Is g (is t))
         | inr t ↦
-            let f : cabinet_admission_refused refusal_record_out_of_ranges ≡ CabinetAdmission.Admitted h = sym (if_no _ _ t) ∙
-            e
-            in
+            let f : None ≡ Some h = sym (if_no _ _ t) ∙ e in
             let z : ◌≡◌ {A = ℕ} 0 1 = cc in
             absurd (omega arith)
       ]
@@ -197,8 +170,8 @@ module _ (l : List ℕ) where
       Sum k = k.amounts.remaining + k.amounts.reserved ≤ greatest_twelve_digit_amount
 
       Is : CabinetWithoutStore → Type 0
-      Is k = decoded_cabinet_of_session l (some s) ≡ if (session_record_in_ranges (cabinet_with_store_in k l).session)
-          (some (cabinet_with_store_in k l)) none
+      Is k = decoded_cabinet_of_session l (Some s) ≡ if (session_record_in_ranges (cabinet_with_store_in k l).session)
+          (Some (cabinet_with_store_in k l)) None
 
       own : Cabinet
       own = cabinet s (remaining_in_cabinet_state l) (reserved_in_cabinet_state l)
@@ -213,52 +186,58 @@ module _ (l : List ℕ) where
 
       is : reserved_matches_session_and_sum_in_range own ≡ true → Is (cabinet_without_store own)
       is t =
-          ap (λ (b : Bool). if b (some own) none) (both_passed (session_record_in_ranges s) _ t)
-          ∙ ap (λ (c : Cabinet). if (session_record_in_ranges c.session) (some c) none) same
+          ap (λ (b : Bool). if b (Some own) None) (both_passed (session_record_in_ranges s) _ t)
+          ∙ ap (λ (c : Cabinet). if (session_record_in_ranges c.session) (Some c) None) same
 
-  pub state_refused : (w : ℕ) → admission_by_state_bytes l ≡ CabinetAdmission.Refused w → Untold w
+  pub state_refused : admission_by_state_bytes l ≡ None → decoded_cabinet_if_valid l ≡ None
   unfolding admission_by_state_bytes decoded_cabinet_if_valid
-  state_refused w e = elim (bool_cases (leb cabinet_state_size (length l))) [
-    | inl t ↦
-        let k = held_refused (decoded_session l) w (sym (if_yes _ _ t) ∙ e) in
-        record { word = k.0; held = if_yes _ _ t ∙ k.1 }
-    | inr t ↦
-        let f : cabinet_admission_refused refusal_record_out_of_ranges ≡ CabinetAdmission.Refused w = sym (if_no _ _ t) ∙ e in
-        record { word = cc; held = if_no _ _ t }
+  state_refused e = elim (bool_cases (leb cabinet_state_size (length l))) [
+    | inl t ↦ if_yes _ _ t ∙ held_refused (decoded_session l) (sym (if_yes _ _ t) ∙ e)
+    | inr t ↦ if_no _ _ t
   ]
 
-  pub state_taken : (h : CabinetWithoutStore) → admission_by_state_bytes l ≡ CabinetAdmission.Admitted h → Told h
+  pub state_taken : (h : CabinetWithoutStore) → admission_by_state_bytes l ≡ Some h → Told h
   unfolding admission_by_state_bytes decoded_cabinet_if_valid
   state_taken h e = elim (bool_cases (leb cabinet_state_size (length l))) [
     | inl t ↦
         let k = held_taken (decoded_session l) h refl (sym (if_yes _ _ t) ∙ e) in
         record { enough = leb-true _ _ t; fits = k.0; held = if_yes _ _ t ∙ k.1 }
     | inr t ↦
-        let f : cabinet_admission_refused refusal_record_out_of_ranges ≡ CabinetAdmission.Admitted h = sym (if_no _ _ t) ∙ e
-        in
+        let f : None ≡ Some h = sym (if_no _ _ t) ∙ e in
         let z : ◌≡◌ {A = ℕ} 0 1 = cc in
         absurd (omega arith)
   ]
 
 -- ---- a call past its first tests
 
+-- what is said where a state reports nothing, and where it reports
+refused_by : (x : Option CabinetWithoutStore) (w : ℕ) → ok_or x (refusal_word refusal_record_out_of_ranges) ≡ Err w
+    → (w ≡ refusal_word refusal_record_out_of_ranges) × (x ≡ None)
+refused_by None w e = (cc, refl)
+refused_by (Some h) w e = let z : ◌≡◌ {A = ℕ} 0 1 = cc in absurd (omega arith)
+
+taken_by_lem : (x : Option CabinetWithoutStore) (h : CabinetWithoutStore)
+    → ok_or x (refusal_word refusal_record_out_of_ranges) ≡ Ok h → x ≡ Some h
+taken_by_lem None h e = let z : ◌≡◌ {A = ℕ} 0 1 = cc in absurd (omega arith)
+taken_by_lem (Some k) h e = cc
+
 module _ (l buf : List ℕ) where
   -- a call that is not taken gives its word, and touches nothing
-  pub over_refused : {a : CabinetAdmission} (does : Cabinet → CabinetResult) (w : ℕ)
-      → a ≡ admission_by_state_and_buffer_size l (length buf) → a ≡ CabinetAdmission.Refused w
+  pub over_refused : {a : Result CabinetWithoutStore ℕ} (does : Cabinet → CabinetResult) (w : ℕ)
+      → a ≡ admission_by_state_and_buffer_size l (length buf) → a ≡ Err w
       → ReturnsCabinetResult w l buf (admit_cabinet_call does l buf)
   unfolding admit_cabinet_call admission_by_state_and_buffer_size
   over_refused does w f g = elim (bool_cases (ltb (length buf) least_buffer)) [
     | inl t ↦
-        let e : cabinet_admission_refused refusal_buffer_too_small ≡ CabinetAdmission.Refused w = sym (if_yes _ _ t) ∙ sym f
-        ∙ g in
+        let e : ◌≡◌ {A = Result CabinetWithoutStore ℕ} (Err (refusal_word refusal_buffer_too_small)) (Err w) =
+        sym (if_yes _ _ t) ∙ sym f ∙ g in
         let k : w ≡ refusal_word refusal_buffer_too_small = cc in
         subst (ReturnsCabinetResult w l buf) (sym (if_yes _ _ t)) (record { word = k; state = refl; buffer = refl })
     | inr t ↦
-        let k = state_refused l w (sym (if_no _ _ t) ∙ sym f ∙ g) in
+        let k = refused_by (admission_by_state_bytes l) w (sym (if_no _ _ t) ∙ sym f ∙ g) in
         subst (ReturnsCabinetResult w l buf)
-        (sym (if_no _ _ t ∙ ap (λ (x : Option Cabinet). apply_to_cabinet_or_refuse does l buf x) k.held))
-        (record { word = k.word; state = refl; buffer = refl })
+        (sym (if_no _ _ t ∙ ap (λ (x : Option Cabinet). apply_to_cabinet_or_refuse does l buf x) (state_refused l k.1)))
+        (record { word = k.0; state = refl; buffer = refl })
   ]
 
   -- of one that is taken the buffer has room, and the state is as reported
@@ -266,16 +245,16 @@ module _ (l buf : List ℕ) where
     pub room : least_buffer ≤ length buf
     pub told : Told l h
 
-  pub over_taken : {a : CabinetAdmission} (h : CabinetWithoutStore) → a ≡ admission_by_state_and_buffer_size l (length buf)
-      → a ≡ CabinetAdmission.Admitted h → Taken h
+  pub over_taken : {a : Result CabinetWithoutStore ℕ} (h : CabinetWithoutStore) → a ≡ admission_by_state_and_buffer_size l (length buf)
+      → a ≡ Ok h → Taken h
   unfolding admission_by_state_and_buffer_size
   over_taken h f g = elim (bool_cases (ltb (length buf) least_buffer)) [
     | inl t ↦
-        let e : cabinet_admission_refused refusal_buffer_too_small ≡ CabinetAdmission.Admitted h = sym (if_yes _ _ t) ∙ sym f
-        ∙ g in
+        let e : ◌≡◌ {A = Result CabinetWithoutStore ℕ} (Err (refusal_word refusal_buffer_too_small)) (Ok h) =
+        sym (if_yes _ _ t) ∙ sym f ∙ g in
         let z : ◌≡◌ {A = ℕ} 0 1 = cc in
         absurd (omega arith)
-    | inr t ↦ record { room = ltb-false _ _ t; told = state_taken l h (sym (if_no _ _ t) ∙ sym f ∙ g) }
+    | inr t ↦ record { room = ltb-false _ _ t; told = state_taken l h (taken_by_lem (admission_by_state_bytes l) h (sym (if_no _ _ t) ∙ sym f ∙ g)) }
   ]
 
   -- and the session's ranges decide
@@ -377,10 +356,8 @@ module _ (l buf : List ℕ) (h : cabinet_state_size ≤ length l) (st : Step) (t
 
 -- ---- answer, link failed and stop
 
-module _ (step : Session → List ℕ → Step) (came : (s : Session) (b : List ℕ) → Came s b (step s b))
-    (unranged : (s : Session) (b : List ℕ) → least_buffer ≤ length b → session_record_in_ranges s ≡ false
-    → step s b ≡ steps.refused_step s refusal_record_out_of_ranges b)
-    (l buf : List ℕ) (h : CabinetWithoutStore) (k : Taken l buf h) where
+module _ (step : Session → List ℕ → Step) (refuses : RefusesAsKernel step) (l buf : List ℕ) (h : CabinetWithoutStore)
+    (k : Taken l buf h) where
   abbrev own : Session
   own = session_of h.phase h.count (store_in l)
 
@@ -391,7 +368,7 @@ module _ (step : Session → List ℕ → Step) (came : (s : Session) (b : List 
   by_kernel = elim (bool_cases (session_record_in_ranges own)) [
     | inl t ↦ if_yes _ _ t
     | inr t ↦ if_no _ _ t ∙ ap (λ (st : Step). cabinet_result_with_amounts_settled st.reply.answer st
-        h.amounts.remaining h.amounts.reserved l buf) (sym (unranged own buf k.room t))
+        h.amounts.remaining h.amounts.reserved l buf) (sym (refuses.ranges own buf k.room t))
   ]
 
   pub over-step : (w : ℕ) (l' b' c : List ℕ) (t : Transition) → steps.ReturnsStep (reply_of t c) b' (step own buf)
@@ -410,23 +387,11 @@ module _ (step : Session → List ℕ → Step) (came : (s : Session) (b : List 
       kept : (r : Refusal) → t.answer ≡ CallResult.Refused r → (put_mid record_head_size store_size l c ≡ l)
           × ((step own buf).buffer ≡ buf)
       kept r e =
-          let n = refused_nothing (came own buf) r (sym (ap (λ (x : Reply). x.answer) did.reply) ∙ e) in (
+          let n = refuses.refusal own buf r (sym (ap (λ (x : Reply). x.answer) did.reply) ∙ e) in (
             ap (put_mid record_head_size store_size l) (ap (λ (x : Reply). store_bytes x.session) did.reply ∙ ap
                 (λ (x : Step). store_bytes x.reply.session) n) ∙ put_same record_head_size store_size l,
             ap (λ (x : Step). x.buffer) n,
           )
-
-  -- the same of a call that only examines the store
-  pub over_kept : (w : ℕ) (l' b' : List ℕ) (t : Transition)
-      → steps.ReturnsStep (reply_of t (store_in l)) b' (step own buf)
-      → (w ≡ result_word t.answer) × (l' ≡ state_after_transition t h.amounts l)
-      → ReturnsCabinetResult w l' b' (admit_cabinet_call (kernel_step_on_cabinet step l buf) l buf)
-  over_kept w l' b' t did f =
-      over-step w l' b' (store_in l) t did refl (
-        f.0,
-        f.1 ∙ ap (state_after_transition t h.amounts)
-            (sym (put_same record_head_size store_size l)),
-      )
 
 -- ---- start: on a running session
 
@@ -505,12 +470,7 @@ taken_amount (CallResult.Command x) st n l buf e = refl
 taken_amount (CallResult.Outcome x) st n l buf e = refl
 taken_amount (CallResult.Refused r) st n l buf e = let z : ◌≡◌ {A = ℕ} 0 1 = cc in absurd (omega arith)
 
--- a command copied from the front of a buffer; no command
-pub handed_command : (x : CommandLength) (f b m : List ℕ) → x.size ≤ length f
-    → m ≡ take (length (take x.size f)) (take x.size f) ++ drop (length (take x.size f)) b
-    → m ≡ command_copied_to_buffer (CallResult.Command x) f b
-handed_command x f b m h e = e ∙ (λ i. take-length (take x.size f) i ++ drop (length-take-le x.size f h i) b)
-
+-- an answer without a command copies nothing
 pub handed_nothing : (x : CallResult) (f b : List ℕ) → ((c : CommandLength) → x ≡ CallResult.Command c → ⊥)
     → b ≡ command_copied_to_buffer x f b
 handed_nothing (CallResult.Command x) f b h = absurd (h x refl)

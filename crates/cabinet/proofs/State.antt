@@ -1,10 +1,10 @@
 -- The state in bytes: the two amounts are written after the record and read back, the bytes after the state stay, and a
 -- state that is written over another is as if the other had not been.
 -- Assumes nothing.
+use Rattle.std.specs.Prelude.{Option, Some, None}
 use mathlib.Core.Path.{◌≡◌, sym, ap, ◌∙◌}
 use mathlib.Core.Bool.{true}
 use mathlib.Core.List.{List, ◌++◌, append_assoc}
-use mathlib.Core.Option.{Option, some, none}
 use Prim.Native.Nat.{ℕ, ◌+◌, ◌≤◌}
 use native.Mathlib.Omega.{arith}
 use lib.ListN.{length, take, drop, length-append, length-drop}
@@ -89,7 +89,7 @@ module _ (c : Cabinet) (l : List ℕ) (z : length (store_bytes c.session) ≡ st
   unfolding cabinet_written_over_front
   behind_record = drop_at (encoded_session c.session) after session_record_size (encoded_size c.session z)
 
-  pub state_decoded : decoded_session (cabinet_written_over_front c l) ≡ some c.session
+  pub state_decoded : decoded_session (cabinet_written_over_front c l) ≡ Some c.session
   unfolding cabinet_written_over_front
   state_decoded = decode-encode c.session after z
 
@@ -124,7 +124,7 @@ module _ (c : Cabinet) (l : List ℕ) (z : length (store_bytes c.session) ≡ st
 
   -- a cabinet in order is read back
   pub state_read : cabinet_state_size ≤ length l → cabinet_session_and_amounts_valid c ≡ true
-      → decoded_cabinet_if_valid (cabinet_written_over_front c l) ≡ some c
+      → decoded_cabinet_if_valid (cabinet_written_over_front c l) ≡ Some c
   unfolding decoded_cabinet_if_valid
   state_read h o =
       if_yes _ _ (le-leb cabinet_state_size (length (cabinet_written_over_front c l)) (omega (arith, state_length h)))
@@ -133,4 +133,4 @@ module _ (c : Cabinet) (l : List ℕ) (z : length (store_bytes c.session) ≡ st
       ∙ if_yes _ _ o
     where
       in_order : Cabinet → Option Cabinet
-      in_order d = when cabinet_session_and_amounts_valid d then some d else none
+      in_order d = when cabinet_session_and_amounts_valid d then Some d else None

@@ -1,8 +1,7 @@
 -- The calls of a cabinet (document 02, Item 14), each on any bytes: the kernel's step on the session that the state
 -- holds, and what becomes of the cap. Refusals are checked in the order 22, 25, 21, 20, 23, 24, 30; opening has 25, 31.
 -- Assumes nothing.
-use Rattle.std.specs.Prelude.{◌≡◌, ◌+◌, ◌-◌, length}
-use Rattle.std.proofs.Math.Option.{Option, some, none}
+use Rattle.std.specs.Prelude.{◌≡◌, ◌+◌, ◌-◌, length, Option, Some, None}
 use Rattle.basics.specs.Choice.{when◌then◌else◌, ◌<?◌}
 use Rattle.basics.specs.Reason.{refusal_buffer_too_small, refusal_record_out_of_ranges}
 use Rattle.basics.specs.Types.{Bytes, Buffer, StartBytes, Response, Amount, RefusalNumber, ResultWord}
@@ -50,8 +49,8 @@ cabinet_refusal n l buf = record { word = refusal_word n; state = l; buffer = bu
 
 -- the buffer's size (22), then the state (25), then what the call does on the cabinet that the bytes hold
 abbrev pub apply_to_cabinet_or_refuse : (Cabinet → CabinetResult) → Bytes → Buffer → Option Cabinet → CabinetResult
-apply_to_cabinet_or_refuse does l buf none = cabinet_refusal refusal_record_out_of_ranges l buf
-apply_to_cabinet_or_refuse does l buf (some c) = does c
+apply_to_cabinet_or_refuse does l buf None = cabinet_refusal refusal_record_out_of_ranges l buf
+apply_to_cabinet_or_refuse does l buf (Some c) = does c
 
 unfoldable pub admit_cabinet_call : (Cabinet → CabinetResult) → Bytes → Buffer → CabinetResult
 admit_cabinet_call does l buf =
@@ -159,8 +158,8 @@ pub record OpensCabinetOrRefuses (cap : Amount) (returned_word : ResultWord) (st
 
 -- what remains; all ones where the bytes are refused with 25
 abbrev pub remaining_amount_or_all_ones : Option Cabinet → Amount
-remaining_amount_or_all_ones none = 0xFFFFFFFFFFFFFFFF
-remaining_amount_or_all_ones (some c) = c.remaining
+remaining_amount_or_all_ones None = 0xFFFFFFFFFFFFFFFF
+remaining_amount_or_all_ones (Some c) = c.remaining
 
 -- ---- what holds of it for every cabinet and every list of calls, promised by cabinet_calls::most_approved
 --   Balanced       the remaining and reserved amounts and those of approved sessions are together the cap

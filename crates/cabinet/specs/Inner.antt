@@ -2,25 +2,27 @@
 -- session's ranges to the kernel's step, and the state as the code writes it after the store. This file states no rule:
 -- a reader of the rules can skip it. proofs/Laws ties it to specs/State and specs/Calls.
 -- Assumes nothing.
-use Rattle.std.specs.Prelude.{◌++◌, length, take, drop}
-use Rattle.std.proofs.Math.Option.{Option, some, none}
+use Rattle.std.specs.Borrow.{MutBor}
+use Rattle.std.specs.Prelude.{◌≡◌, ◌≤◌, false, ◌++◌, length, take, drop, Option, Some, None, Result, Err, ℕ}
+use Rattle.std.specs.Option.{ok_or}
 use Rattle.basics.specs.Choice.{when◌then◌else◌, ◌≤?◌, ◌<?◌}
 use Rattle.basics.specs.Reason.{refusal_buffer_too_small, refusal_record_out_of_ranges}
-use Rattle.basics.specs.Types.{Bytes, Buffer, StartBytes, Length, Amount, RefusalNumber}
+use Rattle.basics.specs.Types.{Bytes, Buffer, StartBytes, Length, Amount}
 use Rattle.dictionary.specs.Rows.{store_size}
 use Rattle.session_record.specs.declared.CallResult.{CallResult}
+use Rattle.session_record.specs.declared.Phase.{Phase}
+use Rattle.session_record.specs.declared.Refusal.{Refusal}
 use Rattle.session_record.specs.declared.Session.{Session}
 use Rattle.session_record.specs.declared.Transition.{Transition}
 use Rattle.session_record.specs.Session.{session_of, fresh_session}
 use Rattle.session_record.specs.Ranges.{session_record_in_ranges}
-use Rattle.session.specs.Steps.{least_buffer}
+use Rattle.session.specs.Steps.{Step, ReturnsTransition, least_buffer, refused_step}
 use Rattle.session.specs.Start.{start_step}
 use Rattle.layout.specs.Layout.{record_head_size, session_record_size, big_endian_bytes, decoded_session}
 use Rattle.layout.specs.Layout.{record_head_written_over_front_if_room}
 use Rattle.layout.specs.Word.{refusal_word}
 use Rattle.cabinet.specs.declared.Amounts.{Amounts}
 use Rattle.cabinet.specs.declared.CabinetWithoutStore.{CabinetWithoutStore}
-use Rattle.cabinet.specs.declared.CabinetAdmission.{CabinetAdmission}
 use Rattle.cabinet.specs.State.{Cabinet, cabinet, cabinet_state_size, remaining_in_cabinet_state}
 use Rattle.cabinet.specs.State.{reserved_in_cabinet_state, reserved_matches_session_and_sum_in_range}
 use Rattle.cabinet.specs.Calls.{CabinetResult, cabinet_refusal, remaining_after_outcome, cabinet_start_by_result}
@@ -36,31 +38,26 @@ cabinet_without_store c =
       amounts = record { remaining = c.remaining; reserved = c.reserved };
     }
 
-abbrev pub cabinet_admission_refused : RefusalNumber → CabinetAdmission
-cabinet_admission_refused n = CabinetAdmission.Refused (refusal_word n)
-
 -- a cabinet whose amounts fit, whatever its session's ranges
-abbrev pub cabinet_admission_by_amounts_alone : Cabinet → CabinetAdmission
+abbrev pub cabinet_admission_by_amounts_alone : Cabinet → Option CabinetWithoutStore
 cabinet_admission_by_amounts_alone c =
-    when reserved_matches_session_and_sum_in_range c then CabinetAdmission.Admitted (cabinet_without_store c)
-    else cabinet_admission_refused refusal_record_out_of_ranges
+    when reserved_matches_session_and_sum_in_range c then Some (cabinet_without_store c) else None
 
-abbrev pub cabinet_admission_for_session : Bytes → Option Session → CabinetAdmission
-cabinet_admission_for_session l none = cabinet_admission_refused refusal_record_out_of_ranges
-cabinet_admission_for_session l (some s) =
+abbrev pub cabinet_admission_for_session : Bytes → Option Session → Option CabinetWithoutStore
+cabinet_admission_for_session l None = None
+cabinet_admission_for_session l (Some s) =
     cabinet_admission_by_amounts_alone (cabinet s (remaining_in_cabinet_state l) (reserved_in_cabinet_state l))
 
--- what a state reports, or refusal 25
-unfoldable pub admission_by_state_bytes : Bytes → CabinetAdmission
+-- what a state reports; none where it is refused with 25
+unfoldable pub admission_by_state_bytes : Bytes → Option CabinetWithoutStore
 admission_by_state_bytes l =
-    when cabinet_state_size ≤? length l then cabinet_admission_for_session l (decoded_session l)
-    else cabinet_admission_refused refusal_record_out_of_ranges
+    when cabinet_state_size ≤? length l then cabinet_admission_for_session l (decoded_session l) else None
 
 -- the buffer's size comes first
-unfoldable pub admission_by_state_and_buffer_size : Bytes → Length → CabinetAdmission
+unfoldable pub admission_by_state_and_buffer_size : Bytes → Length → Result CabinetWithoutStore ℕ
 admission_by_state_and_buffer_size l size =
-    when size <? least_buffer then cabinet_admission_refused refusal_buffer_too_small
-    else admission_by_state_bytes l
+    when size <? least_buffer then Err (refusal_word refusal_buffer_too_small)
+    else ok_or (admission_by_state_bytes l) (refusal_word refusal_record_out_of_ranges)
 
 -- the cabinet of what a state reports, with the store that lies in the bytes
 abbrev pub cabinet_with_store_in : CabinetWithoutStore → Bytes → Cabinet
@@ -91,6 +88,23 @@ abbrev pub command_copied_to_buffer : CallResult → Buffer → Buffer → Buffe
 command_copied_to_buffer (CallResult.Command x) first buf = take x.size first ++ drop x.size buf
 command_copied_to_buffer (CallResult.Outcome e) first buf = buf
 command_copied_to_buffer (CallResult.Refused r) first buf = buf
+
+-- ---- a call but a start, by its step
+
+-- the kernel's step refuses a session that is out of its ranges, and leaves what it refuses
+pub record RefusesAsKernel (step : Session → Buffer → Step) : Type 0 where
+  pub ranges : (s : Session) (buf : Buffer) → least_buffer ≤ length buf → session_record_in_ranges s ≡ false
+      → step s buf ≡ refused_step s refusal_record_out_of_ranges buf
+  pub refusal : (s : Session) (buf : Buffer) (r : Refusal) → (step s buf).reply.answer ≡ CallResult.Refused r
+      → step s buf ≡ refused_step s r.number buf
+
+-- what a call may give at a phase, a count, a store and a buffer is what the step on the session of these parts gives
+abbrev pub TakesStep : (Phase → ℕ → MutBor Bytes → MutBor Buffer → Transition → MutBor Bytes → MutBor Buffer → Type 0)
+    → (Session → Buffer → Step) → Type 0
+TakesStep gives step =
+    (p : Phase) (n : ℕ) (store : MutBor Bytes) (buf : MutBor Buffer) (t : Transition) (store' : MutBor Bytes)
+    (buf' : MutBor Buffer) → gives p n store buf t store' buf'
+    → ReturnsTransition t store'.now buf'.now (step (session_of p n store.now) buf.now)
 
 -- ---- the state as it is written
 

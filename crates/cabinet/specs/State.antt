@@ -1,8 +1,7 @@
 -- The state of a cabinet in bytes (document 02, Item 14): the session's record, what remains of the cap (document 02:
 -- left), the amount reserved (document 02: set aside); each of the two eight bytes, high byte first.
 -- Assumes nothing.
-use Rattle.std.specs.Prelude.{Bool, ◌++◌, ◌+◌, length, take, drop}
-use Rattle.std.proofs.Math.Option.{Option, some, none}
+use Rattle.std.specs.Prelude.{Bool, ◌++◌, ◌+◌, length, take, drop, Option, Some, None}
 use Rattle.basics.specs.Choice.{when◌then◌else◌, ◌and◌, ◌≤?◌, ◌=?◌}
 use Rattle.basics.specs.Number.{big_endian_number}
 use Rattle.basics.specs.Types.{Bytes, StoreBytes, Length, Amount}
@@ -70,14 +69,14 @@ cabinet_session_and_amounts_valid c = session_record_in_ranges c.session and res
 
 -- the session that the record holds, with the bytes' amounts, where they are in order
 abbrev pub decoded_cabinet_of_session : Bytes → Option Session → Option Cabinet
-decoded_cabinet_of_session l none = none
-decoded_cabinet_of_session l (some s) =
+decoded_cabinet_of_session l None = None
+decoded_cabinet_of_session l (Some s) =
     let c = cabinet s (remaining_in_cabinet_state l) (reserved_in_cabinet_state l) in
-    when cabinet_session_and_amounts_valid c then some c else none
+    when cabinet_session_and_amounts_valid c then Some c else None
 
 -- the cabinet that bytes hold; none where they are too few, hold no record, or hold one that is not in order: 25
 unfoldable pub decoded_cabinet_if_valid : Bytes → Option Cabinet
-decoded_cabinet_if_valid l = when cabinet_state_size ≤? length l then decoded_cabinet_of_session l (decoded_session l) else none
+decoded_cabinet_if_valid l = when cabinet_state_size ≤? length l then decoded_cabinet_of_session l (decoded_session l) else None
 
 -- ---- what holds of it, proved in proofs/State
 --   state-read    a cabinet in order that was written is read back

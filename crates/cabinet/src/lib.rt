@@ -6,21 +6,21 @@
 // docs/HOST.md has the state and the words; `cabinet_c` exports the calls.
 #![tactic(auto)]
 
-ghost use Rattle.std.specs.Prelude.{◌≡◌, ◌+◌, ◌*◌, ◌≤◌, ◌<◌, leb, length};
-ghost use Rattle.basics.specs.Number.{big_endian_number as number_of};
-ghost use Rattle.session.specs.Steps.{least_buffer};
-ghost use Rattle.layout.specs.Layout.{big_endian_bytes};
+ghost use Rattle.std.specs.Prelude.{◌≡◌, ◌+◌, ◌≤◌, leb, length};
+ghost use Rattle.basics.specs.Types.{Buffer};
+ghost use Rattle.session_record.specs.declared.Session.{Session};
+ghost use Rattle.session.specs.Steps.{Step, least_buffer};
 ghost use Rattle.layout.specs.Word.{result_word};
 ghost use Rattle.session_record.specs.Session.{is_running};
 ghost use Rattle.cabinet_lookup.specs.Word.{lookup_word};
 ghost use Rattle.cabinet.specs.State.{greatest_twelve_digit_amount, cabinet_state_size, stored_amount_authorized, running_session_amount_or_zero, decoded_cabinet_if_valid};
-ghost use Rattle.cabinet.specs.Calls.{ReturnsCabinetResult, OpensCabinetOrRefuses, remaining_after_outcome, remaining_amount_or_all_ones, start_on_cabinet};
-ghost use Rattle.cabinet.specs.Calls.{cabinet_start, cabinet_answer, cabinet_link_failed, cabinet_stop};
-ghost use Rattle.cabinet.specs.Inner.{admission_by_state_bytes, admission_by_state_and_buffer_size, cabinet_with_store_in, cabinet_call_if_session_in_ranges, cabinet_start_on_fresh};
-ghost use Rattle.cabinet.specs.Inner.{command_size_or_zero, command_copied_to_buffer, state_with_amounts, amounts_after_result, state_after_transition};
+ghost use Rattle.cabinet.specs.Calls.{ReturnsCabinetResult, OpensCabinetOrRefuses, remaining_after_outcome, remaining_amount_or_all_ones};
+ghost use Rattle.cabinet.specs.Calls.{cabinet_start, cabinet_answer, cabinet_link_failed, cabinet_stop, admit_cabinet_call, kernel_step_on_cabinet};
+ghost use Rattle.cabinet.specs.Inner.{admission_by_state_bytes, admission_by_state_and_buffer_size, cabinet_start_on_fresh};
+ghost use Rattle.cabinet.specs.Inner.{RefusesAsKernel, TakesStep, command_size_or_zero, command_copied_to_buffer, state_with_amounts, state_after_transition};
 
 use dictionary::{ROW_AMOUNT, SIZE};
-use layout::{DecodedRecordHead, HEAD, RECORD_SIZE};
+use layout::{HEAD, RECORD_SIZE};
 use session::LEAST_BUFFER;
 use session_record::{CallResult, Outcome, Phase, Transition};
 
@@ -43,6 +43,8 @@ const STATE_SIZE: usize = RECORD_SIZE + 16;
 const NO_AMOUNT: u64 = 0xFFFFFFFFFFFFFFFF;
 
 // What remains of the cap, and what is reserved.
+// Kept: the sum has no ghost field here, since `cabinet_without_store` and `amounts_after_result` (specs/Inner) build
+// the amounts of any bytes and any answer, so each would carry a proof; the bound stands in `finish`, `left_after`.
 #[derive(Clone, Copy)]
 pub struct Amounts {
     pub remaining: u64,
@@ -55,13 +57,6 @@ pub struct CabinetWithoutStore {
     pub phase: Phase,
     pub count: u8,
     pub amounts: Amounts,
-}
-
-// Whether a call is taken, on what the state reports, or the word of its refusal.
-#[derive(Clone, Copy)]
-pub enum CabinetAdmission {
-    Admitted(CabinetWithoutStore),
-    Refused(u32),
 }
 
 // How many bytes a host provides for a cabinet.
@@ -98,11 +93,18 @@ pub fn cabinet_start(state: &mut [u8], terminal: &[u8], command: &mut [u8]) -> u
     ensures { ReturnsCabinetResult result state.new command.new
         (cabinet_start terminal.now state.old command.old) }
 {
-    let admission = admit(state, command.len());
-    match admission {
-        CabinetAdmission::Refused(word) => word,
-        CabinetAdmission::Admitted(holding) => start_held(holding, state, terminal, command),
+    let holding = match admit(state, command.len()) {
+        Ok(holding) => holding,
+        Err(word) => return word,
+    };
+    let phase = holding.phase;
+    if !session_record::session_parts_in_ranges(phase, holding.count, &state[HEAD..RECORD_SIZE]) {
+        return layout::refusal_word(basics::REFUSED_RANGES);
     }
+    if is_running(phase) {
+        return layout::refusal_word(basics::REFUSED_PHASE);
+    }
+    start_fresh(holding.amounts.remaining, state, terminal, command)
 }
 
 // Takes the card's answer to the command that was handed out last, status bytes included.
@@ -110,76 +112,38 @@ pub fn cabinet_answer(state: &mut [u8], card: &[u8], command: &mut [u8]) -> u32
     ensures { ReturnsCabinetResult result state.new command.new
         (cabinet_answer card.now state.old command.old) }
 {
-    let admission = admit(state, command.len());
-    match admission {
-        CabinetAdmission::Refused(word) => word,
-        CabinetAdmission::Admitted(holding) => {
-            let phase = holding.phase;
-            let amounts = holding.amounts;
-            let transition = session::answer_on_parts(
-                phase,
-                holding.count,
-                &mut state[HEAD..RECORD_SIZE],
-                card,
-                command,
-            );
-            finish(transition, amounts, state)
-        }
-    }
+    perform(state, command, |phase, count, store, command| {
+        session::answer_on_parts(phase, count, store, card, command)
+    })
 }
 
 // The link to the card failed.
 pub fn cabinet_link_failed(state: &mut [u8], command: &mut [u8]) -> u32
     ensures { ReturnsCabinetResult result state.new command.new (cabinet_link_failed state.old command.old) }
 {
-    let admission = admit(state, command.len());
-    match admission {
-        CabinetAdmission::Refused(word) => word,
-        CabinetAdmission::Admitted(holding) => {
-            let phase = holding.phase;
-            let amounts = holding.amounts;
-            let transition = session::link_failed_on_parts(
-                phase,
-                holding.count,
-                &state[HEAD..RECORD_SIZE],
-                command,
-            );
-            finish(transition, amounts, state)
-        }
-    }
+    perform(state, command, |phase, count, store, command| {
+        session::link_failed_on_parts(phase, count, store, command)
+    })
 }
 
 // The terminal stops the session.
 pub fn cabinet_stop(state: &mut [u8], command: &mut [u8]) -> u32
     ensures { ReturnsCabinetResult result state.new command.new (cabinet_stop state.old command.old) }
 {
-    let admission = admit(state, command.len());
-    match admission {
-        CabinetAdmission::Refused(word) => word,
-        CabinetAdmission::Admitted(holding) => {
-            let phase = holding.phase;
-            let amounts = holding.amounts;
-            let transition = session::stop_on_parts(
-                phase,
-                holding.count,
-                &state[HEAD..RECORD_SIZE],
-                command,
-            );
-            finish(transition, amounts, state)
-        }
-    }
+    perform(state, command, |phase, count, store, command| {
+        session::stop_on_parts(phase, count, store, command)
+    })
 }
 
 // What remains of the cap; NO_AMOUNT where every call but opening is refused with 25.
 pub fn cabinet_left(state: &[u8]) -> u64
     ensures { result ≡ remaining_amount_or_all_ones (decoded_cabinet_if_valid state.now) }
 {
-    let admission = holding_in(state);
-    let CabinetAdmission::Admitted(holding) = admission else {
+    let Some(holding) = holding_in(state) else {
         return NO_AMOUNT;
     };
-    let phase = holding.phase;
-    if !session_record::session_parts_in_ranges(phase, holding.count, &state[HEAD..RECORD_SIZE]) {
+    let store = &state[HEAD..RECORD_SIZE];
+    if !session_record::session_parts_in_ranges(holding.phase, holding.count, store) {
         return NO_AMOUNT;
     }
     holding.amounts.remaining
@@ -195,38 +159,59 @@ pub fn cabinet_find(site: &[u8], defaults: &[u8], tag: u32) -> u64
     cabinet_lookup::lookup_word(site, defaults, tag)
 }
 
+// A call but a start: its first tests, the step on the parts of the session that the state holds, whose store it leaves
+// in its place, and what becomes of the amounts.
+fn perform<F: FnOnce(Phase, u8, &mut [u8], &mut [u8]) -> Transition>(
+    state: &mut [u8],
+    command: &mut [u8],
+    step: F,
+) -> u32
+    requires { F.IsAlwaysCallable step }
+    ensures { (s : Session → Buffer → Step) → RefusesAsKernel s → TakesStep (F.post step) s
+        → ReturnsCabinetResult result state.new command.new
+        (admit_cabinet_call (kernel_step_on_cabinet s state.old command.old) state.old command.old) }
+{
+    let holding = match admit(state, command.len()) {
+        Ok(holding) => holding,
+        Err(word) => return word,
+    };
+    let transition = step(
+        holding.phase,
+        holding.count,
+        &mut state[HEAD..RECORD_SIZE],
+        command,
+    );
+    finish(transition, holding.amounts, state)
+}
+
 // A buffer that is too short is refused before a state that is not in order.
-fn admit(state: &[u8], size: usize) -> CabinetAdmission
+fn admit(state: &[u8], size: usize) -> Result<CabinetWithoutStore, u32>
     ensures { result ≡ admission_by_state_and_buffer_size state.now size }
 {
     if size < LEAST_BUFFER {
-        return CabinetAdmission::Refused(layout::refusal_word(basics::REFUSED_BUFFER));
+        return Err(layout::refusal_word(basics::REFUSED_BUFFER));
     }
-    holding_in(state)
+    holding_in(state).ok_or(layout::refusal_word(basics::REFUSED_RANGES))
 }
 
-// What a state reports, or refusal 25: all of its tests but the session's ranges, which the kernel's call makes.
-fn holding_in(state: &[u8]) -> CabinetAdmission
+// What a state reports: all of its tests but the session's ranges, which the kernel's call makes.
+fn holding_in(state: &[u8]) -> Option<CabinetWithoutStore>
     ensures { result ≡ admission_by_state_bytes state.now }
 {
-    let refused = CabinetAdmission::Refused(layout::refusal_word(basics::REFUSED_RANGES));
     if state.len() < STATE_SIZE {
-        return refused;
+        return None;
     }
-    let held = layout::decode_record_head(state);
-    let DecodedRecordHead::Record(head) = held else {
-        return refused;
-    };
+    let head = layout::decode_record_head(state)?;
     let phase = head.phase;
-    let remaining = eight(&state[LEFT..ASIDE]);
-    let reserved = eight(&state[ASIDE..STATE_SIZE]);
+    let remaining = layout::amount_at(state, LEFT);
+    let reserved = layout::amount_at(state, ASIDE);
     if reserved != due(phase, &state[HEAD..RECORD_SIZE]) {
-        return refused;
+        return None;
     }
     if !is_within(remaining, reserved) {
-        return refused;
+        return None;
     }
-    CabinetAdmission::Admitted(CabinetWithoutStore {
+    Some(CabinetWithoutStore {
         phase,
         count: head.count,
         amounts: Amounts {
@@ -260,11 +245,7 @@ fn due(phase: Phase, bytes: &[u8]) -> u64
 fn is_running(phase: Phase) -> bool
     ensures { result ≡ is_running phase }
 {
-    match phase {
-        Phase::Fresh => false,
-        Phase::Waiting(_) => true,
-        Phase::Ended(_) => false,
-    }
+    matches!(phase, Phase::Waiting(_))
 }
 
 // The amount of a store.
@@ -272,31 +253,6 @@ fn amount_in(bytes: &[u8]) -> u64
     ensures { result ≡ stored_amount_authorized bytes.now }
 {
     analysis::digits::amount_of(store::value(bytes, ROW_AMOUNT))
-}
-
-// A start past the first tests: 25 where the session is out of its ranges, 21 where it runs.
-fn start_held(
-    holding: CabinetWithoutStore,
-    state: &mut [u8],
-    terminal: &[u8],
-    command: &mut [u8],
-) -> u32
-    requires cabinet_state_size_in_bounds { cabinet_state_size ≤ length state.old }
-    requires least_buffer_in_bounds { least_buffer ≤ length command.old }
-    requires remaining_le_greatest_twelve_digit_amount { holding.amounts.remaining ≤ greatest_twelve_digit_amount }
-    ensures { ReturnsCabinetResult result state.new command.new
-        (cabinet_call_if_session_in_ranges (start_on_cabinet terminal.now state.old command.old)
-        state.old command.old (cabinet_with_store_in holding state.old)) }
-{
-    let phase = holding.phase;
-    if !session_record::session_parts_in_ranges(phase, holding.count, &state[HEAD..RECORD_SIZE]) {
-        return layout::refusal_word(basics::REFUSED_RANGES);
-    }
-    if is_running(phase) {
-        return layout::refusal_word(basics::REFUSED_PHASE);
-    }
-    let amounts = holding.amounts;
-    start_fresh(amounts.remaining, state, terminal, command)
 }
 
 // A start on a fresh session and a command buffer of its own, which are copied over only where it is not refused: a
@@ -320,7 +276,7 @@ fn start_fresh(remaining: u64, state: &mut [u8], terminal: &[u8], command: &mut 
         return layout::refusal_word(REFUSED_LEFT);
     }
     hand_over(answer, &first, command);
-    basics::copy(&store, &mut state[HEAD..RECORD_SIZE]);
+    state[HEAD..RECORD_SIZE].copy_from_slice(&store);
     finish(
         transition,
         Amounts {
@@ -340,42 +296,28 @@ fn hand_over(answer: CallResult, first: &[u8], command: &mut [u8])
         return;
     };
     let size = issued.size;
-    basics::copy(&first[..size], command);
+    command[..size].copy_from_slice(&first[..size]);
 }
 
 // Writes the head and the amounts of a transition, whose store lies in its place, and gives the word of its answer. A
-// refusal writes nothing.
+// refusal writes nothing, and an end leaves nothing reserved.
 fn finish(transition: Transition, amounts: Amounts, state: &mut [u8]) -> u32
     requires cabinet_state_size_in_bounds { cabinet_state_size ≤ length state.old }
     requires reserved_bound { amounts.remaining + amounts.reserved ≤ greatest_twelve_digit_amount }
     ensures { (result ≡ result_word transition.answer) × (state.new ≡ state_after_transition transition amounts state.old) }
 {
     let answer = transition.answer;
-    if let CallResult::Refused(_) = answer {
-        return layout::result_word(answer);
-    }
-    let phase = transition.phase;
-    layout::write_record_head(phase, transition.count, state);
-    put_amounts(settled(answer, amounts), state);
-    layout::result_word(answer)
-}
-
-// The amounts after an answer: an end leaves nothing reserved.
-fn settled(answer: CallResult, amounts: Amounts) -> Amounts
-    requires { amounts.remaining + amounts.reserved ≤ greatest_twelve_digit_amount }
-    ensures { result ≡ amounts_after_result answer amounts }
-{
-    match answer {
+    let after = match answer {
+        CallResult::Refused(_) => return layout::result_word(answer),
         CallResult::Command(_) => amounts,
-        CallResult::Outcome(end) => {
-            let outcome = end.outcome;
-            Amounts {
-                remaining: left_after(outcome, amounts),
-                reserved: 0,
-            }
-        }
-        CallResult::Refused(_) => amounts,
-    }
+        CallResult::Outcome(end) => Amounts {
+            remaining: left_after(end.outcome, amounts),
+            reserved: 0,
+        },
+    };
+    layout::write_record_head(transition.phase, transition.count, state);
+    put_amounts(after, state);
+    layout::result_word(answer)
 }
 
 // What remains after an end: an approval spends what is reserved, every other outcome gives it back.
@@ -397,45 +339,6 @@ fn put_amounts(amounts: Amounts, state: &mut [u8])
     requires { cabinet_state_size ≤ length state.old }
     ensures { state.new ≡ state_with_amounts amounts state.old }
 {
-    let remaining = amount_bytes(amounts.remaining);
-    basics::copy(&remaining, &mut state[LEFT..ASIDE]);
-    let reserved = amount_bytes(amounts.reserved);
-    basics::copy(&reserved, &mut state[ASIDE..STATE_SIZE]);
-}
-
-// An amount as eight bytes, high byte first.
-fn amount_bytes(amount: u64) -> [u8; 8]
-    ensures { result ≡ big_endian_bytes 8 amount }
-{
-    [
-        (amount / 0x100000000000000) as u8,
-        (amount / 0x1000000000000 % 256) as u8,
-        (amount / 0x10000000000 % 256) as u8,
-        (amount / 0x100000000 % 256) as u8,
-        (amount / 0x1000000 % 256) as u8,
-        (amount / 0x10000 % 256) as u8,
-        (amount / 0x100 % 256) as u8,
-        (amount % 256) as u8,
-    ]
-}
-
-// Eight bytes as a number, high byte first.
-fn eight(s: &[u8]) -> u64
-    requires { length s.now ≡ 8 }
-    ensures { result ≡ number_of s.now }
-{
-    let high = four(s[0], s[1], s[2], s[3]);
-    let low = four(s[4], s[5], s[6], s[7]);
-    high * 0x100000000 + low
-}
-
-// Four bytes as a number, high byte first.
-fn four(a: u8, b: u8, c: u8, d: u8) -> u64
-    ensures { (result ≡ ((a * 256 + b) * 256 + c) * 256 + d) × (result < 0x100000000) }
-{
-    let n = basics::widen32(a) * 0x1000000
-        + basics::widen32(b) * 0x10000
-        + basics::widen32(c) * 0x100
-        + basics::widen32(d);
-    n as u64
+    state[LEFT..ASIDE].copy_from_slice(&layout::amount_bytes(amounts.remaining));
+    state[ASIDE..STATE_SIZE].copy_from_slice(&layout::amount_bytes(amounts.reserved));
 }

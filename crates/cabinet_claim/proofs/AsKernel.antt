@@ -1,11 +1,11 @@
 -- The cabinet's calls against the kernel's steps: by how each step comes out (`Came`), a refusal leaves the state and
 -- the buffer, anything else is written with the session that the step left.
 -- Assumes nothing.
+use Rattle.std.specs.Prelude.{Some}
 use mathlib.Core.Path.{◌≡◌, refl, sym, ap, subst, ◌∙◌}
 use mathlib.Core.Bool.{Bool, true, false}
 use mathlib.Core.Logic.{inl, inr}
 use mathlib.Core.List.{List}
-use mathlib.Core.Option.{some}
 use Prim.Native.Nat.{ℕ, ◌<◌}
 use native.Mathlib.Omega.{arith}
 use lib.Dec.{ltb}
@@ -70,7 +70,7 @@ module _ (s : Session) (l buf : List ℕ) (remaining reserved : ℕ) where
 
 -- ---- answer, link failed and stop
 
-module _ (c : Cabinet) (l : List ℕ) (e : decoded_cabinet_if_valid l ≡ some c) where
+module _ (c : Cabinet) (l : List ℕ) (e : decoded_cabinet_if_valid l ≡ Some c) where
   held : Held c l
   held = held_is c l e
 

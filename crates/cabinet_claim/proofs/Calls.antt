@@ -2,11 +2,11 @@
 -- from what remains to what is reserved, an end moves it back or into what is approved; the amount reserved is the one
 -- that the start bytes brought. One induction over the calls.
 -- Assumes nothing.
+use Rattle.std.specs.Prelude.{Option, Some, None}
 use mathlib.Core.Path.{◌≡◌, refl, sym, ap, subst, ◌∙◌}
 use mathlib.Core.Bool.{Bool, true, false}
 use mathlib.Core.Logic.{inl, inr}
 use mathlib.Core.List.{List, [], ◌∷◌}
-use mathlib.Core.Option.{Option, some, none}
 use Prim.Native.Nat.{ℕ, ◌+◌, ◌-◌, ◌≤◌, ◌<◌}
 use native.Mathlib.Omega.{arith}
 use lib.Dec.{ltb}
@@ -73,7 +73,7 @@ use Rattle.cabinet_claim.proofs.Words.{outcome_approved, outcome_unapproved, out
 
 pub record Holds (a : Account) (l : List ℕ) : Type 0 where
   pub state : Cabinet
-  pub held : decoded_cabinet_if_valid l ≡ some state
+  pub held : decoded_cabinet_if_valid l ≡ Some state
   pub balance : state.remaining + state.reserved + a.approved ≡ a.cap
   pub cap_fits : a.cap ≤ greatest_twelve_digit_amount
   pub amount : is_running state.session.phase ≡ true → state.reserved ≡ a.amount
@@ -321,8 +321,8 @@ module _ (a : Account) (l : List ℕ) (h : Holds a l) (bytes buf : List ℕ) whe
           ≡ true
           → (let st = step_of_next 0 buf (request_command_or_end_for_dol AwaitedResponse.Gpo b x) in
           NextOf a k (cabinet_start_by_result st.reply.answer st now.remaining l buf))
-      handed_start none i = failed_start i
-      handed_start (some x) i = sent_start x i
+      handed_start None i = failed_start i
+      handed_start (Some x) i = sent_start x i
 
     loaded_start : (x : LoadedStore) → load_start_bytes (store_bytes fresh_session) bytes ≡ x
         → session_record_in_ranges (step_of_effect fresh_session buf (start_effect_after_loading x)).reply.session ≡ true

@@ -1,11 +1,11 @@
 -- A cabinet that bytes hold: the bytes are enough and hold its session, the session is in its ranges, and the
 -- amounts fit.
 -- Assumes nothing.
+use Rattle.std.specs.Prelude.{Option, Some, None}
 use mathlib.Core.Path.{◌≡◌, sym, ap, subst, ◌∙◌}
 use mathlib.Core.Bool.{true}
 use mathlib.Core.Logic.{inl, inr}
 use mathlib.Core.List.{List}
-use mathlib.Core.Option.{Option, some, none}
 use Prim.Native.Nat.{ℕ, ◌+◌, ◌≤◌}
 use native.Mathlib.Omega.{arith}
 use lib.Dec.{leb}
@@ -28,13 +28,13 @@ pub record Ordered (c : Cabinet) (l : List ℕ) : Type 0 where
 
 pub record Held (c : Cabinet) (l : List ℕ) : Type 0 where
   pub order : Ordered c l
-  pub session : decoded_session l ≡ some c.session
+  pub session : decoded_session l ≡ Some c.session
 
-never : {A : Type 0} {c : Cabinet} → ◌≡◌ {A = Option Cabinet} none (some c) → A
+never : {A : Type 0} {c : Cabinet} → ◌≡◌ {A = Option Cabinet} None (Some c) → A
 never e = let z : ◌≡◌ {A = ℕ} 0 1 = cc in absurd (omega arith)
 
 module _ (c : Cabinet) (l : List ℕ) (h : cabinet_state_size ≤ length l) where
-  by_order : (s : Session) (d : Cabinet) → d.session ≡ s → decoded_session l ≡ some s → cabinet_session_and_amounts_valid d
+  by_order : (s : Session) (d : Cabinet) → d.session ≡ s → decoded_session l ≡ Some s → cabinet_session_and_amounts_valid d
       ≡ true → d ≡ c → Held c l
   unfolding reserved_matches_session_and_sum_in_range
   by_order s d p q o e =
@@ -46,29 +46,29 @@ module _ (c : Cabinet) (l : List ℕ) (h : cabinet_state_size ≤ length l) wher
           due = eqb-true _ _ (both_left _ _ (both_right _ _ o));
           sum = leb-true _ _ (both_right _ _ (both_right _ _ o));
         };
-        session = q ∙ ap some (sym p);
+        session = q ∙ ap Some (sym p);
       })
 
-  by_record : (x : Option Session) → decoded_session l ≡ x → decoded_cabinet_of_session l x ≡ some c → Held c l
-  by_record none q f = never f
-  by_record (some s) q f =
+  by_record : (x : Option Session) → decoded_session l ≡ x → decoded_cabinet_of_session l x ≡ Some c → Held c l
+  by_record None q f = never f
+  by_record (Some s) q f =
       elim
       (bool_cases (cabinet_session_and_amounts_valid (cabinet s (remaining_in_cabinet_state l) (reserved_in_cabinet_state l)))) [
-        | inl o ↦ let e : some (cabinet s (remaining_in_cabinet_state l) (reserved_in_cabinet_state l)) ≡ some c =
+        | inl o ↦ let e : Some (cabinet s (remaining_in_cabinet_state l) (reserved_in_cabinet_state l)) ≡ Some c =
             sym (if_yes _ _ o) ∙ f in by_order s (cabinet s (remaining_in_cabinet_state l) (reserved_in_cabinet_state l))
             (λ i. s) q o
             (cc)
         | inr o ↦ never (sym (if_no _ _ o) ∙ f)
       ]
 
-pub held_is : (c : Cabinet) (l : List ℕ) → decoded_cabinet_if_valid l ≡ some c → Held c l
+pub held_is : (c : Cabinet) (l : List ℕ) → decoded_cabinet_if_valid l ≡ Some c → Held c l
 unfolding decoded_cabinet_if_valid
 held_is c l e = elim (bool_cases (leb cabinet_state_size (length l))) [
   | inl t ↦ by_record c l (leb-true _ _ t) (decoded_session l) (λ i. decoded_session l) (sym (if_yes _ _ t) ∙ e)
   | inr t ↦ never (sym (if_no _ _ t) ∙ e)
 ]
 
-pub held_ordered : (c : Cabinet) (l : List ℕ) → decoded_cabinet_if_valid l ≡ some c → Ordered c l
+pub held_ordered : (c : Cabinet) (l : List ℕ) → decoded_cabinet_if_valid l ≡ Some c → Ordered c l
 held_ordered c l e = (held_is c l e).order
 
 pub in_order : {c : Cabinet} {l : List ℕ} → Ordered c l → cabinet_session_and_amounts_valid c ≡ true

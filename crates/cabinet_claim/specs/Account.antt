@@ -2,8 +2,7 @@
 -- included, each on the bytes that the call before it left: the remaining, reserved and approved amounts are together
 -- the cap. Bytes are any numbers: what holds of all lists of numbers holds of lists of bytes.
 -- Assumes nothing.
-use Rattle.std.specs.Prelude.{◌≡◌, Bool, true, not, List, [], ◌∷◌, ◌+◌, ◌/◌, ◌%◌, ◌≤◌}
-use Rattle.std.proofs.Math.Option.{some}
+use Rattle.std.specs.Prelude.{◌≡◌, Bool, true, not, List, [], ◌∷◌, ◌+◌, ◌/◌, ◌%◌, ◌≤◌, Some}
 use Rattle.basics.specs.Types.{Bytes, StartBytes, Response, Buffer, Amount, ResultWord}
 use Rattle.basics.specs.Choice.{when◌then◌else◌, ◌and◌, ◌=?◌, every}
 use Rattle.basics.specs.Reason.{refusal_record_out_of_ranges}
@@ -118,7 +117,7 @@ pub record RemainingReservedApprovedSumToCap (cap : Amount) (calls_made : List C
     Type 0 where
   -- the bytes hold a cabinet in order: what is reserved is the running session's amount, 0 where none runs
   pub state : Cabinet
-  pub held : decoded_cabinet_if_valid state_after ≡ some state
+  pub held : decoded_cabinet_if_valid state_after ≡ Some state
   -- the remaining and reserved amounts and those of approved sessions are together the cap
   pub balance : state.remaining + state.reserved + (account_since_opening cap calls_made).approved ≡ (account_since_opening
       cap calls_made).cap

@@ -1,8 +1,7 @@
 -- But for the cap the calls of a cabinet are the kernel's (document 02, Item 14): each against the kernel's step on the
 -- session that the state holds, a start after an end against the step on a fresh one.
 -- Assumes nothing.
-use Rattle.std.specs.Prelude.{◌≡◌, false, ◌≤◌, ◌<◌}
-use Rattle.std.proofs.Math.Option.{some}
+use Rattle.std.specs.Prelude.{◌≡◌, false, ◌≤◌, ◌<◌, Some}
 use Rattle.basics.specs.Types.{Bytes, StartBytes, Response, Buffer}
 use Rattle.session_record.specs.declared.CallResult.{CallResult}
 use Rattle.session_record.specs.declared.Refusal.{Refusal}
@@ -21,7 +20,7 @@ use Rattle.cabinet.specs.Calls.{cabinet_start, cabinet_answer, cabinet_link_fail
 pub record CabinetResultSameAsKernelStep (kernel_step : Step) (cabinet_result : CabinetResult) : Type 0 where
   pub word : cabinet_result.word ≡ result_word kernel_step.reply.answer
   pub buffer : cabinet_result.buffer ≡ kernel_step.buffer
-  pub session : decoded_session cabinet_result.state ≡ some kernel_step.reply.session
+  pub session : decoded_session cabinet_result.state ≡ Some kernel_step.reply.session
 
 -- a start on the state's bytes l with a buffer
 pub record CabinetStartAsKernelIfAmountRemains (cabinet_before : Cabinet) (kernel_step : Step) (state_before : Bytes)

@@ -4,7 +4,6 @@
 #![tactic(auto)]
 
 ghost use Rattle.std.specs.Prelude.{◌≡◌, List, ℕ};
-ghost use Rattle.std.proofs.Math.Option.{some};
 ghost use Rattle.cabinet.specs.State.{Cabinet, greatest_twelve_digit_amount, decoded_cabinet_if_valid};
 ghost use Rattle.cabinet.specs.Calls.{cabinet_open_word, cabinet_open_state};
 ghost use Rattle.cabinet_claim.specs.Account.{CabinetCall, play_cabinet_calls, final_cabinet_state, RemainingReservedApprovedSumToCap};
@@ -15,7 +14,7 @@ pub fn approved_within_cap() -> u64
     ensures most { result ≡ greatest_twelve_digit_amount }
     ensures claim { (l : List ℕ) (cap : ℕ) (cs : List CabinetCall) → cabinet_open_word cap l ≡ 0
         → RemainingReservedApprovedSumToCap cap (play_cabinet_calls (cabinet_open_state cap l) cs) (final_cabinet_state (cabinet_open_state cap l) cs) }
-    ensures kernel { (c : Cabinet) (l : List ℕ) → decoded_cabinet_if_valid l ≡ some c → CabinetCallsAsKernel c l }
+    ensures kernel { (c : Cabinet) (l : List ℕ) → decoded_cabinet_if_valid l ≡ Some c → CabinetCallsAsKernel c l }
 {
     999999999999
 }

@@ -2,10 +2,10 @@
 -- `place_unroll`) and go the same way: by induction on the bytes a place has the value of the first object (`stands`),
 -- in one list and then in both (`value_at`).
 -- Assumes nothing.
+use Rattle.std.specs.Prelude.{Some, None, Option}
 use mathlib.Core.Path.{◌≡◌, refl, sym, ap, ap₂, ◌∙◌}
 use mathlib.Core.Logic.{inl, inr}
-use mathlib.Core.List.{List, [], ◌∷◌, ◌++◌}
-use mathlib.Core.Option.{Option, some, none}
+use mathlib.Core.List.{List, [], ◌++◌}
 use Prim.Native.Nat.{ℕ, ◌+◌, ◌-◌, ◌*◌, ◌≤◌, ◌<◌}
 use native.Mathlib.Omega.{arith}
 use lib.Dec.{eqb}
@@ -17,16 +17,12 @@ use Rattle.basics.proofs.Laws.{if_yes, if_no}
 use Rattle.basics.proofs.Order.{equal_or_not}
 use Rattle.basics.proofs.Recursion.{AsksShorter, recurse_unroll, shorter_first}
 use Rattle.tlv.specs.declared.TlvHeader.{TlvHeader}
-use Rattle.tlv.specs.declared.ObjectFront.{ObjectFront}
-use Rattle.tlv.specs.declared.ObjectFront.TheVariants as front
 use Rattle.tlv.specs.Object.{header_value, behind_object}
-use Rattle.tlv.specs.Primitives.{Object, tlv_object, primitive_at_front}
-use Rattle.tlv.proofs.Laws.{contents, contents_is, tail, tail-is}
-use Rattle.tlv.proofs.Primitives.{primitive_fits}
+use Rattle.tlv.specs.Primitives.{primitive_at_front}
+use Rattle.tlv.proofs.Laws.{tail, tail-is}
+use Rattle.tlv.proofs.Primitives.{primitive_fits, leading_unroll}
 use Rattle.tlv.proofs.Tree.{shorter_behind}
 use Rattle.cabinet_lookup.specs.declared.LookupSpan.{LookupSpan}
-use Rattle.cabinet_lookup.specs.declared.LookupFound.{LookupFound}
-use Rattle.cabinet_lookup.specs.declared.LookupFound.TheVariants.{At, Absent}
 use Rattle.cabinet_lookup.specs.Value.{objects_from_front, leading_primitive_objects_step, leading_primitive_objects}
 use Rattle.cabinet_lookup.specs.Value.{first_value_of_tag, value_or_default, lookup_value}
 use Rattle.cabinet_lookup.specs.Place.{lookup_span, span_bytes, lookup_shifted, lookup_at_front, lookup_step}
@@ -37,61 +33,51 @@ use Rattle.cabinet_lookup.specs.Word.{lookup_word_of_span, lookup_word}
 
 -- ---- the recursions end by themselves
 
-held_same : AsksShorter leading_primitive_objects_step
-held_same k k' s same = go (primitive_at_front s) refl
-  where
-    go : (x : ObjectFront) → primitive_at_front s ≡ x → objects_from_front k s x ≡ objects_from_front k' s x
-    go front.Broken e = refl
-    go (front.Object h) e =
-        ap (λ (os : List Object). tlv_object h.tag (header_value s h) ∷ os)
-        (same (behind_object s h) (shorter_behind (primitive_fits s h e)))
-
 pub held_unroll : (s : List ℕ) → leading_primitive_objects s ≡ leading_primitive_objects_step leading_primitive_objects s
-unfolding leading_primitive_objects
-held_unroll s = recurse_unroll [] leading_primitive_objects_step held_same s
+held_unroll = leading_unroll
 
 place_same : (tag : ℕ) → AsksShorter (lookup_step tag)
 place_same tag k k' s same = go (primitive_at_front s) refl
   where
-    go : (x : ObjectFront) → primitive_at_front s ≡ x → lookup_at_front tag k s x ≡ lookup_at_front tag k' s x
-    go front.Broken e = refl
-    go (front.Object h) e =
-        ap (λ (r : LookupFound). if (eqb h.tag tag) (At (lookup_span h.start h.len))
+    go : (x : Option TlvHeader) → primitive_at_front s ≡ x → lookup_at_front tag k s x ≡ lookup_at_front tag k' s x
+    go None e = refl
+    go (Some h) e =
+        ap (λ (r : Option LookupSpan). if (eqb h.tag tag) (Some (lookup_span h.start h.len))
         (lookup_shifted (h.start + h.len) r))
         (same (behind_object s h) (shorter_behind (primitive_fits s h e)))
 
 module _ (tag : ℕ) where
   pub place_unroll : (s : List ℕ) → lookup_first tag s ≡ lookup_step tag (lookup_first tag) s
   unfolding lookup_first
-  place_unroll s = recurse_unroll Absent (lookup_step tag) (place_same tag) s
+  place_unroll s = recurse_unroll None (lookup_step tag) (place_same tag) s
 
   -- ---- one law for each way out of a step
 
   module _ (s : List ℕ) where
-    pub at_broken : primitive_at_front s ≡ front.Broken → lookup_first tag s ≡ Absent
+    pub at_broken : primitive_at_front s ≡ None → lookup_first tag s ≡ None
     at_broken e = place_unroll s ∙ ap (lookup_at_front tag (lookup_first tag) s) e
 
-    value_broken : primitive_at_front s ≡ front.Broken → first_value_of_tag tag (leading_primitive_objects s) ≡ none
+    value_broken : primitive_at_front s ≡ None → first_value_of_tag tag (leading_primitive_objects s) ≡ None
     unfolding first_value_of_tag
     value_broken e = ap (first_value_of_tag tag) (held_unroll s ∙ ap (objects_from_front leading_primitive_objects s) e)
 
-    module _ (h : TlvHeader) (e : primitive_at_front s ≡ front.Object h) where
-      at_object : lookup_first tag s ≡ lookup_at_front tag (lookup_first tag) s (front.Object h)
+    module _ (h : TlvHeader) (e : primitive_at_front s ≡ Some h) where
+      at_object : lookup_first tag s ≡ lookup_at_front tag (lookup_first tag) s (Some h)
       at_object = place_unroll s ∙ ap (lookup_at_front tag (lookup_first tag) s) e
 
-      pub at_here : h.tag ≡ tag → lookup_first tag s ≡ At (lookup_span h.start h.len)
+      pub at_here : h.tag ≡ tag → lookup_first tag s ≡ Some (lookup_span h.start h.len)
       at_here t = at_object ∙ if_yes _ _ (eq-eqb h.tag tag t)
 
       pub at_behind : (h.tag ≡ tag → ⊥) → lookup_first tag s ≡ lookup_shifted (h.start + h.len)
           (lookup_first tag (behind_object s h))
       at_behind n = at_object ∙ if_no _ _ (ne_eqb h.tag tag n)
 
-      value_object : first_value_of_tag tag (leading_primitive_objects s) ≡ if (eqb h.tag tag) (some (header_value s h))
+      value_object : first_value_of_tag tag (leading_primitive_objects s) ≡ if (eqb h.tag tag) (Some (header_value s h))
           (first_value_of_tag tag (leading_primitive_objects (behind_object s h)))
       unfolding first_value_of_tag
       value_object = ap (first_value_of_tag tag) (held_unroll s ∙ ap (objects_from_front leading_primitive_objects s) e)
 
-      value_here : h.tag ≡ tag → first_value_of_tag tag (leading_primitive_objects s) ≡ some (header_value s h)
+      value_here : h.tag ≡ tag → first_value_of_tag tag (leading_primitive_objects s) ≡ Some (header_value s h)
       value_here t = value_object ∙ if_yes _ _ (eq-eqb h.tag tag t)
 
       value_behind : (h.tag ≡ tag → ⊥) → first_value_of_tag tag (leading_primitive_objects s) ≡ first_value_of_tag tag
@@ -101,17 +87,17 @@ module _ (tag : ℕ) where
 -- ---- a place has the value of the first object
 
 -- what is found of a value
-abbrev pub Stands : List ℕ → LookupFound → Option (List ℕ) → Type 0
-Stands s Absent v = v ≡ none
-Stands s (At p) v = (p.start + p.len ≤ length s) × (v ≡ some (span_bytes s p))
+abbrev pub Stands : List ℕ → Option LookupSpan → Option (List ℕ) → Type 0
+Stands s None v = v ≡ None
+Stands s (Some p) v = (p.start + p.len ≤ length s) × (v ≡ Some (span_bytes s p))
 
-stands_behind : (s : List ℕ) (n : ℕ) (r : LookupFound) (v : Option (List ℕ)) → n ≤ length s → Stands (drop n s) r v
+stands_behind : (s : List ℕ) (n : ℕ) (r : Option LookupSpan) (v : Option (List ℕ)) → n ≤ length s → Stands (drop n s) r v
     → Stands s (lookup_shifted n r) v
 unfolding lookup_shifted
-stands_behind s n Absent v h w = w
-stands_behind s n (At p) v h w = (
+stands_behind s n None v h w = w
+stands_behind s n (Some p) v h w = (
   let l = length-drop n s in omega arith,
-  w.1 ∙ ap (λ (t : List ℕ). some (take p.len t)) (drop-drop p.start n s),
+  w.1 ∙ ap (λ (t : List ℕ). Some (take p.len t)) (drop-drop p.start n s),
 )
 
 pub stands : (tag : ℕ) (s : List ℕ) → Stands s (lookup_first tag s) (first_value_of_tag tag (leading_primitive_objects s))
@@ -123,10 +109,10 @@ stands tag = shorter_first (λ s. Stands s (lookup_first tag s) (first_value_of_
         → Stands s (lookup_first tag s) (first_value_of_tag tag (leading_primitive_objects s))
     step s ih = go (primitive_at_front s) refl
       where
-        go : (x : ObjectFront) → primitive_at_front s ≡ x
+        go : (x : Option TlvHeader) → primitive_at_front s ≡ x
             → Stands s (lookup_first tag s) (first_value_of_tag tag (leading_primitive_objects s))
-        go front.Broken e = rw (at_broken tag s e) (value_broken tag s e)
-        go (front.Object h) e =
+        go None e = rw (at_broken tag s e) (value_broken tag s e)
+        go (Some h) e =
             let f = primitive_fits s h e in
             elim (equal_or_not h.tag tag) [
               | inl t ↦ rw (at_here tag s h e t, value_here tag s h e t) (f.inside, refl)
@@ -137,22 +123,22 @@ stands tag = shorter_first (λ s. Stands s (lookup_first tag s) (first_value_of_
 -- ---- both lists
 
 module _ (site defaults : List ℕ) where
-  value_both : (x y : LookupFound) (v w : Option (List ℕ)) → Stands site x v → Stands defaults y w
+  value_both : (x y : Option LookupSpan) (v w : Option (List ℕ)) → Stands site x v → Stands defaults y w
       → span_bytes (site ++ defaults) (span_by_site_or_defaults (length site) x y) ≡ value_or_default v (value_or_default w [])
   unfolding span_by_site_or_defaults value_or_default
-  value_both (At p) y v w f g =
+  value_both (Some p) y v w f g =
       rw (f.1, drop-append-le p.start site defaults (omega arith))
       (take-append-le p.len (drop p.start site) defaults (let l = length-drop p.start site in omega arith))
-  value_both Absent (At p) v w f g = rw (f, g.1, drop-append-add site defaults p.start)
-  value_both Absent Absent v w f g = rw (f, g)
+  value_both None (Some p) v w f g = rw (f, g.1, drop-append-add site defaults p.start)
+  value_both None None v w f g = rw (f, g)
 
-  inside_both : (x y : LookupFound) (v w : Option (List ℕ)) → Stands site x v → Stands defaults y w
+  inside_both : (x y : Option LookupSpan) (v w : Option (List ℕ)) → Stands site x v → Stands defaults y w
       → (span_by_site_or_defaults (length site) x y).start + (span_by_site_or_defaults (length site) x y).len ≤ length site
       + length defaults
   unfolding span_by_site_or_defaults
-  inside_both (At p) y v w f g = omega arith
-  inside_both Absent (At p) v w f g = omega arith
-  inside_both Absent Absent v w f g = omega arith
+  inside_both (Some p) y v w f g = omega arith
+  inside_both None (Some p) v w f g = omega arith
+  inside_both None None v w f g = omega arith
 
   -- the bytes at the place are the value
   pub value_at : (tag : ℕ) → span_bytes (site ++ defaults) (span_in_site_then_defaults tag site defaults) ≡ lookup_value tag
@@ -169,7 +155,7 @@ module _ (site defaults : List ℕ) where
 -- ---- by what is found in each list
 
 -- a value that is found lies inside its list
-pub found_inside : (tag : ℕ) (s : List ℕ) (p : LookupSpan) → lookup_first tag s ≡ At p → p.start + p.len ≤ length s
+pub found_inside : (tag : ℕ) (s : List ℕ) (p : LookupSpan) → lookup_first tag s ≡ Some p → p.start + p.len ≤ length s
 found_inside tag s p e = (rw e at (stands tag s)).0
 
 module _ (tag : ℕ) (site defaults : List ℕ) where
@@ -181,46 +167,45 @@ module _ (tag : ℕ) (site defaults : List ℕ) where
   handed : (v : List ℕ) → v ≡ lookup_value tag site defaults → Handed v
   handed v e = (e, e ∙ sym (value_at site defaults tag))
 
-  module _ (p : LookupSpan) (e : lookup_first tag site ≡ At p) where
+  module _ (p : LookupSpan) (e : lookup_first tag site ≡ Some p) where
     pub site_place : span_in_site_then_defaults tag site defaults ≡ p
     unfolding span_by_site_or_defaults
-    site_place = ap (λ (x : LookupFound). span_by_site_or_defaults (length site) x (lookup_first tag defaults)) e
+    site_place = ap (λ (x : Option LookupSpan). span_by_site_or_defaults (length site) x (lookup_first tag defaults)) e
 
-    pub site_part : Handed (contents site p.start p.len)
+    pub site_part : Handed (span_bytes site p)
     unfolding value_or_default
     site_part =
-        let v : first_value_of_tag tag (leading_primitive_objects site) ≡ some (span_bytes site p) =
+        let v : first_value_of_tag tag (leading_primitive_objects site) ≡ Some (span_bytes site p) =
         (rw e at (stands tag site)).1 in
         handed _
-        (contents_is site p.start p.len ∙ sym
+        (sym
         (ap
         (λ (x : Option (List ℕ)). value_or_default x
         (value_or_default (first_value_of_tag tag (leading_primitive_objects defaults)) [])) v))
 
-  module _ (n : lookup_first tag site ≡ Absent) where
+  module _ (n : lookup_first tag site ≡ None) where
     nothing : lookup_value tag site defaults ≡ value_or_default (first_value_of_tag tag (leading_primitive_objects defaults)) []
     unfolding value_or_default
     nothing =
-        let v : first_value_of_tag tag (leading_primitive_objects site) ≡ none = rw n at (stands tag site) in
+        let v : first_value_of_tag tag (leading_primitive_objects site) ≡ None = rw n at (stands tag site) in
         ap
         (λ (x : Option (List ℕ)). value_or_default x
         (value_or_default (first_value_of_tag tag (leading_primitive_objects defaults)) [])) v
 
-    module _ (p : LookupSpan) (e : lookup_first tag defaults ≡ At p) where
+    module _ (p : LookupSpan) (e : lookup_first tag defaults ≡ Some p) where
       pub default_place : span_in_site_then_defaults tag site defaults ≡ lookup_span (length site + p.start) p.len
       unfolding span_by_site_or_defaults
       default_place = rw (n, e)
 
-      pub default_part : Handed (contents defaults p.start p.len)
+      pub default_part : Handed (span_bytes defaults p)
       unfolding value_or_default
       default_part =
-          let v : first_value_of_tag tag (leading_primitive_objects defaults) ≡ some (span_bytes defaults p) =
+          let v : first_value_of_tag tag (leading_primitive_objects defaults) ≡ Some (span_bytes defaults p) =
           (rw e at (stands tag defaults)).1 in
           handed _
-          (contents_is defaults p.start p.len ∙ sym (nothing ∙ ap (λ (x : Option (List ℕ)). value_or_default x [])
-          v))
+          (sym (nothing ∙ ap (λ (x : Option (List ℕ)). value_or_default x []) v))
 
-    module _ (e : lookup_first tag defaults ≡ Absent) where
+    module _ (e : lookup_first tag defaults ≡ None) where
       pub no_place : span_in_site_then_defaults tag site defaults ≡ lookup_span (length site) 0
       unfolding span_by_site_or_defaults
       no_place = rw (n, e)
@@ -228,37 +213,37 @@ module _ (tag : ℕ) (site defaults : List ℕ) where
       pub no_part : Handed []
       unfolding value_or_default
       no_part =
-          let v : first_value_of_tag tag (leading_primitive_objects defaults) ≡ none = rw e at (stands tag defaults) in
+          let v : first_value_of_tag tag (leading_primitive_objects defaults) ≡ None = rw e at (stands tag defaults) in
           handed _ (sym (nothing ∙ ap (λ (x : Option (List ℕ)). value_or_default x []) v))
 
 -- ---- the address, by what is found in each list
 
-module _ (s d : ℕ × ℕ) (x y : LookupFound) where
-  pub site_address : (p : LookupSpan) → x ≡ At p → address_after p.start s ≡ address_in_site_or_defaults s d x y
+module _ (s d : ℕ × ℕ) (x y : Option LookupSpan) where
+  pub site_address : (p : LookupSpan) → x ≡ Some p → address_after p.start s ≡ address_in_site_or_defaults s d x y
   unfolding address_in_site_or_defaults
-  site_address p e = sym (ap (λ (r : LookupFound). address_in_site_or_defaults s d r y) e)
+  site_address p e = sym (ap (λ (r : Option LookupSpan). address_in_site_or_defaults s d r y) e)
 
-  module _ (n : x ≡ Absent) where
-    pub default_address : (p : LookupSpan) → y ≡ At p → address_after p.start d ≡ address_in_site_or_defaults s d x y
+  module _ (n : x ≡ None) where
+    pub default_address : (p : LookupSpan) → y ≡ Some p → address_after p.start d ≡ address_in_site_or_defaults s d x y
     unfolding address_in_site_or_defaults
     default_address p e = rw (n, e)
 
-    pub no_address : y ≡ Absent → address_after 0 d ≡ address_in_site_or_defaults s d x y
+    pub no_address : y ≡ None → address_after 0 d ≡ address_in_site_or_defaults s d x y
     unfolding address_in_site_or_defaults
     no_address e = rw (n, e)
 
 -- ---- a walk over one list, as the code makes it: `at` is where the rest begins
 
-shifted_zero : (r : LookupFound) → lookup_shifted 0 r ≡ r
+shifted_zero : (r : Option LookupSpan) → lookup_shifted 0 r ≡ r
 unfolding lookup_shifted
-shifted_zero Absent = refl
-shifted_zero (At p) = let z : 0 + p.start ≡ p.start = omega arith in ap (λ (k : ℕ). At (lookup_span k p.len)) z
+shifted_zero None = refl
+shifted_zero (Some p) = let z : 0 + p.start ≡ p.start = omega arith in ap (λ (k : ℕ). Some (lookup_span k p.len)) z
 
-shifted_twice : (m n : ℕ) (r : LookupFound) → lookup_shifted m (lookup_shifted n r) ≡ lookup_shifted (m + n) r
+shifted_twice : (m n : ℕ) (r : Option LookupSpan) → lookup_shifted m (lookup_shifted n r) ≡ lookup_shifted (m + n) r
 unfolding lookup_shifted
-shifted_twice m n Absent = refl
-shifted_twice m n (At p) =
-    let z : m + (n + p.start) ≡ m + n + p.start = omega arith in ap (λ (k : ℕ). At (lookup_span k p.len)) z
+shifted_twice m n None = refl
+shifted_twice m n (Some p) =
+    let z : m + (n + p.start) ≡ m + n + p.start = omega arith in ap (λ (k : ℕ). Some (lookup_span k p.len)) z
 
 module _ (tag : ℕ) (bytes : List ℕ) where
   -- none of the objects before the rest has the tag
@@ -270,11 +255,11 @@ module _ (tag : ℕ) (bytes : List ℕ) where
   begin = record { inside = omega arith; is = sym (shifted_zero _ ∙ ap (lookup_first tag) (tail-is bytes 0)) }
 
   module _ {at : ℕ} (w : Reached at) where
-    pub stopped : primitive_at_front (tail bytes at) ≡ front.Broken → lookup_first tag bytes ≡ Absent
+    pub stopped : primitive_at_front (tail bytes at) ≡ None → lookup_first tag bytes ≡ None
     unfolding lookup_shifted
     stopped e = w.is ∙ ap (lookup_shifted at) (at_broken tag _ e)
 
-    module _ (h : TlvHeader) (e : primitive_at_front (tail bytes at) ≡ front.Object h) where
+    module _ (h : TlvHeader) (e : primitive_at_front (tail bytes at) ≡ Some h) where
       pub bounds : (2 ≤ h.start) × (at + h.start + h.len ≤ length bytes)
       bounds =
           let f = primitive_fits _ _ e in
@@ -282,7 +267,7 @@ module _ (tag : ℕ) (bytes : List ℕ) where
           let i = w.inside in
           (f.two, omega arith)
 
-      pub met : h.tag ≡ tag → lookup_first tag bytes ≡ At (lookup_span (at + h.start) h.len)
+      pub met : h.tag ≡ tag → lookup_first tag bytes ≡ Some (lookup_span (at + h.start) h.len)
       unfolding lookup_shifted
       met t = w.is ∙ ap (lookup_shifted at) (at_here tag _ h e t)
 
@@ -310,26 +295,26 @@ module _ (tag : ℕ) (site defaults : List ℕ) where
       → lookup_source tag site defaults ≡ source_by_values v w
   source_by v w e f = ap₂ source_by_values e f
 
-  pub source_site_lem : (p : LookupSpan) → lookup_first tag site ≡ At p → lookup_source tag site defaults ≡ source_site
+  pub source_site_lem : (p : LookupSpan) → lookup_first tag site ≡ Some p → lookup_source tag site defaults ≡ source_site
   unfolding source_by_values
   source_site_lem p e = source_by _ _ (rw e at (stands tag site)).1 refl
 
-  module _ (n : lookup_first tag site ≡ Absent) where
-    pub source_default : (p : LookupSpan) → lookup_first tag defaults ≡ At p → lookup_source tag site defaults
+  module _ (n : lookup_first tag site ≡ None) where
+    pub source_default : (p : LookupSpan) → lookup_first tag defaults ≡ Some p → lookup_source tag site defaults
         ≡ source_defaults
     unfolding source_by_values
     source_default p e = source_by _ _ (rw n at (stands tag site)) (rw e at (stands tag defaults)).1
 
-    pub source_neither : lookup_first tag defaults ≡ Absent → lookup_source tag site defaults ≡ source_nowhere
+    pub source_neither : lookup_first tag defaults ≡ None → lookup_source tag site defaults ≡ source_nowhere
     unfolding source_by_values
     source_neither e = source_by _ _ (rw n at (stands tag site)) (rw e at (stands tag defaults))
 
 -- a source is one of three
 pub source_few : (v w : Option (List ℕ)) → source_by_values v w ≤ 2
 unfolding source_by_values
-source_few (some v) w = omega arith
-source_few none (some w) = omega arith
-source_few none none = omega arith
+source_few (Some v) w = omega arith
+source_few None (Some w) = omega arith
+source_few None None = omega arith
 
 -- ---- the word
 
@@ -356,18 +341,18 @@ module _ (tag : ℕ) (site defaults : List ℕ) where
         let i = place_inside site defaults tag _ refl in
         rw (← (word-is _ _ refl refl)) (word_fits _ _ _ (source_few _ _) (omega arith))
 
-    pub word_site : (p : LookupSpan) → lookup_first tag site ≡ At p → lookup_word_of_span source_site p ≡ lookup_word tag site
+    pub word_site : (p : LookupSpan) → lookup_first tag site ≡ Some p → lookup_word_of_span source_site p ≡ lookup_word tag site
         defaults
     word_site p e = word-is source_site p (source_site_lem tag site defaults p e) (site_place tag site defaults p e)
 
-    module _ (n : lookup_first tag site ≡ Absent) where
-      pub word_default : (p : LookupSpan) → lookup_first tag defaults ≡ At p
+    module _ (n : lookup_first tag site ≡ None) where
+      pub word_default : (p : LookupSpan) → lookup_first tag defaults ≡ Some p
           → lookup_word_of_span source_defaults (lookup_span (length site + p.start) p.len) ≡ lookup_word tag site
           defaults
       word_default p e =
           word-is source_defaults _ (source_default tag site defaults n p e) (default_place tag site defaults n p e)
 
-      pub word_neither : lookup_first tag defaults ≡ Absent → length site * 0x100000000 ≡ lookup_word tag site defaults
+      pub word_neither : lookup_first tag defaults ≡ None
+          → lookup_word_of_span source_nowhere (lookup_span (length site) 0) ≡ lookup_word tag site defaults
       word_neither e =
-          let z : length site * 0x100000000 ≡ length site * 0x100000000 + source_nowhere * 0x10000 + 0 = omega arith in
-          z ∙ word-is source_nowhere _ (source_neither tag site defaults n e) (no_place tag site defaults n e)
+          word-is source_nowhere _ (source_neither tag site defaults n e) (no_place tag site defaults n e)

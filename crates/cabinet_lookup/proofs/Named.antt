@@ -2,9 +2,9 @@
 -- is at most 2, so a word has its parts back (`word_start`, `word_source`, `word_length`); the address goes by what is
 -- found in each list (`address_both`).
 -- Assumes nothing.
+use Rattle.std.specs.Prelude.{Some, None, Option}
 use mathlib.Core.Path.{◌≡◌, refl, sym, ap, ap₂, ◌∙◌}
 use mathlib.Core.List.{List, ◌++◌}
-use mathlib.Core.Option.{Option}
 use Prim.Native.Nat.{ℕ, ◌+◌, ◌-◌, ◌*◌, ◌≤◌, ◌<◌}
 use native.Mathlib.Omega.{arith}
 use lib.Dec.{eqb}
@@ -13,8 +13,6 @@ use denote.Ref.{Bor}
 use Rattle.basics.specs.Choice.{if}
 use Rattle.tlv.proofs.Laws.{Bytes}
 use Rattle.cabinet_lookup.specs.declared.LookupSpan.{LookupSpan}
-use Rattle.cabinet_lookup.specs.declared.LookupFound.{LookupFound}
-use Rattle.cabinet_lookup.specs.declared.LookupFound.TheVariants.{At, Absent}
 use Rattle.cabinet_lookup.specs.Value.{lookup_value}
 use Rattle.cabinet_lookup.specs.Place.{lookup_span, span_bytes, span_by_site_or_defaults}
 use Rattle.cabinet_lookup.specs.Place.{span_in_site_then_defaults}
@@ -64,15 +62,15 @@ abbrev address_by : ℕ → ℕ × ℕ → ℕ × ℕ → ℕ → ℕ → ℕ ×
 address_by n s d k a = if (eqb k source_site) (address_after a s) (address_after (a - n) d)
 
 module _ (site defaults : List ℕ) (s d : ℕ × ℕ) where
-  address_both : (x y : LookupFound) (v w : Option (List ℕ)) → Stands site x v → Stands defaults y w
+  address_both : (x y : Option LookupSpan) (v w : Option (List ℕ)) → Stands site x v → Stands defaults y w
       → address_in_site_or_defaults s d x y ≡ address_by (length site) s d (source_by_values v w)
       (span_by_site_or_defaults (length site) x y).start
   unfolding address_in_site_or_defaults span_by_site_or_defaults source_by_values if
-  address_both (At p) y v w f g = rw f.1
-  address_both Absent (At p) v w f g =
+  address_both (Some p) y v w f g = rw f.1
+  address_both None (Some p) v w f g =
       let z : p.start ≡ length site + p.start - length site = omega arith in
       rw (f, g.1) (ap (λ (m : ℕ). address_after m d) z)
-  address_both Absent Absent v w f g =
+  address_both None None v w f g =
       let z : 0 ≡ length site - length site = omega arith in
       rw (f, g) (ap (λ (m : ℕ). address_after m d) z)
 

@@ -1,17 +1,14 @@
 -- Where the value of a tag lies (document 02, Item 14): start and length, in one list and in the site's bytes with the
 -- defaults' after them.
 -- Assumes nothing.
-use Rattle.std.specs.Prelude.{◌+◌, length, take, drop}
+use Rattle.tlv.specs.declared.TlvHeader.{TlvHeader}
+use Rattle.std.specs.Prelude.{◌+◌, length, take, drop, Option, Some, None}
 use Rattle.basics.specs.Types.{Bytes, Length, Offset, StartBytes, Tag, Value}
 use Rattle.basics.specs.Choice.{when◌then◌else◌, ◌=?◌}
 use Rattle.basics.specs.Recursion.{recurse_with_fuel_from_length}
-use Rattle.tlv.specs.declared.ObjectFront.{ObjectFront}
-use Rattle.tlv.specs.declared.ObjectFront.TheVariants as front
 use Rattle.tlv.specs.Object.{behind_object}
 use Rattle.tlv.specs.Primitives.{primitive_at_front}
 use Rattle.cabinet_lookup.specs.declared.LookupSpan.{LookupSpan}
-use Rattle.cabinet_lookup.specs.declared.LookupFound.{LookupFound}
-use Rattle.cabinet_lookup.specs.declared.LookupFound.TheVariants.{At, Absent}
 
 -- a value of n bytes whose first is at place a, counted from 0
 abbrev pub lookup_span : Offset → Length → LookupSpan
@@ -24,32 +21,32 @@ span_bytes s p = take p.len (drop p.start s)
 -- ---- one list
 
 -- the same place, with n more bytes before it
-unfoldable pub lookup_shifted : Length → LookupFound → LookupFound
-lookup_shifted n Absent = Absent
-lookup_shifted n (At p) = At (lookup_span (n + p.start) p.len)
+unfoldable pub lookup_shifted : Length → Option LookupSpan → Option LookupSpan
+lookup_shifted n None = None
+lookup_shifted n (Some p) = Some (lookup_span (n + p.start) p.len)
 
 -- the object at the front where it has the tag, else what k finds after it
-abbrev pub lookup_at_front : Tag → (StartBytes → LookupFound) → StartBytes → ObjectFront → LookupFound
-lookup_at_front tag k s front.Broken = Absent
-lookup_at_front tag k s (front.Object h) =
-    when h.tag =? tag then At (lookup_span h.start h.len)
+abbrev pub lookup_at_front : Tag → (StartBytes → Option LookupSpan) → StartBytes → Option TlvHeader → Option LookupSpan
+lookup_at_front tag k s None = None
+lookup_at_front tag k s (Some h) =
+    when h.tag =? tag then Some (lookup_span h.start h.len)
     else lookup_shifted (h.start + h.len) (k (behind_object s h))
 
 -- one step, by what k finds in fewer bytes
-abbrev pub lookup_step : Tag → (StartBytes → LookupFound) → StartBytes → LookupFound
+abbrev pub lookup_step : Tag → (StartBytes → Option LookupSpan) → StartBytes → Option LookupSpan
 lookup_step tag k s = lookup_at_front tag k s (primitive_at_front s)
 
 -- where the first object of the tag lies; absent where the list holds none
-unfoldable pub lookup_first : Tag → StartBytes → LookupFound
-lookup_first tag s = recurse_with_fuel_from_length Absent (lookup_step tag) s
+unfoldable pub lookup_first : Tag → StartBytes → Option LookupSpan
+lookup_first tag s = recurse_with_fuel_from_length None (lookup_step tag) s
 
 -- ---- two lists
 
 -- by what each has, of a site's list of n bytes: in neither, no bytes at the front of the defaults
-unfoldable pub span_by_site_or_defaults : Length → LookupFound → LookupFound → LookupSpan
-span_by_site_or_defaults n (At p) r = p
-span_by_site_or_defaults n Absent (At p) = lookup_span (n + p.start) p.len
-span_by_site_or_defaults n Absent Absent = lookup_span n 0
+unfoldable pub span_by_site_or_defaults : Length → Option LookupSpan → Option LookupSpan → LookupSpan
+span_by_site_or_defaults n (Some p) r = p
+span_by_site_or_defaults n None (Some p) = lookup_span (n + p.start) p.len
+span_by_site_or_defaults n None None = lookup_span n 0
 
 -- where the value of the tag lies in the site's bytes and the defaults' after them
 abbrev pub span_in_site_then_defaults : Tag → StartBytes → StartBytes → LookupSpan

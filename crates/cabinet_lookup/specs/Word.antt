@@ -1,7 +1,6 @@
 -- Where the value of a tag lies, as one 64-bit word for a host: in which list, from where and how long.
 -- Assumes nothing.
-use Rattle.std.proofs.Math.Option.{Option, some, none}
-use Rattle.std.specs.Prelude.{ℕ, ◌+◌, ◌*◌, ◌/◌, ◌%◌, length}
+use Rattle.std.specs.Prelude.{ℕ, ◌+◌, ◌*◌, ◌/◌, ◌%◌, length, Option, Some, None}
 use Rattle.basics.specs.Types.{Length, Offset, StartBytes, Tag, Value}
 use Rattle.basics.specs.Choice.{when◌then◌else◌, ◌≤?◌}
 use Rattle.cabinet_lookup.specs.declared.LookupSpan.{LookupSpan}
@@ -24,9 +23,9 @@ source_defaults = 2
 
 -- by the value that each list has: the site's list where it has one, an empty one too, else the defaults
 unfoldable pub source_by_values : Option Value → Option Value → ℕ
-source_by_values (some v) w = source_site
-source_by_values none (some w) = source_defaults
-source_by_values none none = source_nowhere
+source_by_values (Some v) w = source_site
+source_by_values None (Some w) = source_defaults
+source_by_values None None = source_nowhere
 
 -- the source of the value of the tag
 abbrev pub lookup_source : Tag → StartBytes → StartBytes → ℕ

@@ -1,10 +1,10 @@
 -- Every list of calls is read back from its bytes: the header gives the lengths, and they cut out the call's own bytes
 -- and buffer.
 -- Assumes nothing.
+use Rattle.std.specs.Prelude.{Some}
 use mathlib.Core.Path.{◌≡◌, refl, sym, ap, ◌∙◌}
 use mathlib.Core.Bool.{true}
 use mathlib.Core.List.{List, [], ◌∷◌, ◌++◌, append_assoc}
-use mathlib.Core.Option.{some}
 use Prim.Native.Nat.{ℕ, ◌+◌}
 use native.Mathlib.Omega.{arith}
 use lib.ListN.{length, take, drop, length-append}
@@ -76,7 +76,7 @@ module _ (kind : ℕ) (bytes buf rest : List ℕ) where
       ∙ ap (λ (c : Call). prepend_call c (parsed_calls (drop (call_end_offset h) s))) call ∙ ap
       (λ (l : List ℕ). prepend_call (call_of_kind kind bytes buf) (parsed_calls l)) behind_call
 
-pub read_back : (cs : List Call) → parsed_calls (encoded_calls cs) ≡ some cs
+pub read_back : (cs : List Call) → parsed_calls (encoded_calls cs) ≡ Some cs
 unfolding encoded_calls is_call_kind_with_allowed_length either both call_of_kind if
 read_back [] = calls_end [] refl
 read_back (start bytes buf ∷ cs) = one_back 1 bytes buf (encoded_calls cs) refl ∙ ap (prepend_call (start bytes buf))

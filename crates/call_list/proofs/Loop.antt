@@ -1,15 +1,15 @@
 -- One call played in place. The bytes that come in are copied up to 1,025 of them, and every step is the same on the
 -- copy; the call's buffer and its reply then stand where the rest of the list begins.
 -- Assumes nothing.
+use Rattle.std.specs.Prelude.{Some, None, Option}
 use mathlib.Core.Path.{◌≡◌, refl, sym, ap, subst, ◌∙◌}
 use mathlib.Core.Bool.{true}
 use mathlib.Core.Logic.{inl, inr}
 use mathlib.Core.List.{List, [], ◌∷◌, ◌++◌, append-nil, append_assoc}
-use mathlib.Core.Option.{Option, some, none}
 use Prim.Native.Nat.{ℕ, ◌+◌, ◌*◌, ◌-◌, ◌≤◌, ◌<◌, min}
 use native.Mathlib.Omega.{arith}
 use lib.ListN.{length, take, drop, length-append, length-take, length-drop, take-append-drop}
-use lib.Seq.{take_at, drop_at, drop-drop, drop-length, take-length, take-append-add, drop-append-add, length-take-le}
+use lib.Seq.{take_at, drop_at, drop-drop, drop-length, take-append-add, drop-append-add, length-take-le}
 use lib.Dec.{eqb}
 use Rattle.basics.proofs.Laws.{if_yes, if_no, bool_cases}
 use Rattle.basics.proofs.Order.{le-or-gt}
@@ -20,7 +20,6 @@ use Rattle.session_record.specs.Session.{fresh_session}
 use Rattle.session.specs.Steps.{Step, ReturnsStep}
 use Rattle.session.specs.Calls.{Call, call_step, play_calls, final_session}
 use Rattle.call_list.specs.declared.CallHeader.{CallHeader}
-use Rattle.call_list.specs.declared.CallFront.{CallFront}
 use Rattle.call_list.specs.declared.CallPlayed.{CallPlayed}
 use Rattle.call_list.specs.Encoding.{call_header_size, call_buffer_offset, call_end_offset, call_header_in}
 use Rattle.call_list.specs.Encoding.{begins_with_whole_call, call_of_kind, call_by_header, prepend_call, parsed_calls}
@@ -53,12 +52,6 @@ copied s kind n v buf h = elim (le-or-gt n 1025) [
   | inr p ↦ step_long s kind (take (min n 1025) v) (take n v) buf
       (omega (arith, length-take (min n 1025) v)) (omega (arith, length-take n v))
 ]
-
--- the front of an array into which v was copied
-pub front_copied : (v w l rest : List ℕ) (n : ℕ) → length v ≡ n → l ≡ take (length v) v ++ w → take n (l ++ rest) ≡ v
-front_copied v w l rest n e f =
-    ap (λ (x : List ℕ). take n (x ++ rest)) (f ∙ ap (λ (x : List ℕ). x ++ w) (take-length v)) ∙ ap (take n)
-    (append_assoc v w rest) ∙ take_at v (w ++ rest) n e
 
 -- a call made with n bytes of the copy x, and its buffer put in its place
 pub placed : {r : Reply} {b : List ℕ} (s : Session) (h : CallHeader) (v x : List ℕ) (n : ℕ) → call_end_offset h ≤ length v
@@ -107,45 +100,26 @@ reply_length r = go r.answer
     go (CallResult.Outcome e) = refl
     go (CallResult.Refused x) = refl
 
--- the call at the front is played: its header h, what it returned, and the four bytes of its reply
-pub turned : {y : Reply} {p b q : List ℕ} (s : Session) (v r : List ℕ) (h : CallHeader) → h ≡ call_header_in v
-    → ReturnsStep y p (step_with_buffer_in_call_bytes v h (call_step s (call_by_header v h)))
-    → b ≡ reply_bytes y → q ≡ take (length b) b ++ drop (length b) r
-    → PlaysOneCall (record { session = y.session; size = call_end_offset h }) p q s v r
-turned {y} {p} {b} {q} s v r h e d f g =
-    let st = call_step s (call_by_header v (call_header_in v)) in
-    let k : ReturnsStep y p (step_with_buffer_in_call_bytes v (call_header_in v) st) =
-    subst (λ (x : CallHeader). ReturnsStep y p (step_with_buffer_in_call_bytes v x (call_step s (call_by_header v x)))) e d in
-    let n : length b ≡ reply_size = ap length f ∙ reply_length y in
-    record {
-      session = ap (λ (x : Reply). x.session) k.reply;
-      size = ap call_end_offset e;
-      calls_after_lem = k.buffer;
-      replies_after_lem =
-          g ∙ ap (λ (l : List ℕ). l ++ drop (length b) r) (take-length b ∙ f ∙ ap reply_bytes k.reply) ∙ ap
-          (λ (m : ℕ). reply_bytes st.reply ++ drop m r) n;
-    }
-
 -- ---- the call at the front of what is left
 
 pub record FrontCall (v : List ℕ) (left : List Call) : Type 0 where
   pub more : List Call
   pub whole : begins_with_whole_call v ≡ true
   pub is : left ≡ call_by_header v (call_header_in v) ∷ more
-  pub rest : parsed_calls (drop (call_end_offset (call_header_in v)) v) ≡ some more
+  pub rest : parsed_calls (drop (call_end_offset (call_header_in v)) v) ≡ Some more
 
-pub front_left : (v : List ℕ) (left : List Call) → (length v ≡ 0 → ⊥) → parsed_calls v ≡ some left → FrontCall v left
+pub front_left : (v : List ℕ) (left : List Call) → (length v ≡ 0 → ⊥) → parsed_calls v ≡ Some left → FrontCall v left
 front_left v left n e = go (call_front_in v) refl
   where
     pick : begins_with_whole_call v ≡ true → (x : Option (List Call))
         → parsed_calls (drop (call_end_offset (call_header_in v)) v) ≡ x → prepend_call (call_by_header v (call_header_in v)) x
-        ≡ some left → FrontCall v left
-    pick w none q r = let z : ◌≡◌ {A = ℕ} 0 1 = cc in absurd (omega arith)
-    pick w (some more) q r = record { more = more; whole = w; is = cc; rest = q }
+        ≡ Some left → FrontCall v left
+    pick w None q r = let z : ◌≡◌ {A = ℕ} 0 1 = cc in absurd (omega arith)
+    pick w (Some more) q r = record { more = more; whole = w; is = cc; rest = q }
 
-    go : (x : CallFront) → call_front_in v ≡ x → FrontCall v left
-    go CallFront.Malformed f = let y = calls_malformed v n f in let z : ◌≡◌ {A = ℕ} 0 1 = cc in absurd (omega arith)
-    go (CallFront.Call h) f =
+    go : (x : Option CallHeader) → call_front_in v ≡ x → FrontCall v left
+    go None f = let y = calls_malformed v n f in let z : ◌≡◌ {A = ℕ} 0 1 = cc in absurd (omega arith)
+    go (Some h) f =
         let w = (front_whole v h f).0 in
         pick w (parsed_calls (drop (call_end_offset (call_header_in v)) v)) refl
         (sym (calls_call v n (call_header_in v) (front_is v w)) ∙ e)
@@ -173,7 +147,7 @@ end_put c p at =
 
 pub record Going (c₀ r₀ : List ℕ) (all : List Call) (c r : List ℕ) (s : Session) (at out : ℕ) : Type 0 where
   pub left : List Call
-  pub read : parsed_calls (drop at c) ≡ some left
+  pub read : parsed_calls (drop at c) ≡ Some left
   pub inside : at ≤ length c
   pub room : out + reply_size * length left ≤ length r
   pub session : final_session fresh_session all ≡ final_session s left
@@ -182,7 +156,7 @@ pub record Going (c₀ r₀ : List ℕ) (all : List Call) (c r : List ℕ) (s : 
   pub replies : reply_bytes_of_calls (play_calls fresh_session all) ++ drop (reply_size * length all) r₀ ≡ take out r
       ++ (reply_bytes_of_calls (play_calls s left) ++ drop (out + reply_size * length left) r)
 
-pub going_start : (c r : List ℕ) (all : List Call) (s : Session) → s ≡ fresh_session → parsed_calls c ≡ some all
+pub going_start : (c r : List ℕ) (all : List Call) (s : Session) → s ≡ fresh_session → parsed_calls c ≡ Some all
     → reply_size * length all ≤ length r → Going c r all c r s 0 0
 going_start c r all s f e h =
     let z : reply_size * length all ≡ 0 + reply_size * length all = omega arith in
@@ -390,7 +364,7 @@ pub going_end : (c₀ r₀ : List ℕ) (all : List Call) (c r : List ℕ) (s : S
     → Going c₀ r₀ all c r s at out → length c ≤ at → PlaysCalls s c r c₀ r₀ all
 unfolding play_calls final_session call_bytes_after_play reply_bytes_of_calls
 going_end c₀ r₀ all c r s at out g z =
-    let e : some g.left ≡ some [] = sym g.read ∙ calls_end (drop at c) (length-drop at c ∙ omega arith) in
+    let e : Some g.left ≡ Some [] = sym g.read ∙ calls_end (drop at c) (length-drop at c ∙ omega arith) in
     let l : g.left ≡ [] = cc in
     let k : out + reply_size * length g.left ≡ out = omega (arith, ap length l) in
     record {

@@ -1,11 +1,11 @@
 -- Numbers in bytes, high byte first: what the bytes of a part add, and a number read back from its bytes.
 -- Assumes nothing.
-use mathlib.Core.Path.{◌≡◌, refl, sym, ap, subst, ◌∙◌}
+use mathlib.Core.Path.{◌≡◌, refl, ap, subst, ◌∙◌}
 use mathlib.Core.List.{List, [], ◌∷◌, ◌++◌}
 use Prim.Native.Nat.{ℕ, zero, suc, ◌+◌, ◌*◌, ◌/◌, ◌%◌, ◌<◌, ◌^◌}
 use native.Mathlib.Omega.{arith}
 use native.Mathlib.Nat.{pow-zero, pow-suc}
-use lib.ListN.{length, get_or, take, drop, length-append, length-drop, take-append-drop}
+use lib.ListN.{length, get_or, length-append}
 use Rattle.basics.specs.Number.{append_big_endian_bytes, big_endian_number}
 use Rattle.call_list.specs.Encoding.{big_endian_bytes}
 
@@ -15,22 +15,20 @@ unfolding append_big_endian_bytes
 number_append n [] t = refl
 number_append n (a ∷ s) t = number_append (n * 256 + a) s t
 
-pub four_from : (n : ℕ) (s : List ℕ) → length s ≡ 4
-    → append_big_endian_bytes n s ≡ (((n * 256 + get_or s 0 0) * 256 + get_or s 1 0) * 256 + get_or s 2 0) * 256 + get_or s 3 0
+pub eight_from : (s : List ℕ) → length s ≡ 8 → big_endian_number s
+    ≡ ((((((get_or s 0 0 * 256 + get_or s 1 0) * 256 + get_or s 2 0) * 256 + get_or s 3 0) * 256 + get_or s 4 0) * 256
+    + get_or s 5 0) * 256 + get_or s 6 0) * 256 + get_or s 7 0
 unfolding append_big_endian_bytes
-four_from n [] h = absurd (omega arith)
-four_from n (a ∷ []) h = absurd (omega arith)
-four_from n (a ∷ b ∷ []) h = absurd (omega arith)
-four_from n (a ∷ b ∷ c ∷ []) h = absurd (omega arith)
-four_from n (a ∷ b ∷ c ∷ d ∷ []) h = refl
-four_from n (a ∷ b ∷ c ∷ d ∷ e ∷ s) h = absurd (omega arith)
-
-pub eight_number : (s : List ℕ) → length s ≡ 8 → big_endian_number s ≡ big_endian_number (take 4 s) * 4294967296
-    + big_endian_number (drop 4 s)
-eight_number s h =
-    let l : length (drop 4 s) ≡ 4 = length-drop 4 s ∙ omega arith in
-    ap big_endian_number (sym (take-append-drop 4 s)) ∙ number_append 0 (take 4 s) (drop 4 s)
-    ∙ omega (arith, four_from (big_endian_number (take 4 s)) (drop 4 s) l, four_from 0 (drop 4 s) l)
+eight_from [] h = absurd (omega arith)
+eight_from (a ∷ []) h = absurd (omega arith)
+eight_from (a ∷ b ∷ []) h = absurd (omega arith)
+eight_from (a ∷ b ∷ c ∷ []) h = absurd (omega arith)
+eight_from (a ∷ b ∷ c ∷ d ∷ []) h = absurd (omega arith)
+eight_from (a ∷ b ∷ c ∷ d ∷ e ∷ []) h = absurd (omega arith)
+eight_from (a ∷ b ∷ c ∷ d ∷ e ∷ f ∷ []) h = absurd (omega arith)
+eight_from (a ∷ b ∷ c ∷ d ∷ e ∷ f ∷ g ∷ []) h = absurd (omega arith)
+eight_from (a ∷ b ∷ c ∷ d ∷ e ∷ f ∷ g ∷ i ∷ []) h = omega arith
+eight_from (a ∷ b ∷ c ∷ d ∷ e ∷ f ∷ g ∷ i ∷ j ∷ s) h = absurd (omega arith)
 
 -- ---- a number is read back from its bytes
 

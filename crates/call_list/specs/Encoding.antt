@@ -1,7 +1,7 @@
 -- A list of calls in bytes: the calls concatenated, and read back.
 -- Assumes nothing.
+use Rattle.std.specs.Prelude.{Option, Some, None}
 use Rattle.std.specs.Prelude.{Bool, List, [], ◌∷◌, ◌++◌, ℕ, zero, suc, ◌+◌, ◌/◌, ◌%◌, length, get_or, take, drop}
-use Rattle.std.proofs.Math.Option.{Option, some, none}
 use Rattle.basics.specs.Choice.{when◌then◌else◌, ◌and◌, ◌or◌, ◌≤?◌, ◌=?◌}
 use Rattle.basics.specs.Number.{big_endian_number}
 use Rattle.basics.specs.Recursion.{recurse_with_fuel_from_length}
@@ -87,20 +87,20 @@ call_by_header s h =
 
 -- a call before those that were read after it
 abbrev pub prepend_call : Call → Option (List Call) → Option (List Call)
-prepend_call c none = none
-prepend_call c (some cs) = some (c ∷ cs)
+prepend_call c None = None
+prepend_call c (Some cs) = Some (c ∷ cs)
 
 -- no bytes are no calls; else the whole call at the front, and what k reads of the bytes after it
 abbrev pub parse_calls_step : (Bytes → Option (List Call)) → Bytes → Option (List Call)
-parse_calls_step k [] = some []
+parse_calls_step k [] = Some []
 parse_calls_step k (b ∷ s) =
     let h = call_header_in (b ∷ s) in
     when begins_with_whole_call (b ∷ s) then prepend_call (call_by_header (b ∷ s) h) (k (drop (call_end_offset h) (b ∷ s)))
-    else none
+    else None
 
 -- the calls of some bytes, or none where they are no list of calls
 unfoldable pub parsed_calls : Bytes → Option (List Call)
-parsed_calls s = recurse_with_fuel_from_length none parse_calls_step s
+parsed_calls s = recurse_with_fuel_from_length None parse_calls_step s
 
 -- ---- what holds of it, proved in proofs/
 --   unroll         callsOf s ≡ nextCall callsOf s: each call takes up bytes, so the recursion's bound does not matter

@@ -3,45 +3,42 @@
 -- the rules can skip it: `next-front` in proofs/Read ties it to `parse_calls_step`, and `going_end` in proofs/Loop and
 -- `runs_played` in proofs/Whole to `PlaysCalls` and `PlaysListInPublishedOrder` of Playing.antt.
 -- Assumes nothing.
-use Rattle.std.specs.Prelude.{◌≡◌, List, [], ◌++◌, ◌*◌, ◌≤◌, length, drop}
-use Rattle.std.proofs.Math.Option.{Option, some, none}
+use Rattle.std.specs.Prelude.{◌≡◌, List, [], ◌++◌, ◌*◌, ◌≤◌, length, drop, Option, Some, None, ℕ}
 use Rattle.basics.specs.Choice.{when◌then◌else◌}
 use Rattle.basics.specs.Types.{Bytes}
 use Rattle.session_record.specs.declared.Session.{Session}
 use Rattle.session.specs.Steps.{Step}
 use Rattle.session.specs.Calls.{Call, call_step}
 use Rattle.call_list.specs.declared.CallHeader.{CallHeader}
-use Rattle.call_list.specs.declared.CallFront.{CallFront}
 use Rattle.call_list.specs.declared.CallPlayed.{CallPlayed}
-use Rattle.call_list.specs.declared.CallsCounted.{CallsCounted}
 use Rattle.call_list.specs.Encoding.{call_header_in, call_end_offset, begins_with_whole_call, call_by_header, prepend_call}
 use Rattle.call_list.specs.Playing.{reply_bytes, reply_size, call_bytes_with_buffer}
 
 -- the header of the call at the front, if it is whole
-unfoldable pub call_front_in : Bytes → CallFront
+unfoldable pub call_front_in : Bytes → Option CallHeader
 call_front_in s =
-    when begins_with_whole_call s then CallFront.Call (call_header_in s)
-    else CallFront.Malformed
+    when begins_with_whole_call s then Some (call_header_in s)
+    else None
 
 -- the call at the front, and what k reads of the bytes after it
-abbrev pub call_then_rest : (Bytes → Option (List Call)) → Bytes → CallFront → Option (List Call)
-call_then_rest k s CallFront.Malformed = none
-call_then_rest k s (CallFront.Call h) = prepend_call (call_by_header s h) (k (drop (call_end_offset h) s))
+abbrev pub call_then_rest : (Bytes → Option (List Call)) → Bytes → Option CallHeader → Option (List Call)
+call_then_rest k s None = None
+call_then_rest k s (Some h) = prepend_call (call_by_header s h) (k (drop (call_end_offset h) s))
 
 -- how many calls were read
-abbrev pub calls_counted_in : Option (List Call) → CallsCounted
-calls_counted_in none = CallsCounted.Malformed
-calls_counted_in (some cs) = CallsCounted.Calls (length cs)
+abbrev pub calls_counted_in : Option (List Call) → Option ℕ
+calls_counted_in None = None
+calls_counted_in (Some cs) = Some (length cs)
 
 -- there is a list of calls, and room for its replies
 abbrev pub CallsWithRoomForReplies : Option (List Call) → Bytes → Type 0
-CallsWithRoomForReplies none replies = ⊥
-CallsWithRoomForReplies (some cs) replies = reply_size * length cs ≤ length replies
+CallsWithRoomForReplies None replies = ⊥
+CallsWithRoomForReplies (Some cs) replies = reply_size * length cs ≤ length replies
 
 -- the calls of the list, none where there is no list
 abbrev pub calls_or_empty : Option (List Call) → List Call
-calls_or_empty none = []
-calls_or_empty (some cs) = cs
+calls_or_empty None = []
+calls_or_empty (Some cs) = cs
 
 -- a step of the call at the front of s, with its buffer in its place
 abbrev pub step_with_buffer_in_call_bytes : Bytes → CallHeader → Step → Step

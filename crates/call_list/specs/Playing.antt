@@ -1,7 +1,6 @@
 -- What playing a list of calls in bytes leaves: the session, both slices, and the claim over the calls played.
 -- Assumes nothing.
-use Rattle.std.specs.Prelude.{◌≡◌, List, [], ◌∷◌, ◌++◌, ℕ, ◌*◌, ◌/◌, ◌%◌, length, take, drop}
-use Rattle.std.proofs.Math.Option.{Option, some, none}
+use Rattle.std.specs.Prelude.{◌≡◌, List, [], ◌∷◌, ◌++◌, ℕ, ◌*◌, ◌/◌, ◌%◌, length, take, drop, Option, Some, None, Result, Ok, Err}
 use Rattle.basics.specs.Choice.{when◌then◌else◌, ◌≤?◌}
 use Rattle.basics.specs.Types.{Bytes, Buffer, Length}
 use Rattle.session_record.specs.declared.Session.{Session}
@@ -12,7 +11,7 @@ use Rattle.session_record.specs.Session.{fresh_session}
 use Rattle.session.specs.Calls.{Call, CallMade, play_calls, final_session}
 use Rattle.session_claim.specs.Claim.{CallsAndSessionAfterInPublishedOrder}
 use Rattle.call_list.specs.declared.CallHeader.{CallHeader}
-use Rattle.call_list.specs.declared.PlayResult.{PlayResult}
+use Rattle.call_list.specs.declared.PlayError.{PlayError}
 use Rattle.call_list.specs.declared.ListPlayed.{ListPlayed}
 use Rattle.call_list.specs.Encoding.{call_header_in, call_buffer_offset, call_end_offset, parsed_calls}
 
@@ -54,23 +53,23 @@ call_bytes_after_play s (m ∷ ms) =
 
 -- the calls that are played: those that the bytes are read as, where there is room for their replies; else none
 abbrev pub calls_if_room_for_replies : Option (List Call) → Bytes → List Call
-calls_if_room_for_replies none replies = []
-calls_if_room_for_replies (some cs) replies =
+calls_if_room_for_replies None replies = []
+calls_if_room_for_replies (Some cs) replies =
     when reply_size * length cs ≤? length replies then cs
     else []
 
 -- what is reported, by its number: 0 played, 1 no list of calls, 2 too little room for the replies
-abbrev pub play_result_number : PlayResult → ℕ
-play_result_number PlayResult.Played = 0
-play_result_number PlayResult.Malformed = 1
-play_result_number PlayResult.TooShort = 2
+abbrev pub play_result_number : Result Unit PlayError → ℕ
+play_result_number (Ok tt) = 0
+play_result_number (Err PlayError.Malformed) = 1
+play_result_number (Err PlayError.TooShort) = 2
 
 -- what is reported of the calls that the bytes are read as
-abbrev pub play_result_of : Option (List Call) → Bytes → PlayResult
-play_result_of none replies = PlayResult.Malformed
-play_result_of (some cs) replies =
-    when reply_size * length cs ≤? length replies then PlayResult.Played
-    else PlayResult.TooShort
+abbrev pub play_result_of : Option (List Call) → Bytes → Result Unit PlayError
+play_result_of None replies = Err PlayError.Malformed
+play_result_of (Some cs) replies =
+    when reply_size * length cs ≤? length replies then Ok tt
+    else Err PlayError.TooShort
 
 -- the calls cs are played on a fresh session: the session s at the end, and both slices
 pub record PlaysCalls (session_after : Session) (calls_after replies_after calls_before replies_before : Bytes)

@@ -12,33 +12,31 @@
 // refusal; and then the session's count. Bytes after them stay.
 #![tactic(auto)]
 
-ghost use Rattle.std.specs.Prelude.{◌≡◌, true, List, ◌+◌, ◌≤◌, ◌<◌, min, leb, length, take, drop};
-ghost use Rattle.std.proofs.Math.Option.{some};
+ghost use Rattle.std.specs.Prelude.{◌≡◌, true, List, ◌+◌, ◌≤◌, ◌<◌, leb, length, take, drop};
 ghost use Rattle.basics.specs.Number.{big_endian_number};
 ghost use Rattle.session_record.specs.Session.{fresh_session};
 ghost use Rattle.session.specs.Steps.{ReturnsStep};
 ghost use Rattle.session.specs.Calls.{Call, call_step as step_of};
 ghost use Rattle.call_list.specs.Encoding.{call_header_size, call_end_offset, is_call_kind_with_allowed_length, call_header_in, begins_with_whole_call};
 ghost use Rattle.call_list.specs.Encoding.{call_of_kind, call_by_header, parsed_calls, encoded_calls};
-ghost use Rattle.call_list.specs.Playing.{reply_bytes, PlaysCalls, PlaysListInBytes, play_result_number};
+ghost use Rattle.call_list.specs.Playing.{reply_bytes, PlaysCalls, PlaysListInBytes, play_result_of, play_result_number};
 ghost use Rattle.call_list.specs.Inner.{call_front_in, calls_counted_in, step_with_buffer_in_call_bytes, PlaysOneCall, CallsWithRoomForReplies, calls_or_empty};
 
 use session_record::{CallResult, Reply, Session};
 
-// What a run reports: all calls were played, the bytes are no list of calls, or `replies` is too short for the replies.
-// In the last two cases nothing is played and nothing is written.
-#[derive(Clone, Copy)]
-pub enum PlayResult {
-    Played,
+// Why no call was played: the bytes are no list of calls, or `replies` is too short for the replies. Then nothing is
+// written.
+#[derive(Clone, Copy, PartialEq, Eq)]
+pub enum PlayError {
     Malformed,
     TooShort,
 }
 
-// The session after the last call that was played, and what the run reports.
+// The session after the last call that was played, and whether all calls were.
 #[derive(Clone, Copy)]
 pub struct ListPlayed {
     pub session: Session,
-    pub said: PlayResult,
+    pub said: Result<(), PlayError>,
 }
 
 // What is before a call's bytes and buffer: its kind, and how long the two are.
@@ -47,20 +45,6 @@ pub struct CallHeader {
     pub kind: u8,
     pub incoming: usize,
     pub capacity: usize,
-}
-
-// What is at the front of some bytes.
-#[derive(Clone, Copy)]
-pub enum CallFront {
-    Call(CallHeader),
-    Malformed,
-}
-
-// How many calls some bytes hold.
-#[derive(Clone, Copy)]
-pub enum CallsCounted {
-    Calls(usize),
-    Malformed,
 }
 
 // A call that was played: the session after it, and how many bytes it takes up.
@@ -73,74 +57,70 @@ pub struct CallPlayed {
 const HEADER: usize = 17;
 
 // The number of what a run reports.
-pub fn play_result_number(said: PlayResult) -> u8
+pub fn play_result_number(said: Result<(), PlayError>) -> u8
     ensures { result ≡ play_result_number said }
 {
     match said {
-        PlayResult::Played => 0,
-        PlayResult::Malformed => 1,
-        PlayResult::TooShort => 2,
+        Ok(()) => 0,
+        Err(PlayError::Malformed) => 1,
+        Err(PlayError::TooShort) => 2,
     }
 }
 
 // Plays the calls that are in `calls`.
 pub fn play_list(calls: &mut [u8], replies: &mut [u8]) -> ListPlayed
     ensures plays_list_in_bytes { PlaysListInBytes result calls.new replies.new calls.old replies.old }
-    ensures every_list { (cs : List Call) → parsed_calls (encoded_calls cs) ≡ some cs }
+    ensures every_list { (cs : List Call) → parsed_calls (encoded_calls cs) ≡ Some cs }
 {
-    let CallsCounted::Calls(n) = count_calls(calls) else {
-        return unplayed(PlayResult::Malformed);
-    };
-    if replies.len() / 4 < n {
-        return unplayed(PlayResult::TooShort);
+    let said = playable(calls, replies);
+    if said.is_err() {
+        let session = session_record::fresh_session();
+        return ListPlayed { session, said };
     }
     let session = play_all(calls, replies);
-    ListPlayed {
-        session,
-        said: PlayResult::Played,
-    }
-}
-
-// Nothing is played.
-fn unplayed(said: PlayResult) -> ListPlayed
-    ensures { result ≡ record { session = fresh_session; said = said } }
-{
-    let session = session_record::fresh_session();
     ListPlayed { session, said }
 }
 
+// Whether the bytes are a list of calls with room for its replies.
+fn playable(calls: &[u8], replies: &[u8]) -> Result<(), PlayError>
+    ensures { result ≡ play_result_of (parsed_calls calls.now) replies.now }
+{
+    let n = count_calls(calls).ok_or(PlayError::Malformed)?;
+    if replies.len() / 4 < n {
+        return Err(PlayError::TooShort);
+    }
+    Ok(())
+}
+
 // How many calls are in some bytes.
-fn count_calls(calls: &[u8]) -> CallsCounted
+#[tactic(auto, using(crate::proofs::Read::front_end))]
+fn count_calls(calls: &[u8]) -> Option<usize>
     ensures { result ≡ calls_counted_in (parsed_calls calls.now) }
 {
     let mut rest = calls;
     let mut n = 0;
+    // Kept: a call's size is read from its bytes, so no chunks of one size walk over them.
     while rest.len() != 0 {
-        let CallFront::Call(header) = front_of(rest) else {
-            return CallsCounted::Malformed;
-        };
+        let header = front_of(rest)?;
         let end = HEADER + header.incoming + header.capacity;
         rest = &rest[end..];
         n += 1;
     }
-    CallsCounted::Calls(n)
+    Some(n)
 }
 
 // The call at the front of some bytes: of a known kind, and whole.
-fn front_of(s: &[u8]) -> CallFront
+fn front_of(s: &[u8]) -> Option<CallHeader>
     ensures { result ≡ call_front_in s.now }
 {
     if s.len() < HEADER {
-        return CallFront::Malformed;
+        return None;
     }
     let header = header_of(s);
-    if !is_kind(header.kind, header.incoming) {
-        return CallFront::Malformed;
+    if is_kind(header.kind, header.incoming) && is_inside(header, s.len()) {
+        return Some(header);
     }
-    if !is_inside(header, s.len()) {
-        return CallFront::Malformed;
-    }
-    CallFront::Call(header)
+    None
 }
 
 // The header before a call.
@@ -156,36 +136,20 @@ fn header_of(s: &[u8]) -> CallHeader
 }
 
 // Start and answer bring bytes, link failed and stop none.
+#[tactic(auto, unfolding(crate::specs::Encoding::is_call_kind_with_allowed_length, basics::specs::Choice::either, basics::specs::Choice::both))]
 fn is_kind(kind: u8, incoming: usize) -> bool
     ensures { result ≡ is_call_kind_with_allowed_length kind incoming }
 {
-    if kind == 1 {
-        return true;
-    }
-    if kind == 2 {
-        return true;
-    }
-    if incoming != 0 {
-        return false;
-    }
-    if kind == 3 {
-        return true;
-    }
-    kind == 4
+    matches!(kind, 1 | 2) || incoming == 0 && matches!(kind, 3 | 4)
 }
 
 // A call ends inside so many bytes.
 fn is_inside(header: CallHeader, size: usize) -> bool
     ensures { result ≡ leb (call_end_offset header) size }
 {
-    if size < HEADER {
-        return false;
-    }
-    let behind = size - HEADER;
-    if behind < header.incoming {
-        return false;
-    }
-    header.capacity <= behind - header.incoming
+    size.checked_sub(HEADER)
+        .and_then(|behind| behind.checked_sub(header.incoming))
+        .is_some_and(|room| header.capacity <= room)
 }
 
 // Eight bytes as a number, high byte first.
@@ -193,15 +157,7 @@ fn eight(s: &[u8]) -> usize
     requires { length s.now ≡ 8 }
     ensures { result ≡ big_endian_number s.now }
 {
-    four(&s[..4]) * 4294967296 + four(&s[4..])
-}
-
-fn four(s: &[u8]) -> usize
-    requires { length s.now ≡ 4 }
-    ensures { (result ≡ big_endian_number s.now) × (result < 4294967296) }
-{
-    ((basics::widen(s[0]) * 256 + basics::widen(s[1])) * 256 + basics::widen(s[2])) * 256
-        + basics::widen(s[3])
+    usize::from_be_bytes([s[0], s[1], s[2], s[3], s[4], s[5], s[6], s[7]])
 }
 
 // Plays every call of a list of calls, on a fresh session.
@@ -213,6 +169,7 @@ fn play_all(calls: &mut [u8], replies: &mut [u8]) -> Session
     let mut session = session_record::fresh_session();
     let mut at = 0;
     let mut out = 0;
+    // Kept: a call's size is read from its bytes, and both slices are lent to it in parts.
     while at < calls.len() {
         let transition = one_call(session, &mut calls[at..], &mut replies[out..]);
         session = transition.session;
@@ -229,7 +186,7 @@ fn one_call(session: Session, calls: &mut [u8], replies: &mut [u8]) -> CallPlaye
 {
     let header = header_of(calls);
     let reply = call_in(session, header, calls);
-    basics::copy(&reply_bytes(reply), replies);
+    replies[..4].copy_from_slice(&reply_bytes(reply));
     let next = reply.session;
     CallPlayed {
         session: next,
@@ -245,7 +202,7 @@ fn call_in(session: Session, header: CallHeader, calls: &mut [u8]) -> Reply
 {
     let from = HEADER + header.incoming;
     let end = from + header.capacity;
-    let n = least(header.incoming, 1025);
+    let n = header.incoming.min(1025);
     let incoming = first_bytes(calls, n);
     make(session, header.kind, &incoming[..n], &mut calls[from..end])
 }
@@ -256,40 +213,21 @@ fn first_bytes(calls: &[u8], n: usize) -> [u8; 1025]
     ensures { take n result ≡ take n (drop call_header_size calls.now) }
 {
     let end = HEADER + n;
-    let mut incoming = no_bytes();
-    basics::copy(&calls[17..end], &mut incoming[..n]);
+    let mut incoming = [0u8; 1025];
+    incoming[..n].copy_from_slice(&calls[HEADER..end]);
     incoming
-}
-
-// No byte yet.
-fn no_bytes() -> [u8; 1025] {
-    [0u8; 1025]
 }
 
 // Makes a call, by its kind.
 fn make(session: Session, kind: u8, incoming: &[u8], command: &mut [u8]) -> Reply
     ensures { ReturnsStep result command.new (step_of session (call_of_kind kind incoming.now command.old)) }
 {
-    if kind == 1 {
-        return session::start(session, incoming, command);
+    match kind {
+        1 => session::start(session, incoming, command),
+        2 => session::answer(session, incoming, command),
+        3 => session::link_failed(session, command),
+        _ => session::stop(session, command),
     }
-    if kind == 2 {
-        return session::answer(session, incoming, command);
-    }
-    if kind == 3 {
-        return session::link_failed(session, command);
-    }
-    session::stop(session, command)
-}
-
-// The lesser of two numbers.
-fn least(a: usize, b: usize) -> usize
-    ensures { result ≡ min a b }
-{
-    if a < b {
-        return a;
-    }
-    b
 }
 
 // What a call returned, in four bytes.

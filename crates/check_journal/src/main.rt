@@ -8,26 +8,12 @@
 #![tactic(auto)]
 
 use journal::{JournalChecker, JournalVerdict};
-use program::LONGEST_ARGUMENT;
+use program::ProgramArguments;
 use session_record::{CallResult, CommandLength, Outcome};
 use std::io::Read;
 
-// The words that the program is called with: whether the exit status is reported, which argument names the file (0:
-// none does), and whether there is one name too many or an unknown option.
-#[derive(Clone, Copy)]
-struct CheckJournalArguments {
-    tell: bool,
-    file: usize,
-    wrong: bool,
-}
-
-// What is carried from part to part: the checker, whether to read on, and whether a part could not be read.
-#[derive(Drop)]
-struct CheckProgress {
-    checker: JournalChecker,
-    going: bool,
-    failed: bool,
-}
+// What is wrong is reported under this name.
+const NAME: &str = "journal";
 
 // The exit statuses.
 const ACCEPTED: u8 = 0;
@@ -37,164 +23,55 @@ const NOT_RIGHT: u8 = 1;
 const NO_VERDICT: u8 = 2;
 
 fn main(rt: HostRuntime) {
-    let asked = asked_for(&rt);
+    let asked = program::arguments(&rt, NAME, |_, _| Ok(false));
     let status = judged(&rt, asked);
-    if asked.tell {
-        tell(&rt, status);
-    }
-}
-
-fn tell(rt: &HostRuntime, status: u8) {
-    match status {
-        ACCEPTED => send(rt, b"0"),
-        NOT_RIGHT => send(rt, b"1"),
-        _ => send(rt, b"2"),
-    }
-}
-
-fn send(rt: &HostRuntime, words: &[u8]) {
-    program::tell_status(rt, words);
-}
-
-// ---- the arguments
-
-fn asked_for(rt: &HostRuntime) -> CheckJournalArguments {
-    let mut out = CheckJournalArguments {
-        tell: false,
-        file: 0,
-        wrong: false,
-    };
-    for i in 1..program::argument_count(rt) {
-        out = with_argument(rt, out, i);
-    }
-    out
-}
-
-// One more argument.
-fn with_argument(
-    rt: &HostRuntime,
-    arguments: CheckJournalArguments,
-    i: usize,
-) -> CheckJournalArguments {
-    let mut space = [0u8; LONGEST_ARGUMENT];
-    let n = program::argument(rt, i, &mut space);
-    let word = &space[..n];
-    let mut out = arguments;
-    if basics::bytes_equal(word, b"--tell") {
-        out.tell = true;
-        return out;
-    }
-    if basics::byte_at(word, 0) == b'-' {
-        return not_understood(rt, arguments, b"unknown option");
-    }
-    if arguments.file != 0 {
-        return not_understood(rt, arguments, b"more than one file");
-    }
-    out.file = i;
-    out
-}
-
-fn not_understood(
-    rt: &HostRuntime,
-    arguments: CheckJournalArguments,
-    words: &[u8],
-) -> CheckJournalArguments {
-    let err = rt.stderr();
-    print::print_text(&err, b"journal: ");
-    print::print_text(&err, words);
-    print::print_text(&err, b"\n");
-    let mut out = arguments;
-    out.wrong = true;
-    out
+    program::report_status(&rt, asked, status);
 }
 
 // ---- the file
 
 // Shows the verdict on the file, and returns the exit status.
-fn judged(rt: &HostRuntime, asked: CheckJournalArguments) -> u8 {
+fn judged(rt: &HostRuntime, asked: ProgramArguments) -> u8 {
     if asked.wrong {
         return NO_VERDICT;
     }
-    if asked.file == 0 {
-        return shown(rt, read(rt, &mut rt.stdin()));
-    }
-    let mut path = [0u8; LONGEST_ARGUMENT];
-    let n = program::argument(rt, asked.file, &mut path);
-    match program::open_read(rt, &path[..n]) {
-        Ok(mut file) => shown(rt, read(rt, &mut file)),
-        Err(error) => {
-            program::print_failure(rt, &rt.stderr(), &path[..n], error);
-            NO_VERDICT
-        }
-    }
-}
-
-// Feeds a file to a checker, up to a record that is a mismatch. A proved loop has to end, so it has a number of
-// iterations that no file uses up.
-fn read(rt: &HostRuntime, source: &mut impl Read) -> CheckProgress {
-    let checker = journal::begin();
-    let mut state = CheckProgress {
-        checker,
-        going: true,
-        failed: false,
+    let Some(mut source) = program::open_source(rt, asked.file) else {
+        return NO_VERDICT;
     };
+    let Some(checker) = read(rt, &mut source) else {
+        return NO_VERDICT;
+    };
+    shown(rt, checker)
+}
+
+// The checker that a file is fed to, up to a record that is a mismatch; none where a part cannot be read. A proved loop
+// has to end, so it has a number of iterations that no file uses up.
+fn read(rt: &HostRuntime, source: &mut impl Read) -> Option<JournalChecker> {
+    let mut checker = journal::begin();
     for _ in 0..u64::MAX {
-        if !state.going {
-            return state;
+        let mut part = [0u8; 4096];
+        let n = program::read_part(rt, NAME, source, &mut part)?;
+        if n == 0 {
+            return Some(checker);
         }
-        state = read_part(rt, state, source);
-    }
-    state
-}
-
-// One more part.
-fn read_part(rt: &HostRuntime, state: CheckProgress, source: &mut impl Read) -> CheckProgress {
-    let mut part = [0u8; 4096];
-    match source.read(&mut part) {
-        Ok(0) => ended(state, false),
-        Ok(n) => fed(journal::feed(state.checker, &part[..n])),
-        Err(error) => {
-            program::print_failure(rt, &rt.stderr(), b"journal: the file cannot be read", error);
-            ended(state, true)
+        checker = journal::feed(checker, &part[..n]);
+        if is_mismatch(checker) {
+            return Some(checker);
         }
     }
-}
-
-fn fed(checker: JournalChecker) -> CheckProgress {
-    let going = !is_mismatch(checker);
-    CheckProgress {
-        checker,
-        going,
-        failed: false,
-    }
-}
-
-fn ended(state: CheckProgress, failed: bool) -> CheckProgress {
-    let mut out = state;
-    out.going = false;
-    out.failed = failed;
-    out
+    Some(checker)
 }
 
 // Whether a record was a mismatch; then nothing after it is examined.
 fn is_mismatch(checker: JournalChecker) -> bool {
-    let verdict = journal::finish(checker);
-    match verdict {
-        JournalVerdict::Mismatch(_) => true,
-        _ => false,
-    }
+    matches!(journal::finish(checker), JournalVerdict::Mismatch(_))
 }
 
 // ---- the verdict
 
-// Shows the verdict where the whole file was read.
-fn shown(rt: &HostRuntime, state: CheckProgress) -> u8 {
-    if state.failed {
-        return NO_VERDICT;
-    }
-    let checker = state.checker;
-    let verdict = journal::finish(checker);
-    match verdict {
+// Shows the verdict, and returns the exit status.
+fn shown(rt: &HostRuntime, checker: JournalChecker) -> u8 {
+    match journal::finish(checker) {
         JournalVerdict::Accepted(n) => {
             print::print_text(rt, b"accepted, ");
             print::print_number(rt, n);
@@ -245,25 +122,22 @@ fn right_record(rt: &HostRuntime, checker: JournalChecker) {
 
 // The bytes of a record after its kind and length.
 fn body_in(record: &[u8]) -> &[u8] {
-    if record.len() < 3 {
-        return record;
-    }
-    &record[3..]
+    record.get(3..).unwrap_or(record)
 }
 
 fn is_command(record: &[u8]) -> bool {
-    basics::byte_at(record, 0) == 5
+    basics::byte_at(record, 0) == journal::KIND_COMMAND
 }
 
 // What a command's record stands for: a command of so many bytes.
 fn command_in(record: &[u8]) -> CallResult {
-    let first = basics::byte_at(record, 1);
-    let second = basics::byte_at(record, 2);
-    let size = basics::widen(first) * 256 + basics::widen(second);
+    let size = u16::from_be_bytes([basics::byte_at(record, 1), basics::byte_at(record, 2)]);
+    let size = usize::from(size);
     CallResult::Command(CommandLength { size })
 }
 
 // The outcome of a number.
+// Kept: apart from that of `layout`, which is private there and reads a byte of a session record.
 fn outcome_of(number: u8) -> Outcome {
     match number {
         0 => Outcome::Approved,

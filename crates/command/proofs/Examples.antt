@@ -1,7 +1,7 @@
 -- Worked examples of the commands, computed. Assumes nothing.
+use Rattle.std.specs.Prelude.{Option, Some, None}
 use mathlib.Core.Path.{◌≡◌, refl}
 use mathlib.Core.List.{List, [], ◌∷◌, map}
-use mathlib.Core.Option.{Option, some, none}
 use Prim.Native.Nat.{ℕ}
 use lib.ListN.{length, take, replicate}
 use Rattle.basics.specs.Choice.{if, both}
@@ -22,14 +22,14 @@ bench = refl
 
 -- a command's front bytes and its length, by the length of the filled list
 abbrev edge : Option (List ℕ) → List ℕ
-edge none = []
-edge (some c) = length c ∷ take 8 c
+edge None = []
+edge (Some c) = length c ∷ take 8 c
 
 gpo_edge : ℕ → List ℕ
-gpo_edge n = edge (gpo_command_of_filled (some (replicate n 0xAA)))
+gpo_edge n = edge (gpo_command_of_filled (Some (replicate n 0xAA)))
 
 cryptogram_edge : ℕ → List ℕ
-cryptogram_edge n = edge (command_if_data_is1_to255_bytes (proprietary_command 0xAE 0x40 0) (some (replicate n 0xAA)))
+cryptogram_edge n = edge (command_if_data_is1_to255_bytes (proprietary_command 0xAE 0x40 0) (Some (replicate n 0xAA)))
 
 -- GPO: a length of 127 is in one byte, 128 after 81; 252 filled bytes are carried, 253 are not
 gpo_edges : map gpo_edge (0 ∷ 127 ∷ 128 ∷ 252 ∷ 253 ∷ [])
@@ -54,7 +54,7 @@ cryptogram_edges = refl
 
 -- COMPUTE CRYPTOGRAPHIC CHECKSUM: the same
 checksum_edge : ℕ → List ℕ
-checksum_edge n = edge (command_if_data_is1_to255_bytes (proprietary_command 0x2A 0x8E 0x80) (some (replicate n 0xAA)))
+checksum_edge n = edge (command_if_data_is1_to255_bytes (proprietary_command 0x2A 0x8E 0x80) (Some (replicate n 0xAA)))
 
 checksum_edges : map checksum_edge (0 ∷ 1 ∷ 255 ∷ 256 ∷ [])
     ≡ []

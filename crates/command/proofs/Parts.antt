@@ -1,10 +1,11 @@
 -- What a measured list gives, which lists a command takes, and how a command's parts, written one by one, are the
 -- command at the buffer's front.
 -- Assumes nothing.
+use Rattle.std.specs.Prelude.{Some, None, Option}
+use Rattle.command.specs.declared.DolCommandSize.{DolCommandSize}
 use mathlib.Core.Path.{◌≡◌, refl, sym, ap, ap₂, ◌∙◌}
 use mathlib.Core.List.{List, [], ◌∷◌, ◌++◌, append_assoc}
 use mathlib.Core.Logic.{inl, inr}
-use mathlib.Core.Option.{Option, some, none}
 use Prim.Native.Nat.{ℕ, suc, ◌+◌, ◌-◌, ◌≤◌, ◌<◌}
 use native.Mathlib.Omega.{arith}
 use lib.Dec.{leb}
@@ -20,9 +21,7 @@ use Rattle.dictionary.proofs.Named.{at_8c, at_9f38, at_9f69}
 use Rattle.store.specs.Place.{bytes_or_empty_if_absent, row_value}
 use Rattle.store.proofs.Laws.{by_row}
 use Rattle.dol.specs.declared.DolEntry.{DolEntry}
-use Rattle.command.specs.declared.DolCommand.{DolCommand}
-use Rattle.dol.specs.declared.DolTotal.TheVariants.{Total, Unfit}
-use Rattle.dol.specs.Entries.{dol_total_length}
+use Rattle.dol.specs.Entries.{dol_entries, dol_total_length}
 use Rattle.dol.specs.Filling.{dol_data, dol_data_if_parsed, dol_filled}
 use Rattle.command.specs.WithList.{proprietary_command, command_if_data_is1_to255_bytes, command_with_dol, generate_ac}
 use Rattle.command.specs.WithList.{udol_or_default, compute_cryptographic_checksum, gpo_data_tag_and_length}
@@ -38,13 +37,13 @@ use Rattle.dol.proofs.Filling.{filling_length, filled_some}
 -- a list with a total: its filling has that length, and room where so many bytes are left
 pub record Fills (table : List Row) (store : List ℕ) (x : Option (List DolEntry)) (n : ℕ) : Type 0 where
   pub bytes : List ℕ
-  pub is : dol_data_if_parsed table store x ≡ some bytes
+  pub is : dol_data_if_parsed table store x ≡ Some bytes
   pub long : length bytes ≡ n
   pub few : n ≤ 255
   pub room : (at m : ℕ) → at + n ≤ m → FilledDolFitsAt x at m
 
 module _ (table : List Row) (store : List ℕ) (x : Option (List DolEntry)) where
-  pub fills : (n : ℕ) → dol_total_if_at_most255 x ≡ Total n → Fills table store x n
+  pub fills : (n : ℕ) → dol_total_if_at_most255 x ≡ Some n → Fills table store x n
   fills n p =
       let w = whole x n p in
       let s = w.sum in
@@ -57,50 +56,55 @@ module _ (table : List Row) (store : List ℕ) (x : Option (List DolEntry)) wher
       }
 
   -- a list without one: nothing that refuses a broken list and a filling over 255 bytes takes it
-  pub unfit : (f : Option (List ℕ) → Option (List ℕ)) → f none ≡ none
-      → ((v : List ℕ) → 255 < length v → f (some v) ≡ none)
-      → dol_total_if_at_most255 x ≡ Unfit → f (dol_data_if_parsed table store x) ≡ none
+  pub unfit : (f : Option (List ℕ) → Option (List ℕ)) → f None ≡ None
+      → ((v : List ℕ) → 255 < length v → f (Some v) ≡ None)
+      → dol_total_if_at_most255 x ≡ None → f (dol_data_if_parsed table store x) ≡ None
   unfolding dol_total_if_at_most255 dol_data_if_parsed
   unfit f broken long p = go x p
     where
-      go : (x : Option (List DolEntry)) → dol_total_if_at_most255 x ≡ Unfit → f (dol_data_if_parsed table store x) ≡ none
-      go none q = broken
-      go (some es) q = elim (bool_cases (leb (dol_total_length es) 255)) [
-        | inl t ↦ let i : Total (dol_total_length es) ≡ Unfit = sym (if_yes _ _ t) ∙ q in let z : ◌≡◌ {A = ℕ} 0 1 = cc in
+      go : (x : Option (List DolEntry)) → dol_total_if_at_most255 x ≡ None → f (dol_data_if_parsed table store x) ≡ None
+      go None q = broken
+      go (Some es) q = elim (bool_cases (leb (dol_total_length es) 255)) [
+        | inl t ↦ let i : Some (dol_total_length es) ≡ None = sym (if_yes _ _ t) ∙ q in let z : ◌≡◌ {A = ℕ} 0 1 = cc in
             absurd (omega arith)
         | inr t ↦ long (dol_data table store es)
             (omega (arith, leb-false (dol_total_length es) 255 t, filling_length table store es))
       ]
 
+-- the same of a list in the dictionary, by what `measure` reports
+pub measured : (store list : List ℕ) {r : Option ℕ} {n : ℕ} → r ≡ dol_total_if_at_most255 (dol_entries list) → r ≡ Some n
+    → Fills dictionary_rows store (dol_entries list) n
+measured store list {r} {n} e p = fills dictionary_rows store (dol_entries list) n (sym e ∙ p)
+
 -- ---- which lists a command takes
 
-pub gpo_broken : gpo_command_of_filled none ≡ none
+pub gpo_broken : gpo_command_of_filled None ≡ None
 unfolding gpo_command_of_filled
 gpo_broken = refl
 
-pub gpo_long : (v : List ℕ) → 252 < length v → gpo_command_of_filled (some v) ≡ none
+pub gpo_long : (v : List ℕ) → 252 < length v → gpo_command_of_filled (Some v) ≡ None
 unfolding gpo_command_of_filled
 gpo_long v h = if_no _ _ (lt-leb (length v) 252 h)
 
 pub gpo_some : (v : List ℕ) → length v ≤ 252
-    → gpo_command_of_filled (some v) ≡ some (proprietary_command 0xA8 0 0 (gpo_data_of_filled_pdol v))
+    → gpo_command_of_filled (Some v) ≡ Some (proprietary_command 0xA8 0 0 (gpo_data_of_filled_pdol v))
 unfolding gpo_command_of_filled
 gpo_some v h = if_yes _ _ (le-leb (length v) 252 h)
 
 module _ (f : List ℕ → List ℕ) where
-  pub dol_broken : command_if_data_is1_to255_bytes f none ≡ none
+  pub dol_broken : command_if_data_is1_to255_bytes f None ≡ None
   unfolding command_if_data_is1_to255_bytes
   dol_broken = refl
 
-  pub dol_empty : (v : List ℕ) → length v ≡ 0 → command_if_data_is1_to255_bytes f (some v) ≡ none
+  pub dol_empty : (v : List ℕ) → length v ≡ 0 → command_if_data_is1_to255_bytes f (Some v) ≡ None
   unfolding command_if_data_is1_to255_bytes
   dol_empty v h = if_no _ _ (both_no_left _ _ (lt-leb 1 (length v) (omega arith)))
 
-  pub dol_long : (v : List ℕ) → 255 < length v → command_if_data_is1_to255_bytes f (some v) ≡ none
+  pub dol_long : (v : List ℕ) → 255 < length v → command_if_data_is1_to255_bytes f (Some v) ≡ None
   unfolding command_if_data_is1_to255_bytes
   dol_long v h = if_no _ _ (both_no_right _ _ (lt-leb (length v) 255 h))
 
-  pub dol_some : (v : List ℕ) → 1 ≤ length v → length v ≤ 255 → command_if_data_is1_to255_bytes f (some v) ≡ some (f v)
+  pub dol_some : (v : List ℕ) → 1 ≤ length v → length v ≤ 255 → command_if_data_is1_to255_bytes f (Some v) ≡ Some (f v)
   unfolding command_if_data_is1_to255_bytes
   dol_some v h k = if_yes _ _ (both_yes _ _ (le-leb 1 (length v) h) (le-leb (length v) 255 k))
 
@@ -119,17 +123,17 @@ cryptogram_of p1 store list p = ap (λ (l : List ℕ). command_with_dol (proprie
     (ap bytes_or_empty_if_absent (by_row dictionary_rows store 0x8C row_cdol1 at_8c) ∙ sym p)
 
 -- the stored list where it has bytes, else the default one
-list_own : (l : List ℕ) → (length l ≡ 0 → ⊥) → udol_or_default l ≡ l
+pub list_own : (l : List ℕ) → (length l ≡ 0 → ⊥) → udol_or_default l ≡ l
 unfolding udol_or_default
 list_own [] h = absurd (h refl)
 list_own (x ∷ l) h = refl
 
-list_default : (l : List ℕ) → length l ≡ 0 → udol_or_default l ≡ 0x9F ∷ 0x6A ∷ 0x04 ∷ []
+pub list_default : (l : List ℕ) → length l ≡ 0 → udol_or_default l ≡ 0x9F ∷ 0x6A ∷ 0x04 ∷ []
 unfolding udol_or_default
 list_default [] h = refl
 list_default (x ∷ l) h = absurd (omega arith)
 
-checksum_of : (store list l : List ℕ) → list ≡ bytes_or_empty_if_absent (row_value dictionary_rows store row_udol)
+pub checksum_of : (store list l : List ℕ) → list ≡ bytes_or_empty_if_absent (row_value dictionary_rows store row_udol)
     → udol_or_default list ≡ l → compute_cryptographic_checksum store ≡ command_with_dol (proprietary_command 0x2A 0x8E 0x80) l
     store
 unfolding compute_cryptographic_checksum
@@ -137,17 +141,6 @@ checksum_of store list l p q =
     ap (λ (x : List ℕ). command_with_dol (proprietary_command 0x2A 0x8E 0x80) (udol_or_default x) store)
     (ap bytes_or_empty_if_absent (by_row dictionary_rows store 0x9F69 row_udol at_9f69) ∙ sym p) ∙ ap
     (λ (x : List ℕ). command_with_dol (proprietary_command 0x2A 0x8E 0x80) x store) q
-
-pub checksum_own : (store list : List ℕ) → list ≡ bytes_or_empty_if_absent (row_value dictionary_rows store row_udol)
-    → (length list ≡ 0 → ⊥) → compute_cryptographic_checksum store ≡ command_with_dol (proprietary_command 0x2A 0x8E 0x80)
-    list store
-checksum_own store list p h = checksum_of store list list p (list_own list h)
-
-pub checksum_default : (store list : List ℕ) → list ≡ bytes_or_empty_if_absent (row_value dictionary_rows store row_udol)
-    → length list ≡ 0
-    → compute_cryptographic_checksum store ≡ command_with_dol (proprietary_command 0x2A 0x8E 0x80) (0x9F ∷ 0x6A ∷ 0x04 ∷ [])
-    store
-checksum_default store list p h = checksum_of store list _ p (list_default list h)
 
 -- ---- the parts of a command
 
@@ -165,6 +158,10 @@ head_length n h = elim (le-or-gt 128 n) [
   | inr k ↦ let e = ap length (head_short n k) in (omega arith, omega arith)
 ]
 
+-- the place after it
+pub head_placed : (n : ℕ) {at : ℕ} → n < 256 → at ≡ 5 + length (gpo_data_tag_and_length n) → (5 ≤ at) × (at ≤ 8)
+head_placed n h e = let l = head_length n h in (omega arith, omega arith)
+
 -- the header before the data, and 00 after it
 module _ (ins p1 p2 : ℕ) (b : List ℕ) (end : ℕ) (h : 5 ≤ end) (k : end < length b) where
   abbrev front : List ℕ
@@ -176,31 +173,29 @@ module _ (ins p1 p2 : ℕ) (b : List ℕ) (end : ℕ) (h : 5 ≤ end) (k : end <
   body_length : length body ≡ end - 5
   body_length = simp (length-take, length-drop) (omega arith)
 
-  pub closed : set (sets b 0 front) end 0 ≡ buffer_with_bytes_at b 0 (proprietary_command ins p1 p2 body)
+  pub closed : set (front ++ drop 5 b) end 0 ≡ buffer_with_bytes_at b 0 (proprietary_command ins p1 p2 body)
   unfolding buffer_with_bytes_at
   closed =
-      let f : 5 ≤ length b = omega arith in
       let l : length (front ++ body) ≡ end = simp body_length (omega arith) in
       let m : 0 + length (proprietary_command ins p1 p2 body) ≡ suc end = simp (length-append, body_length) (omega arith)
       in
       let e : 5 + (end - 5) ≡ end = omega arith in
       let r : drop 5 b ≡ body ++ (get_or b end 0 ∷ drop (suc end) b) = sym (take-append-drop (end - 5) (drop 5 b)) ∙ ap
       (λ (x : List ℕ). body ++ x) (drop-drop (end - 5) 5 b ∙ rw e (drop-cons b end 0 k)) in
-      ap (λ (x : List ℕ). set x end 0) (sets-eq front b 0 f ∙ ap (λ (x : List ℕ). front ++ x) r ∙ sym
-      (append_assoc front body _))
+      ap (λ (x : List ℕ). set x end 0) (ap (λ (x : List ℕ). front ++ x) r ∙ sym (append_assoc front body _))
       ∙ set_at (front ++ body) (get_or b end 0) (drop (suc end) b) 0 end l
       ∙ sym (ap₂ (λ (n : ℕ) (x : List ℕ). 0x80 ∷ ins ∷ p1 ∷ p2 ∷ n ∷ x) body_length
       (rw m (append_snoc body 0 (drop (suc end) b))))
 
 -- the data w from place 5 on, and then closed: the command is at the front, and all after it stays
 module _ (ins p1 p2 : ℕ) (b w : List ℕ) (end : ℕ) (h : 5 + length w < length b) (e : end ≡ 5 + length w) where
-  pub command_length : command_of_length (end + 1) ≡ dol_command_of (some (proprietary_command ins p1 p2 w))
+  pub command_length : command_of_length (end + 1) ≡ dol_command_of (Some (proprietary_command ins p1 p2 w))
   command_length = let l : end + 1 ≡ length (proprietary_command ins p1 p2 w) = simp length-append (omega arith) in
       ap command_of_length l
 
   pub command_front : (y z : List ℕ) → y ≡ buffer_with_bytes_at b 5 w
       → z ≡ buffer_with_bytes_at y 0 (proprietary_command ins p1 p2 (take (end - 5) (drop 5 y)))
-      → z ≡ buffer_with_command (some (proprietary_command ins p1 p2 w)) b
+      → z ≡ buffer_with_command (Some (proprietary_command ins p1 p2 w)) b
   unfolding buffer_with_bytes_at
   command_front y z p q =
       let f : 5 + length w ≤ length b = omega arith in
@@ -211,23 +206,13 @@ module _ (ins p1 p2 : ℕ) (b w : List ℕ) (end : ℕ) (h : 5 + length w < leng
       q ∙ rw (d, p) (over_cover b 5 w f (proprietary_command ins p1 p2 w) k ∙ ap
       (λ (n : ℕ). proprietary_command ins p1 p2 w ++ drop n b) m)
 
--- the number of what is returned is the reason that the list gives
-pub written_number : (x : Option (List ℕ)) → dol_command_reason (dol_command_of x) ≡ reason_dol_if_no_command x
-written_number none = refl
-written_number (some c) = refl
-
 -- what a call states of its result, of the whole buffer and of the reason, where there is no command, and where
 -- there is one
-pub none_written : (x : Option (List ℕ)) (b : List ℕ) → x ≡ none
-    → (dol_command_of none ≡ dol_command_of x)
-    × ((b ≡ buffer_with_command x b) × (dol_command_reason (dol_command_of none) ≡ reason_dol_if_no_command x))
-none_written x b e =
-    let s = ap dol_command_of (sym e) in
-    (s, (ap (λ (y : Option (List ℕ)). buffer_with_command y b) (sym e), ap dol_command_reason s ∙ written_number x))
+pub none_written : (x : Option (List ℕ)) (b : List ℕ) {r : Option DolCommandSize} → r ≡ None → x ≡ None
+    → (r ≡ dol_command_of x) × ((b ≡ buffer_with_command x b) × (dol_command_reason r ≡ reason_dol_if_no_command x))
+none_written x b p e = rw (p, e) (refl, (refl, refl))
 
-pub some_written : (x : Option (List ℕ)) (c b z : List ℕ) (r : DolCommand) → x ≡ some c → r ≡ dol_command_of (some c)
-    → z ≡ buffer_with_command (some c) b
+pub some_written : (x : Option (List ℕ)) (c b z : List ℕ) (r : Option DolCommandSize) → x ≡ Some c → r ≡ dol_command_of (Some c)
+    → z ≡ buffer_with_command (Some c) b
     → (r ≡ dol_command_of x) × ((z ≡ buffer_with_command x b) × (dol_command_reason r ≡ reason_dol_if_no_command x))
-some_written x c b z r e p q =
-    let s = p ∙ ap dol_command_of (sym e) in
-    (s, (q ∙ ap (λ (y : Option (List ℕ)). buffer_with_command y b) (sym e), ap dol_command_reason s ∙ written_number x))
+some_written x c b z r e p q = rw (e, p, q) (refl, (refl, refl))

@@ -1,8 +1,8 @@
 -- READ RECORD: when the command is written, and what a caller learns of it.
 -- Assumes nothing.
+use Rattle.std.specs.Prelude.{Option, Some, None}
 use mathlib.Core.Path.{◌≡◌, refl, sym, ap, ◌∙◌}
 use mathlib.Core.List.{List}
-use mathlib.Core.Option.{Option, some, none}
 use Prim.Native.Nat.{ℕ, ◌≤◌, ◌<◌}
 use native.Mathlib.Omega.{arith}
 use lib.ListN.{length, take, length-drop}
@@ -14,15 +14,15 @@ use Rattle.command.specs.WithList.{buffer_with_command}
 use Rattle.command.specs.ReadRecord.{read_record_command, read_record_command_if_fits, command_length_or_zero}
 
 pub written_yes : (r : CardRecord) (buffer : List ℕ) → 5 ≤ length buffer → r.sfi < 32
-    → read_record_command_if_fits buffer r ≡ some (read_record_command r)
+    → read_record_command_if_fits buffer r ≡ Some (read_record_command r)
 unfolding read_record_command_if_fits
 written_yes r buffer h f = if_yes _ _ (both_yes _ _ (le-leb 5 (length buffer) h) (lt-ltb r.sfi 32 f))
 
-pub written_short : (r : CardRecord) (buffer : List ℕ) → length buffer < 5 → read_record_command_if_fits buffer r ≡ none
+pub written_short : (r : CardRecord) (buffer : List ℕ) → length buffer < 5 → read_record_command_if_fits buffer r ≡ None
 unfolding read_record_command_if_fits
 written_short r buffer h = if_no _ _ (both_no_left _ _ (lt-leb 5 (length buffer) h))
 
-pub written_widen : (r : CardRecord) (buffer : List ℕ) → 32 ≤ r.sfi → read_record_command_if_fits buffer r ≡ none
+pub written_widen : (r : CardRecord) (buffer : List ℕ) → 32 ≤ r.sfi → read_record_command_if_fits buffer r ≡ None
 unfolding read_record_command_if_fits
 written_widen r buffer h = if_no _ _ (both_no_right _ _ (le-ltb r.sfi 32 h))
 

@@ -1,7 +1,6 @@
 -- The command that reads a record (document 01, "Commands and steps", Record; Book C-2, 5.8).
 -- Assumes nothing.
-use Rattle.std.specs.Prelude.{[], ◌∷◌, ◌+◌, ◌*◌, length}
-use Rattle.std.proofs.Math.Option.{Option, some, none}
+use Rattle.std.specs.Prelude.{[], ◌∷◌, ◌+◌, ◌*◌, length, Option, Some, None}
 use Rattle.basics.specs.Types.{Buffer, Byte, CommandBytes, Length}
 use Rattle.basics.specs.Choice.{when◌then◌else◌, ◌and◌, ◌≤?◌, ◌<?◌}
 use Rattle.afl.specs.declared.CardRecord.{CardRecord}
@@ -19,9 +18,9 @@ read_record_command r = cla_interindustry ∷ ins_read_record ∷ r.number ∷ (
 
 -- the command where it can be written: its five bytes fit the buffer, and its file number fits five bits
 unfoldable pub read_record_command_if_fits : Buffer → CardRecord → Option CommandBytes
-read_record_command_if_fits buffer r = when 5 ≤? length buffer and r.sfi <? 32 then some (read_record_command r) else none
+read_record_command_if_fits buffer r = when 5 ≤? length buffer and r.sfi <? 32 then Some (read_record_command r) else None
 
 -- the length that is returned: 0 where there is no command
 abbrev pub command_length_or_zero : Option CommandBytes → Length
-command_length_or_zero none = 0
-command_length_or_zero (some c) = length c
+command_length_or_zero None = 0
+command_length_or_zero (Some c) = length c

@@ -1,8 +1,8 @@
 -- The commands that carry a filled list: GPO and GENERATE AC (document 01, "Commands and steps"), and COMPUTE
 -- CRYPTOGRAPHIC CHECKSUM (document 02, Item 9; Book C-2, 5.2).
 -- Assumes nothing.
-use Rattle.std.specs.Prelude.{[], ◌∷◌, ◌++◌, length}
-use Rattle.std.proofs.Math.Option.{Option, some, none}
+use Rattle.command.specs.declared.DolCommandSize.{DolCommandSize}
+use Rattle.std.specs.Prelude.{[], ◌∷◌, ◌++◌, length, Option, Some, None}
 use Rattle.basics.specs.Types.{Buffer, Byte, Bytes, CommandBytes, DolBytes, Length, Reason, StoreBytes, Tag}
 use Rattle.basics.specs.Choice.{when◌then◌else◌, ◌≤?◌}
 use Rattle.basics.specs.Number.{between}
@@ -11,8 +11,6 @@ use Rattle.basics.specs.Reason.{reason_none, reason_dol_broken_or_bad_length}
 use Rattle.tlv.specs.Encoding.{length_bytes}
 use Rattle.dictionary.specs.Rows.{dictionary_rows}
 use Rattle.store.specs.Place.{bytes_or_empty_if_absent, object_value}
-use Rattle.command.specs.declared.DolCommand.{DolCommand}
-use Rattle.command.specs.declared.DolCommand.TheVariants.{Command, NoCommand}
 use Rattle.dol.specs.Filling.{dol_filled}
 
 -- ---- the bytes of a command's header (Book C-2, 5.2, 5.4 and 5.5)
@@ -58,8 +56,8 @@ proprietary_command ins p1 p2 body = cla_proprietary ∷ ins ∷ p1 ∷ p2 ∷ l
 -- what a list fills to, carried in a command; none, which is reason 7, where it is broken, or fills to no byte or to
 -- more than 255
 unfoldable pub command_if_data_is1_to255_bytes : (Bytes → CommandBytes) → Option Bytes → Option CommandBytes
-command_if_data_is1_to255_bytes command none = none
-command_if_data_is1_to255_bytes command (some v) = when between 1 (length v) most_command_data then some (command v) else none
+command_if_data_is1_to255_bytes command None = None
+command_if_data_is1_to255_bytes command (Some v) = when between 1 (length v) most_command_data then Some (command v) else None
 
 -- a list filled from a store, and carried so
 abbrev pub command_with_dol : (Bytes → CommandBytes) → DolBytes → StoreBytes → Option CommandBytes
@@ -93,9 +91,9 @@ gpo_data_of_filled_pdol v = gpo_data_tag_and_length (length v) ++ v
 
 -- no command, which is reason 7, for a broken list or over 252 filled bytes; a list may fill to no byte
 unfoldable pub gpo_command_of_filled : Option Bytes → Option CommandBytes
-gpo_command_of_filled none = none
-gpo_command_of_filled (some v) =
-    when length v ≤? most_filled_pdol_bytes then some (proprietary_command ins_gpo 0 0 (gpo_data_of_filled_pdol v)) else none
+gpo_command_of_filled None = None
+gpo_command_of_filled (Some v) =
+    when length v ≤? most_filled_pdol_bytes then Some (proprietary_command ins_gpo 0 0 (gpo_data_of_filled_pdol v)) else None
 
 -- with the PDOL (9F38); an absent one counts as empty
 unfoldable pub get_processing_options : StoreBytes → Option CommandBytes
@@ -105,29 +103,29 @@ get_processing_options store =
 -- ---- returned
 
 -- a command of n bytes
-abbrev pub command_of_length : Length → DolCommand
-command_of_length n = Command (record { len = n })
+abbrev pub command_of_length : Length → Option DolCommandSize
+command_of_length n = Some (record { len = n })
 
 -- a command returns its length
-abbrev pub dol_command_of : Option CommandBytes → DolCommand
-dol_command_of none = NoCommand
-dol_command_of (some c) = command_of_length (length c)
+abbrev pub dol_command_of : Option CommandBytes → Option DolCommandSize
+dol_command_of None = None
+dol_command_of (Some c) = command_of_length (length c)
 
 -- the number of what is returned (document 01, "Calls and their numbers"): 0 with a command, else 7, a list that is
 -- broken or fills to no command
-abbrev pub dol_command_reason : DolCommand → Reason
-dol_command_reason (Command c) = reason_none
-dol_command_reason NoCommand = reason_dol_broken_or_bad_length
+abbrev pub dol_command_reason : Option DolCommandSize → Reason
+dol_command_reason (Some c) = reason_none
+dol_command_reason None = reason_dol_broken_or_bad_length
 
 -- the reason that a list gives: none where it makes a command
 abbrev pub reason_dol_if_no_command : Option CommandBytes → Reason
-reason_dol_if_no_command none = reason_dol_broken_or_bad_length
-reason_dol_if_no_command (some c) = reason_none
+reason_dol_if_no_command None = reason_dol_broken_or_bad_length
+reason_dol_if_no_command (Some c) = reason_none
 
 -- the buffer with the command in its front, or as it was where there is none
 abbrev pub buffer_with_command : Option CommandBytes → Buffer → Buffer
-buffer_with_command none b = b
-buffer_with_command (some c) b = written_over_front c b
+buffer_with_command None b = b
+buffer_with_command (Some c) b = written_over_front c b
 
 -- ---- what holds of it, proved in proofs/Commands for all stores
 --   gpo-proper, cryptogram-proper        a command has 5 to 261 bytes and begins with 80 A8, or 80 AE;

@@ -11,7 +11,6 @@ ghost use Rattle.command.specs.WithList.{proprietary_command, command_with_dol, 
 ghost use Rattle.command.specs.ReadRecord.{read_record_command_if_fits, command_length_or_zero};
 
 use afl::CardRecord;
-use dol::DolTotal;
 
 // Class bytes, instruction bytes and parameters (Book C-2, 5.2, 5.4, 5.5 and 5.8). P2 of READ RECORD is the SFI
 // times 8, and 4.
@@ -36,6 +35,9 @@ const P2_ZERO: u8 = 0x00;
 // The tag of the command template, which the filled PDOL is in.
 const COMMAND_TEMPLATE: u8 = 0x83;
 
+// The list that stands in for an absent or empty UDOL: 9F6A in four bytes.
+const DEFAULT_UDOL: [u8; 3] = [0x9F, 0x6A, 0x04];
+
 // The most bytes of a filled PDOL: with tag and length they are the 255 that a command carries.
 const MOST_PDOL_BYTES: usize = 252;
 
@@ -45,27 +47,18 @@ pub struct DolCommandSize {
     pub len: usize,
 }
 
-// What a call wrote: a command, or nothing.
-#[derive(Clone, Copy)]
-pub enum DolCommand {
-    Command(DolCommandSize),
-    NoCommand,
-}
-
 // The GPO command, with the filled PDOL (9F38) that the store holds.
-pub fn get_processing_options(store: &[u8], buffer: &mut [u8]) -> DolCommand
+// Kept: the 261 bytes are asked of a slice, here and below: every longer buffer meets that, and an array would rule it out.
+pub fn get_processing_options(store: &[u8], buffer: &mut [u8]) -> Option<DolCommandSize>
     requires { 261 ≤ length buffer.old }
     ensures said { result ≡ dol_command_of (get_processing_options store.now) }
     ensures kept { buffer.new ≡ buffer_with_command (get_processing_options store.now) buffer.old }
     ensures reason { dol_command_reason result ≡ reason_dol_if_no_command (get_processing_options store.now) }
 {
     let list = store::value(store, dictionary::ROW_PDOL);
-    let measured = dol::measure(list);
-    let DolTotal::Total(n) = measured else {
-        return DolCommand::NoCommand;
-    };
+    let n = dol::measure(list)?;
     if MOST_PDOL_BYTES < n {
-        return DolCommand::NoCommand;
+        return None;
     }
     let at = gpo_head(n, buffer);
     dol::fill(list, store, buffer, at);
@@ -73,7 +66,7 @@ pub fn get_processing_options(store: &[u8], buffer: &mut [u8]) -> DolCommand
 }
 
 // The command GENERATE AC, with the filled CDOL1 (8C) that the store holds; P1 states which cryptogram.
-pub fn generate_ac(store: &[u8], p1: u8, buffer: &mut [u8]) -> DolCommand
+pub fn generate_ac(store: &[u8], p1: u8, buffer: &mut [u8]) -> Option<DolCommandSize>
     requires { 261 ≤ length buffer.old }
     ensures said { result ≡ dol_command_of (generate_ac p1 store.now) }
     ensures kept { buffer.new ≡ buffer_with_command (generate_ac p1 store.now) buffer.old }
@@ -85,48 +78,46 @@ pub fn generate_ac(store: &[u8], p1: u8, buffer: &mut [u8]) -> DolCommand
 
 // The command COMPUTE CRYPTOGRAPHIC CHECKSUM, with the filled UDOL (9F69) that the store holds; where it is absent or
 // empty, with the default list.
-pub fn compute_cryptographic_checksum(store: &[u8], buffer: &mut [u8]) -> DolCommand
+pub fn compute_cryptographic_checksum(store: &[u8], buffer: &mut [u8]) -> Option<DolCommandSize>
     requires { 261 ≤ length buffer.old }
     ensures said { result ≡ dol_command_of (compute_cryptographic_checksum store.now) }
     ensures kept { buffer.new ≡ buffer_with_command (compute_cryptographic_checksum store.now) buffer.old }
     ensures reason { dol_command_reason result ≡ reason_dol_if_no_command (compute_cryptographic_checksum store.now) }
 {
-    let list = store::value(store, dictionary::ROW_UDOL);
-    if list.len() != 0 {
-        return with_dol(
-            INS_COMPUTE_CHECKSUM,
-            P1_COMPUTE_CHECKSUM,
-            P2_COMPUTE_CHECKSUM,
-            list,
-            store,
-            buffer,
-        );
-    }
-    let default = [0x9F, 0x6A, 0x04];
+    let stored = store::value(store, dictionary::ROW_UDOL);
+    let list = if stored.is_empty() {
+        &DEFAULT_UDOL
+    } else {
+        stored
+    };
     with_dol(
         INS_COMPUTE_CHECKSUM,
         P1_COMPUTE_CHECKSUM,
         P2_COMPUTE_CHECKSUM,
-        &default,
+        list,
         store,
         buffer,
     )
 }
 
 // The command of these header bytes, with a list filled from the store.
-fn with_dol(ins: u8, p1: u8, p2: u8, list: &[u8], store: &[u8], buffer: &mut [u8]) -> DolCommand
+fn with_dol(
+    ins: u8,
+    p1: u8,
+    p2: u8,
+    list: &[u8],
+    store: &[u8],
+    buffer: &mut [u8],
+) -> Option<DolCommandSize>
     requires { 261 ≤ length buffer.old }
     ensures said { result ≡ dol_command_of (command_with_dol (proprietary_command ins p1 p2) list.now store.now) }
     ensures kept { buffer.new ≡ buffer_with_command
         (command_with_dol (proprietary_command ins p1 p2) list.now store.now) buffer.old }
     ensures reason { dol_command_reason result ≡ reason_dol_if_no_command (command_with_dol (proprietary_command ins p1 p2) list.now store.now) }
 {
-    let measured = dol::measure(list);
-    let DolTotal::Total(n) = measured else {
-        return DolCommand::NoCommand;
-    };
+    let n = dol::measure(list)?;
     if n == 0 {
-        return DolCommand::NoCommand;
+        return None;
     }
     dol::fill(list, store, buffer, 5);
     close(ins, p1, p2, buffer, 5 + n)
@@ -138,47 +129,42 @@ fn gpo_head(n: usize, buffer: &mut [u8]) -> usize
     ensures next { result ≡ 5 + length (gpo_data_tag_and_length n) }
     ensures kept { buffer.new ≡ buffer_with_bytes_at buffer.old 5 (gpo_data_tag_and_length n) }
 {
-    buffer[5] = COMMAND_TEMPLATE;
     if n < 128 {
-        buffer[6] = n as u8;
-        return 7;
+        buffer[5..7].copy_from_slice(&[COMMAND_TEMPLATE, n as u8]);
+        7
+    } else {
+        buffer[5..8].copy_from_slice(&[COMMAND_TEMPLATE, 0x81, n as u8]);
+        8
     }
-    buffer[6] = 0x81;
-    buffer[7] = n as u8;
-    8
 }
 
 // Closes a command whose data is from place 5 up to `end`: the header before it, and 00 after it.
-fn close(ins: u8, p1: u8, p2: u8, buffer: &mut [u8], end: usize) -> DolCommand
+fn close(ins: u8, p1: u8, p2: u8, buffer: &mut [u8], end: usize) -> Option<DolCommandSize>
     requires { (5 ≤ end) × (end ≤ 260) × (261 ≤ length buffer.old) }
     ensures said { result ≡ command_of_length (end + 1) }
     ensures kept { buffer.new ≡ buffer_with_bytes_at buffer.old 0 (proprietary_command ins p1 p2 (take (end - 5) (drop 5 buffer.old))) }
 {
-    buffer[0] = CLA_PROPRIETARY;
-    buffer[1] = ins;
-    buffer[2] = p1;
-    buffer[3] = p2;
-    buffer[4] = (end - 5) as u8;
+    buffer[..5].copy_from_slice(&[CLA_PROPRIETARY, ins, p1, p2, (end - 5) as u8]);
     buffer[end] = 0;
-    DolCommand::Command(DolCommandSize { len: end + 1 })
+    Some(DolCommandSize { len: end + 1 })
 }
 
 // Writes the command that reads a record at the front of `command`, and returns its length, 5.
 // A buffer under 5 bytes or a file number over 31 gets no command: the length is 0 and the buffer stays.
+// Kept: 0 for no command, as `read_record` promises its callers by `command_length_or_zero`.
 pub fn read_record(wanted: CardRecord, command: &mut [u8]) -> usize
     ensures said { result ≡ command_length_or_zero (read_record_command_if_fits command.old wanted) }
     ensures kept { command.new ≡ buffer_with_command (read_record_command_if_fits command.old wanted) command.old }
 {
-    if command.len() < 5 {
+    if command.len() < 5 || 32 <= wanted.sfi {
         return 0;
     }
-    if 32 <= wanted.sfi {
-        return 0;
-    }
-    command[0] = CLA_INTERINDUSTRY;
-    command[1] = INS_READ_RECORD;
-    command[2] = wanted.number;
-    command[3] = wanted.sfi * 8 + 4;
-    command[4] = 0x00;
+    command[..5].copy_from_slice(&[
+        CLA_INTERINDUSTRY,
+        INS_READ_RECORD,
+        wanted.number,
+        wanted.sfi * 8 + 4,
+        0x00,
+    ]);
     5
 }

@@ -1,5 +1,6 @@
 -- Worked values, by computation: terminal types, digits and lengths on both sides of each edge, searches.
 -- Assumes nothing.
+use Rattle.std.specs.Prelude.{Option, Some, None}
 use mathlib.Core.Path.{◌≡◌, refl}
 use mathlib.Core.Bool.{true, false}
 use mathlib.Core.List.{List, [], ◌∷◌, map}
@@ -7,8 +8,6 @@ use Prim.Native.Nat.{ℕ}
 use lib.ListN.{replicate}
 use Rattle.basics.specs.Choice.{if, both, either, every}
 use Rattle.basics.specs.Number.{nibbles}
-use Rattle.dictionary.specs.declared.RowFound.{RowFound}
-use Rattle.dictionary.specs.declared.RowFound.TheVariants.{At, Unknown}
 use Rattle.dictionary.specs.declared.SearchResult.{SearchResult}
 use Rattle.dictionary.specs.Rows.{dictionary_rows, row_at, row_found_shifted, form_b, form_n, form_cn}
 use Rattle.dictionary.specs.Search.{halving_search_in, halving_search, probed_places, halving_search_result, tags_of}
@@ -105,45 +104,45 @@ tracks = refl
 
 -- ---- searches: where a tag is, and how many are probed
 
-abbrev said : RowFound → ℕ → SearchResult
+abbrev said : Option ℕ → ℕ → SearchResult
 said found probes = record { found = found; probes = probes }
 
 -- no tag, one, three, and tags between them
-of_none : halving_search_result [] 0x57 ≡ said Unknown 0
+of_none : halving_search_result [] 0x57 ≡ said None 0
 unfolding halving_search_result halving_search halving_search_in
 of_none = refl
 
-of_one : map (halving_search_result (0x57 ∷ [])) (0x57 ∷ 0x56 ∷ 0x58 ∷ []) ≡ said (At 0) 1 ∷ said Unknown 1
-    ∷ said Unknown 1 ∷ []
+of_one : map (halving_search_result (0x57 ∷ [])) (0x57 ∷ 0x56 ∷ 0x58 ∷ []) ≡ said (Some 0) 1 ∷ said None 1
+    ∷ said None 1 ∷ []
 unfolding halving_search_result halving_search halving_search_in if
 of_one = refl
 
-of_three : map (halving_search_result (0x57 ∷ 0x5A ∷ 0x82 ∷ [])) (0x57 ∷ 0x5A ∷ 0x82 ∷ []) ≡ said (At 0) 2 ∷ said (At 1) 1
-    ∷ said (At 2) 2 ∷ []
+of_three : map (halving_search_result (0x57 ∷ 0x5A ∷ 0x82 ∷ [])) (0x57 ∷ 0x5A ∷ 0x82 ∷ []) ≡ said (Some 0) 2 ∷ said (Some 1) 1
+    ∷ said (Some 2) 2 ∷ []
 unfolding halving_search_result halving_search halving_search_in if
 of_three = refl
 
 between_three : map (halving_search_result (0x57 ∷ 0x5A ∷ 0x82 ∷ [])) (0x56 ∷ 0x58 ∷ 0x5B ∷ 0x83 ∷ [])
-    ≡ said Unknown 2 ∷ said Unknown 2 ∷ said Unknown 2 ∷ said Unknown 2 ∷ []
+    ≡ said None 2 ∷ said None 2 ∷ said None 2 ∷ said None 2 ∷ []
 unfolding halving_search_result halving_search halving_search_in if
 between_three = refl
 
 -- four, seven and eight tags: each of them, at most 3, 3 and 4 probes
 of_four : let tags : List ℕ = 0x57 ∷ 0x5A ∷ 0x82 ∷ 0x8C ∷ [] in
-    map (halving_search_result tags) tags ≡ said (At 0) 3 ∷ said (At 1) 2 ∷ said (At 2) 1 ∷ said (At 3) 2 ∷ []
+    map (halving_search_result tags) tags ≡ said (Some 0) 3 ∷ said (Some 1) 2 ∷ said (Some 2) 1 ∷ said (Some 3) 2 ∷ []
 unfolding halving_search_result halving_search halving_search_in if
 of_four = refl
 
 of_seven : let tags : List ℕ = 0x57 ∷ 0x5A ∷ 0x82 ∷ 0x8C ∷ 0x94 ∷ 0x95 ∷ 0x9A ∷ [] in
     map (halving_search_result tags) tags
-    ≡ said (At 0) 3 ∷ said (At 1) 2 ∷ said (At 2) 3 ∷ said (At 3) 1 ∷ said (At 4) 3 ∷ said (At 5) 2 ∷ said (At 6) 3 ∷ []
+    ≡ said (Some 0) 3 ∷ said (Some 1) 2 ∷ said (Some 2) 3 ∷ said (Some 3) 1 ∷ said (Some 4) 3 ∷ said (Some 5) 2 ∷ said (Some 6) 3 ∷ []
 unfolding halving_search_result halving_search halving_search_in if
 of_seven = refl
 
 of_eight : let tags : List ℕ = 0x57 ∷ 0x5A ∷ 0x82 ∷ 0x8C ∷ 0x94 ∷ 0x95 ∷ 0x9A ∷ 0x9C ∷ [] in
     map (halving_search_result tags) tags
-    ≡ said (At 0) 4 ∷ said (At 1) 3 ∷ said (At 2) 2 ∷ said (At 3) 3 ∷ said (At 4) 1 ∷ said (At 5) 3 ∷ said (At 6) 2
-    ∷ said (At 7) 3 ∷ []
+    ≡ said (Some 0) 4 ∷ said (Some 1) 3 ∷ said (Some 2) 2 ∷ said (Some 3) 3 ∷ said (Some 4) 1 ∷ said (Some 5) 3 ∷ said (Some 6) 2
+    ∷ said (Some 7) 3 ∷ []
 unfolding halving_search_result halving_search halving_search_in if
 of_eight = refl
 
@@ -156,12 +155,12 @@ places_of_eight = refl
 -- the dictionary: rows by their tags; then a number below all tags, templates, a tag that is not whole, and above all
 of_rows : map (λ t. (halving_search_result (tags_of dictionary_rows) t).found) (0x5A ∷ 0x5F24 ∷ 0x9F09 ∷ 0x9F6A ∷ 0xDF8126
     ∷ [])
-    ≡ At row_pan ∷ At row_expiration_date ∷ At row_reader_version ∷ At row_un_numeric ∷ At row_cvm_required_limit ∷ []
+    ≡ Some row_pan ∷ Some row_expiration_date ∷ Some row_reader_version ∷ Some row_un_numeric ∷ Some row_cvm_required_limit ∷ []
 unfolding dictionary_rows halving_search_result halving_search halving_search_in if
 of_rows = refl
 
 of_no_row : map (λ t. (halving_search_result (tags_of dictionary_rows) t).found) (0 ∷ 0x70 ∷ 0xBF0C ∷ 0xDF81 ∷ 0xFFFFFFFF
-    ∷ []) ≡ replicate 5 Unknown
+    ∷ []) ≡ replicate 5 None
 unfolding dictionary_rows halving_search_result halving_search halving_search_in if
 of_no_row = refl
 
@@ -177,14 +176,14 @@ abbrev mixed : List ℕ
 mixed = 0x57 ∷ 0x9C ∷ 0x5F24 ∷ 0x9F02 ∷ 0x9F6B ∷ 0xDF8101 ∷ 0xDF8307 ∷ []
 
 of_parts : map (halving_search_result_in_part mixed) mixed
-    ≡ said (At 0) 2 ∷ said (At 1) 1 ∷ said (At 2) 1 ∷ said (At 3) 2 ∷ said (At 4) 1 ∷ said (At 5) 2 ∷ said (At 6) 1 ∷ []
+    ≡ said (Some 0) 2 ∷ said (Some 1) 1 ∷ said (Some 2) 1 ∷ said (Some 3) 2 ∷ said (Some 4) 1 ∷ said (Some 5) 2 ∷ said (Some 6) 1 ∷ []
 unfolding halving_search_result_in_part search_part_number filter_tags halving_search_result halving_search halving_search_in
     row_found_shifted if
 of_parts = refl
 
 -- then a tag at an edge of each that is none of them
 in_no_part : map (halving_search_result_in_part mixed) (0xFF ∷ 0x100 ∷ 0xDEFF ∷ 0xDF00 ∷ 0x10000 ∷ [])
-    ≡ said Unknown 1 ∷ said Unknown 1 ∷ said Unknown 1 ∷ said Unknown 0 ∷ said Unknown 2 ∷ []
+    ≡ said None 1 ∷ said None 1 ∷ said None 1 ∷ said None 0 ∷ said None 2 ∷ []
 unfolding halving_search_result_in_part search_part_number filter_tags halving_search_result halving_search halving_search_in
     row_found_shifted if
 in_no_part = refl
@@ -192,13 +191,13 @@ in_no_part = refl
 -- the dictionary by its parts: a row of each of four, and a tag of each that no row has
 rows_by_parts : map (λ t. (halving_search_result_in_part (tags_of dictionary_rows) t).found)
     (0x8C ∷ 0x5F24 ∷ 0x9F26 ∷ 0xDF8126 ∷ [])
-    ≡ At row_cdol1 ∷ At row_expiration_date ∷ At row_ac ∷ At row_cvm_required_limit ∷ []
+    ≡ Some row_cdol1 ∷ Some row_expiration_date ∷ Some row_ac ∷ Some row_cvm_required_limit ∷ []
 unfolding dictionary_rows halving_search_result_in_part search_part_number filter_tags halving_search_result halving_search
     halving_search_in row_found_shifted if
 rows_by_parts = refl
 
 no_row_by_parts : map (λ t. (halving_search_result_in_part (tags_of dictionary_rows) t).found)
-    (0x70 ∷ 0x100 ∷ 0xBF0C ∷ 0xDF81 ∷ 0xFF8106 ∷ []) ≡ replicate 5 Unknown
+    (0x70 ∷ 0x100 ∷ 0xBF0C ∷ 0xDF81 ∷ 0xFF8106 ∷ []) ≡ replicate 5 None
 unfolding dictionary_rows halving_search_result_in_part search_part_number filter_tags halving_search_result halving_search
     halving_search_in row_found_shifted if
 no_row_by_parts = refl

@@ -28,10 +28,6 @@ module _ (r : Row) (v : List ℕ) where
   unfolding length_and_digits_fit_row
   too_short h = both_no_left _ _ (lt-leb _ _ h)
 
-  pub too_long : r.least ≤ length v → r.greatest < length v → length_and_digits_fit_row r v ≡ false
-  unfolding length_and_digits_fit_row
-  too_long a h = both_true _ (le-leb _ _ a) ∙ both_no_left _ _ (lt-leb _ _ h)
-
   -- where the length is in range, the form decides
   pub by_form : r.least ≤ length v → length v ≤ r.greatest → length_and_digits_fit_row r v ≡ digits_match_form r.form v
   unfolding length_and_digits_fit_row

@@ -2,6 +2,7 @@
 -- (`few_probes`). Where tags rise, those before what is left are smaller than the one searched for and those after it
 -- greater (`finds`). Lists with the same tags at the places go the same way (`same_way`).
 -- Assumes nothing.
+use Rattle.std.specs.Prelude.{Some, None}
 use mathlib.Core.Path.{◌≡◌, refl, sym, ap, ◌∙◌}
 use mathlib.Core.Bool.{true}
 use mathlib.Core.Logic.{inl, inr}
@@ -15,7 +16,6 @@ use borrow.Author.Tests.{le-leb, lt-leb, lt-ltb, le-ltb, eq-eqb, ne_eqb}
 use Rattle.basics.specs.Choice.{every}
 use Rattle.basics.proofs.Laws.{if_yes, if_no, both_yes}
 use Rattle.basics.proofs.Order.{equal_or_not, sides, le-or-gt}
-use Rattle.dictionary.specs.declared.RowFound.TheVariants.{At, Unknown}
 use Rattle.dictionary.specs.declared.SearchResult.{SearchResult}
 use Rattle.dictionary.specs.Rows.{Row, row_in, find_row}
 use Rattle.dictionary.specs.Rule.{rising_tags}
@@ -204,7 +204,7 @@ module _ (table : List Row) (rises : rising_tags table ≡ true) (t : ℕ) where
   finds_from = by_turns (tags_of table) t Finds none found behind before
     where
       none : (from to : ℕ) → to ≤ from → to ≤ length table → Smaller table t from → Greater table t to
-          → Unknown ≡ find_row table t
+          → None ≡ find_row table t
       none from to z h s g =
           sym
           (absent table t
@@ -216,7 +216,7 @@ module _ (table : List Row) (rises : rising_tags table ≡ true) (t : ℕ) where
 
       found : (from to : ℕ) → from < to → looked (tags_of table) from to ≡ t → to ≤ length table → Smaller table t from
           → Greater table t to
-          → At (mid from to) ≡ find_row table t
+          → Some (mid from to) ≡ find_row table t
       found from to some e h s g =
           let w : mid from to < length table = omega arith in
           let x : (row_in table (mid from to)).tag ≡ t = sym (at_row (mid from to)) ∙ e in
@@ -257,9 +257,9 @@ module _ (tags : List ℕ) (t : ℕ) where
       (λ (n : ℕ). after 0 (halving_search_in tags t n (search_part 0 (length tags)))) all
 
   module _ (from to probes : ℕ) where
-    pub end : to ≤ from → rest tags t from to probes ≡ record { found = Unknown; probes = probes }
+    pub end : to ≤ from → rest tags t from to probes ≡ record { found = None; probes = probes }
     end h = rw (transition_none tags t (length tags - probes) from to h)
-        (ap (λ (n : ℕ). record { found = Unknown; probes = n }) (omega arith))
+        (ap (λ (n : ℕ). record { found = None; probes = n }) (omega arith))
 
     module _ (room : probes + to ≤ from + length tags) (some : from < to) where
       one_more : (s : HalvingSearch) → after probes (prepend_probe (mid from to) s) ≡ after (probes + 1) s
@@ -269,7 +269,7 @@ module _ (tags : List ℕ) (t : ℕ) where
       turns = omega arith
 
       pub go_here : looked tags from to ≡ t
-          → rest tags t from to probes ≡ record { found = At (mid from to); probes = probes + 1 }
+          → rest tags t from to probes ≡ record { found = Some (mid from to); probes = probes + 1 }
       go_here e = rw (turns, transition_here tags t (length tags - (probes + 1)) from to some e)
 
       pub go_behind : looked tags from to < t → rest tags t from to probes ≡ rest tags t (mid from to + 1) to

@@ -2,9 +2,9 @@
 -- Assumes nothing.
 use mathlib.Core.Path.{◌≡◌, refl}
 use mathlib.Core.Bool.{Bool, true}
-use Prim.Native.Nat.{ℕ, ◌/◌, ◌%◌, ◌<◌}
+use Prim.Native.Nat.{ℕ, ◌/◌, ◌%◌, ◌≤◌, ◌<◌}
 use lib.Dec.{eqb}
-use lib.ListN.{length}
+use lib.ListN.{length, get_or-eq_default}
 use borrow.Author.Tests.{eqb-true}
 use Rattle.basics.specs.Choice.{both, every}
 use Rattle.basics.proofs.Laws.{both_left, both_right}
@@ -53,3 +53,8 @@ row_unpacks r t =
 pub code_unpacks : (k : ℕ) → k < length dictionary_rows
     → unpacked_row_attributes (packed_row_attributes (row_in dictionary_rows k)) ≡ attributes_of (row_in dictionary_rows k)
 code_unpacks k h = row_unpacks (row_in dictionary_rows k) (at unpacks dictionary_rows blank_row rows_unpack k h)
+
+-- past the last row the number is 0
+pub code_unpacks_beyond : (k : ℕ) → length dictionary_rows ≤ k
+    → unpacked_row_attributes (packed_row_attributes (row_in dictionary_rows k)) ≡ attributes_of (row_in dictionary_rows k)
+code_unpacks_beyond k h = rw (get_or-eq_default dictionary_rows blank_row h)

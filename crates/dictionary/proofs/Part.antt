@@ -2,6 +2,7 @@
 -- of the part finds what `find_row` finds in the whole. What the parts require of the table is computed, one test each;
 -- so is which tags each of them has.
 -- Assumes nothing.
+use Rattle.std.specs.Prelude.{Option, Some, None, option_map}
 use mathlib.Core.Path.{◌≡◌, refl, sym, ap, subst, ◌∙◌}
 use mathlib.Core.Bool.{Bool, true, false}
 use mathlib.Core.List.{List, [], ◌∷◌}
@@ -12,8 +13,6 @@ use lib.ListN.{length, take, drop}
 use borrow.Author.Tests.{ne_eqb, leb-true, ltb-true, ltb-false, lt-ltb, le-ltb}
 use Rattle.basics.specs.Choice.{if, both, every}
 use Rattle.basics.proofs.Laws.{if_yes, if_no, if_ind, both_left, both_right}
-use Rattle.dictionary.specs.declared.RowFound.{RowFound}
-use Rattle.dictionary.specs.declared.RowFound.TheVariants.{At, Unknown}
 use Rattle.dictionary.specs.declared.RowRange.{RowRange}
 use Rattle.dictionary.specs.declared.SearchResult.{SearchResult}
 use Rattle.dictionary.specs.Rows.{Row, dictionary_rows, row_count, row_found_shifted, find_row}
@@ -23,15 +22,15 @@ use Rattle.dictionary.specs.Search.{halving_search_result_in_part}
 use Rattle.dictionary.specs.Named.{first_row_of5f, first_row_of9f, first_row_of_df, first_row_of_three_byte_tags}
 use Rattle.dictionary.specs.Inner.{row_range, row_range_for_tag}
 
-past_none : (x : RowFound) → row_found_shifted 0 x ≡ x
+past_none : (x : Option ℕ) → row_found_shifted 0 x ≡ x
 unfolding row_found_shifted
-past_none Unknown = refl
-past_none (At k) = let e : 0 + k ≡ k = omega arith in ap At e
+past_none None = refl
+past_none (Some k) = let e : 0 + k ≡ k = omega arith in ap Some e
 
-past_more : (a : ℕ) (x : RowFound) → row_found_shifted 1 (row_found_shifted a x) ≡ row_found_shifted (suc a) x
+past_more : (a : ℕ) (x : Option ℕ) → row_found_shifted 1 (row_found_shifted a x) ≡ row_found_shifted (suc a) x
 unfolding row_found_shifted
-past_more a Unknown = refl
-past_more a (At k) = let e : 1 + (a + k) ≡ suc a + k = omega arith in ap At e
+past_more a None = refl
+past_more a (Some k) = let e : 1 + (a + k) ≡ suc a + k = omega arith in ap Some e
 
 -- rows of smaller tags at the front are skipped
 abbrev below : ℕ → Row → Bool
@@ -51,7 +50,7 @@ find_behind (suc a) (r ∷ rs) low t h l =
 abbrev above : ℕ → Row → Bool
 above high r = leb high r.tag
 
-none_above : (table : List Row) (high t : ℕ) → every (above high) table ≡ true → t < high → find_row table t ≡ Unknown
+none_above : (table : List Row) (high t : ℕ) → every (above high) table ≡ true → t < high → find_row table t ≡ None
 unfolding every find_row row_found_shifted
 none_above [] high t h l = refl
 none_above (r ∷ rs) high t h l =
@@ -63,7 +62,7 @@ find_before : (n : ℕ) (table : List Row) (high t : ℕ) → every (above high)
 unfolding find_row
 find_before zero table high t h l = none_above table high t h l
 find_before (suc n) [] high t h l = refl
-find_before (suc n) (r ∷ rs) high t h l = ap (λ (x : RowFound). if (eqb r.tag t) (At 0) (row_found_shifted 1 x))
+find_before (suc n) (r ∷ rs) high t h l = ap (λ (x : Option ℕ). if (eqb r.tag t) (Some 0) (row_found_shifted 1 x))
     (find_before n rs high t h l)
 
 -- ---- the dictionary's parts
@@ -223,30 +222,24 @@ module _ (t : ℕ) where
 
 -- ---- a search of a part
 
+-- a place in the part, counted from the front of the table
+pub option_map_shift : (a : ℕ) (x : Option ℕ) → option_map (λ k. a + k) x ≡ row_found_shifted a x
+unfolding row_found_shifted
+option_map_shift a None = refl
+option_map_shift a (Some k) = refl
+
 module _ (t : ℕ) {p : RowRange} (e : p ≡ row_range_for_tag t) where
   stands : Stands t p
   stands = subst (Stands t) (sym e) (part_stands t)
 
   -- from what `search_tags` promises of every rising table
-  in_part : {x : RowFound} → ((table : List Row) → tags_of table ≡ part_tags p → rising_tags table ≡ true
+  pub in_part : {x : Option ℕ} → ((table : List Row) → tags_of table ≡ part_tags p → rising_tags table ≡ true
       → x ≡ find_row table t)
       → row_found_shifted p.from x ≡ find_row dictionary_rows t
   in_part h = ap (row_found_shifted p.from) (h (part_rows p) stands.tags stands.rises) ∙ sym stands.finds
 
-  pub part_known : {x : RowFound} {k : ℕ} → ((table : List Row) → tags_of table ≡ part_tags p → rising_tags table ≡ true
-      → x ≡ find_row table t)
-      → x ≡ At k → At (p.from + k) ≡ find_row dictionary_rows t
-  unfolding row_found_shifted
-  part_known h q = sym (ap (row_found_shifted p.from) q) ∙ in_part h
-
-  pub part_unknown : {x : RowFound} → ((table : List Row) → tags_of table ≡ part_tags p → rising_tags table ≡ true
-      → x ≡ find_row table t)
-      → x ≡ Unknown → Unknown ≡ find_row dictionary_rows t
-  unfolding row_found_shifted
-  part_unknown h q = sym (ap (row_found_shifted p.from) q) ∙ in_part h
-
   -- from the equation that it promises: the search of the part, with the places of the whole table
-  shifted : {s : SearchResult} → s ≡ halving_search_result (part_tags p) t
+  pub shifted : {s : SearchResult} → s ≡ halving_search_result (part_tags p) t
       → record { found = row_found_shifted p.from s.found; probes = s.probes } ≡ halving_search_result_in_part
       (tags_of dictionary_rows) t
   unfolding halving_search_result_in_part
@@ -260,15 +253,3 @@ module _ (t : ℕ) {p : RowRange} (e : p ≡ row_range_for_tag t) where
         probes =
             (halving_search_result (tags_in_part_of (tags_of dictionary_rows) t) t).probes;
       }) (sym n.start)
-
-  pub halved_known : {s : SearchResult} {k : ℕ} → s ≡ halving_search_result (part_tags p) t → s.found ≡ At k
-      → record { found = At (p.from + k); probes = s.probes } ≡ halving_search_result_in_part (tags_of dictionary_rows) t
-  unfolding row_found_shifted
-  halved_known {s} q f = ap (λ (x : RowFound). record { found = row_found_shifted p.from x; probes = s.probes })
-      (sym f) ∙ shifted q
-
-  pub halved_unknown : {s : SearchResult} → s ≡ halving_search_result (part_tags p) t → s.found ≡ Unknown
-      → record { found = Unknown; probes = s.probes } ≡ halving_search_result_in_part (tags_of dictionary_rows) t
-  unfolding row_found_shifted
-  halved_unknown {s} q f = ap (λ (x : RowFound). record { found = row_found_shifted p.from x; probes = s.probes })
-      (sym f) ∙ shifted q

@@ -1,5 +1,6 @@
 -- The rule of a table, from its test to each row; and in a table that rises every row is found by its tag.
 -- Assumes nothing.
+use Rattle.std.specs.Prelude.{Some}
 use mathlib.Core.Path.{◌≡◌, refl, ap, ◌∙◌}
 use mathlib.Core.Bool.{true}
 use mathlib.Core.List.{List, [], ◌∷◌}
@@ -12,7 +13,6 @@ use Rattle.basics.proofs.Laws.{if_yes, if_no, both_left, both_right}
 use Rattle.basics.proofs.Table.{at}
 use Rattle.tlv.specs.Tag.{tag_size, tag_size_from_second_byte, tag_size_from_third_byte}
 use Rattle.tlv.specs.Encoding.{well_formed_tag, tag_bytes}
-use Rattle.dictionary.specs.declared.RowFound.TheVariants.{At}
 use Rattle.dictionary.specs.Rows.{Row, dictionary_rows, blank_row, row_in, row_found_shifted, find_row}
 use Rattle.dictionary.specs.Rule.{row_has_valid_tag_and_lengths, tag_below_next_row, rising_tags, tags_rise_and_rows_valid}
 
@@ -62,16 +62,16 @@ rises_on : (s : Row) (ss : List Row) → rising_tags (s ∷ ss) ≡ true → ris
 unfolding rising_tags
 rises_on s ss r = both_right _ _ r
 
-shifted : (n : ℕ) → row_found_shifted 1 (At n) ≡ At (suc n)
+shifted : (n : ℕ) → row_found_shifted 1 (Some n) ≡ Some (suc n)
 unfolding row_found_shifted
-shifted n = ap At (omega arith)
+shifted n = ap Some (omega arith)
 
 -- every row is found by its tag
 pub find_row_lem : (table : List Row) → rising_tags table ≡ true → (k : ℕ) → k < length table
-    → find_row table (row_in table k).tag ≡ At k
+    → find_row table (row_in table k).tag ≡ Some k
 unfolding find_row
 find_row_lem [] r k h = absurd (omega arith)
-find_row_lem (s ∷ ss) r zero h = if_yes (At 0) (row_found_shifted 1 (find_row ss s.tag)) (eq-eqb s.tag s.tag refl)
+find_row_lem (s ∷ ss) r zero h = if_yes (Some 0) (row_found_shifted 1 (find_row ss s.tag)) (eq-eqb s.tag s.tag refl)
 find_row_lem (s ∷ ss) r (suc k) h =
     let lt : s.tag < (row_in ss k).tag = tags_rise (s ∷ ss) r 0 (suc k) (omega arith) h in
     if_no _ _ (ne_eqb s.tag (row_in ss k).tag (λ e. omega arith)) ∙ ap (row_found_shifted 1)

@@ -4,8 +4,9 @@
 -- `numeric_is` to `is_numeric`; `all_digits`, `is_ff`, `is_half` and `is_wrong` to `is_compressed_numeric`. proofs/Part
 -- ties `row_range_for_tag` to `find_row` and to `halving_search_result_in_part`.
 -- Assumes nothing.
-use Rattle.std.specs.Prelude.{Bool, [], ◌∷◌, suc, ◌/◌, ◌%◌}
-use Rattle.basics.specs.Choice.{when◌then◌else◌, ◌and◌, ◌<?◌, ◌=?◌, every}
+use Rattle.std.specs.Prelude.{Bool, ◌/◌, ◌%◌}
+use Rattle.std.specs.List.{list_all, prefix_len}
+use Rattle.basics.specs.Choice.{when◌then◌else◌, ◌and◌, ◌<?◌, ◌=?◌}
 use Rattle.basics.specs.Types.{Byte, Bytes, Tag, Count, RowNumber}
 use Rattle.dictionary.specs.declared.RowRange.{RowRange}
 use Rattle.dictionary.specs.Rows.{row_count}
@@ -17,15 +18,12 @@ unfoldable pub is_decimal_byte : Byte → Bool
 is_decimal_byte b = is_decimal_nibble (b / 16) and is_decimal_nibble (b % 16)
 
 -- how many bytes at the front are decimal digits
-unfoldable pub leading_decimal_bytes : Bytes → Count
-leading_decimal_bytes [] = 0
-leading_decimal_bytes (b ∷ v) =
-    when is_decimal_byte b then suc (leading_decimal_bytes v)
-    else 0
+abbrev pub leading_decimal_bytes : Bytes → Count
+leading_decimal_bytes v = prefix_len is_decimal_byte v
 
 -- every byte is FF
-unfoldable pub all_bytes_ff : Bytes → Bool
-all_bytes_ff v = every (λ b. b =? 0xFF) v
+abbrev pub all_bytes_ff : Bytes → Bool
+all_bytes_ff v = list_all (λ b. b =? 0xFF) v
 
 -- some rows of the table: from one on, up to one that is no more among them
 abbrev pub row_range : RowNumber → RowNumber → RowRange

@@ -1,11 +1,9 @@
 -- The dictionary of data objects (document 01, "Dictionary"; document 02, Items 5, 8, 9 and 11; Book C-2, annex A):
 -- its rows by number and by tag. specs/Row has what a row is, specs/AnnexA the rows; both are passed on here.
 -- Assumes nothing.
-use Rattle.std.specs.Prelude.{List, [], ◌∷◌, ◌+◌, get_or}
+use Rattle.std.specs.Prelude.{List, [], ◌∷◌, ◌+◌, get_or, Option, Some, None}
 use Rattle.basics.specs.Choice.{when◌then◌else◌, ◌=?◌}
 use Rattle.basics.specs.Types.{Tag, Count, RowNumber}
-use Rattle.dictionary.specs.declared.RowFound.{RowFound}
-use Rattle.dictionary.specs.declared.RowFound.TheVariants.{At, Unknown}
 pub use Rattle.dictionary.specs.Row.{Row, row, form_b, form_n, form_cn, set_by_start, set_by_card, set_by_session}
 pub use Rattle.dictionary.specs.Row.{
   in_no_template,
@@ -44,21 +42,21 @@ row_at k = row_in dictionary_rows k
 -- ---- by tag
 
 -- a place counted from n rows further on
-unfoldable pub row_found_shifted : Count → RowFound → RowFound
-row_found_shifted n Unknown = Unknown
-row_found_shifted n (At k) = At (n + k)
+unfoldable pub row_found_shifted : Count → Option RowNumber → Option RowNumber
+row_found_shifted n None = None
+row_found_shifted n (Some k) = Some (n + k)
 
 -- the first row of a table that has the tag
-unfoldable pub find_row : List Row → Tag → RowFound
-find_row [] t = Unknown
+unfoldable pub find_row : List Row → Tag → Option RowNumber
+find_row [] t = None
 find_row (r ∷ rs) t =
-    when r.tag =? t then At 0
+    when r.tag =? t then Some 0
     else row_found_shifted 1 (find_row rs t)
 
 -- the row that a lookup found, the first where it found none
-abbrev pub row_number_found_or_zero : RowFound → RowNumber
-row_number_found_or_zero Unknown = 0
-row_number_found_or_zero (At k) = k
+abbrev pub row_number_found_or_zero : Option RowNumber → RowNumber
+row_number_found_or_zero None = 0
+row_number_found_or_zero (Some k) = k
 
 -- the row of a known tag; the first row for an unknown one, which no code uses
 unfoldable pub row_number_of_tag_or_zero : Tag → RowNumber

@@ -5,11 +5,10 @@
 -- is searched in the part of the table that it can be in (`halving_search_result_in_part`): the same answer for every tag,
 -- and the same bound on the probes (promises `found` and `few` of `find_row`; proofs/Part).
 -- Assumes nothing.
+use Rattle.std.specs.Prelude.{Option, Some, None}
 use Rattle.std.specs.Prelude.{◌≡◌, Bool, true, List, [], ◌∷◌, map, ℕ, zero, suc, ◌+◌, ◌/◌, length, get_or}
 use Rattle.basics.specs.Choice.{when◌then◌else◌, ◌≤?◌, ◌<?◌, ◌=?◌, every}
 use Rattle.basics.specs.Types.{Tag, TagList, Count, RowNumber}
-use Rattle.dictionary.specs.declared.RowFound.{RowFound}
-use Rattle.dictionary.specs.declared.RowFound.TheVariants.{At, Unknown}
 use Rattle.dictionary.specs.declared.SearchResult.{SearchResult}
 use Rattle.dictionary.specs.Rows.{Row, row_found_shifted}
 
@@ -38,16 +37,16 @@ part_before_middle p = search_part p.from (part_middle p)
 
 -- what a search comes to: where the tag was found, and the places it probed, in their order
 pub record HalvingSearch : Type 0 where
-  pub found : RowFound
+  pub found : Option ℕ
   pub places : List RowNumber
 
 -- nothing is left to probe
 abbrev pub search_miss : HalvingSearch
-search_miss = record { found = Unknown; places = [] }
+search_miss = record { found = None; places = [] }
 
 -- found at the place that was probed
 abbrev pub search_hit : RowNumber → HalvingSearch
-search_hit place = record { found = At place; places = [] }
+search_hit place = record { found = Some place; places = [] }
 
 -- one probe of a place, and then the rest of a search
 abbrev pub prepend_probe : RowNumber → HalvingSearch → HalvingSearch

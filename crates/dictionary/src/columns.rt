@@ -1,5 +1,7 @@
 // The columns of a row besides its tag: what each of them may say, and all of them in one number. `unpacked` takes such a
 // number apart; src/rows.rt has one for each row.
+//
+// Kept: numbers and sets of bits in one number, as `packed_row_attributes` promises it of each row.
 
 // Forms of a value.
 pub const FORM_B: u8 = 0;

@@ -10,12 +10,15 @@
 
 mod columns;
 mod rows;
+pub mod tables;
 
-ghost use Rattle.std.specs.Prelude.{◌≡◌, true, List, map, ℕ, ◌+◌, ◌^◌, ◌≤◌, ◌<◌, length, drop};
+ghost use Rattle.std.specs.Prelude.{◌≡◌, true, List, map, ℕ, ◌+◌, ◌^◌, ◌≤◌, ◌<◌, length, get_or};
+ghost use Rattle.std.specs.List.{list_all};
+ghost use Rattle.basics.specs.Number.{has_bit_of_weight};
 ghost use Rattle.dictionary.specs.Rows.{Row, dictionary_rows, row_at, row_count, find_row, row_number_of_tag_or_zero};
 ghost use Rattle.dictionary.specs.Rule.{rising_tags, tags_rise_and_rows_valid};
 ghost use Rattle.dictionary.specs.Search.{halving_search_result, tags_of, ProbesCountedAndSufficient, halving_search_result_in_part};
-ghost use Rattle.dictionary.specs.Form.{is_numeric, is_compressed_numeric, digits_match_form, length_and_digits_fit_row};
+ghost use Rattle.dictionary.specs.Form.{is_compressed_numeric, digits_match_form, length_and_digits_fit_row};
 ghost use Rattle.dictionary.specs.Inner.{row_range_for_tag, is_decimal_byte, leading_decimal_bytes, all_bytes_ff};
 ghost use Rattle.dictionary.specs.Packing.{attributes_of, row_with_attributes_and_tag_zero, packed_row_attributes, unpacked_row_attributes};
 ghost use Rattle.dictionary.specs.Named.{used_tags};
@@ -39,6 +42,7 @@ pub use rows::{
     ROW_TERMINAL_TYPE, ROW_TRACK2_DATA, ROW_TRANSACTION_CURRENCY, ROW_TRANSACTION_DATE,
     ROW_TRANSACTION_TYPE, ROW_TVR, ROW_UDOL, ROW_UN, ROW_UN_NUMERIC, ROWS, SIZE, USED,
 };
+pub use tables::DictionaryTables;
 
 // What a row states besides its tag: the lengths, the form, and the sets of bits; `must` is 1 where a start must bring
 // the object, else 0.
@@ -53,17 +57,36 @@ pub struct RowAttributes {
     pub must: u8,
 }
 
-// Where a tag is in the table.
-#[derive(Clone, Copy)]
-pub enum RowFound {
-    At(usize),
-    Unknown,
+impl RowAttributes {
+    // Whether a setter, `START`, `CARD` or `SESSION`, may set the object.
+    pub fn may_be_set_by(self, setter: u8) -> bool
+        requires { 1 ≤ setter }
+        ensures { result ≡ has_bit_of_weight self.setters setter }
+    {
+        self.setters / setter % 2 == 1
+    }
+
+    // Whether an answer, as `GPO` or `CARD_RECORD`, may bring the object.
+    pub fn may_be_brought_by(self, answer: u8) -> bool
+        requires { 1 ≤ answer }
+        ensures { result ≡ has_bit_of_weight self.answers answer }
+    {
+        self.answers / answer % 2 == 1
+    }
+
+    // Whether a template, as `IN_70`, may be directly around the object.
+    pub fn may_be_in(self, template: u8) -> bool
+        requires { 1 ≤ template }
+        ensures { result ≡ has_bit_of_weight self.templates template }
+    {
+        self.templates / template % 2 == 1
+    }
 }
 
 // A search: where the tag is, and how many tags were probed.
 #[derive(Clone, Copy)]
 pub struct SearchResult {
-    pub found: RowFound,
+    pub found: Option<usize>,
     pub probes: usize,
 }
 
@@ -82,11 +105,11 @@ pub fn lookup_row(tag: u32) -> SearchResult
     ensures few { (k : ℕ) → row_count < 2 ^ k → result.probes ≤ k }
     ensures table { tags_rise_and_rows_valid dictionary_rows ≡ true }
 {
-    let tags = TAGS;
-    search_tags(&tags, tag)
+    search_tags(&TAGS, tag)
 }
 
 // A search by halving in any list of tags: each iteration probes the middle one of those that are left.
+// Kept: a loop by hand, since `binary_search` of std promises no count of its probes, which `counted` and `few` do.
 pub fn search_tags(tags: &[u32], tag: u32) -> SearchResult
     ensures halving { result ≡ halving_search_result tags.now tag }
     ensures found { (table : List Row) → tags_of table ≡ tags.now → rising_tags table ≡ true → result.found ≡ find_row table tag }
@@ -105,7 +128,7 @@ pub fn search_tags(tags: &[u32], tag: u32) -> SearchResult
         } else {
             if looked == tag {
                 return SearchResult {
-                    found: RowFound::At(middle),
+                    found: Some(middle),
                     probes,
                 };
             }
@@ -113,7 +136,7 @@ pub fn search_tags(tags: &[u32], tag: u32) -> SearchResult
         }
     }
     SearchResult {
-        found: RowFound::Unknown,
+        found: None,
         probes,
     }
 }
@@ -126,21 +149,11 @@ pub fn find_row(tags: &[u32], tag: u32) -> SearchResult
     ensures halving { result ≡ halving_search_result_in_part (tags_of dictionary_rows) tag }
     ensures few { (k : ℕ) → row_count < 2 ^ k → result.probes ≤ k }
 {
-    let part = part_of(tag);
-    let from = part.from;
-    let to = part.to;
+    let RowRange { from, to } = part_of(tag);
     let searched = search_tags(&tags[from..to], tag);
-    let probes = searched.probes;
-    let found = searched.found;
-    match found {
-        RowFound::At(k) => SearchResult {
-            found: RowFound::At(from + k),
-            probes,
-        },
-        RowFound::Unknown => SearchResult {
-            found: RowFound::Unknown,
-            probes,
-        },
+    SearchResult {
+        found: searched.found.map(|k| from + k),
+        probes: searched.probes,
     }
 }
 
@@ -149,33 +162,27 @@ fn part_of(tag: u32) -> RowRange
     ensures value { result ≡ row_range_for_tag tag }
     ensures from_le_to { (result.from ≤ result.to) × (result.to ≤ row_count) }
 {
-    if tag < 0x100 {
-        return RowRange {
+    match tag {
+        ..0x100 => RowRange {
             from: 0,
             to: FIRST_OF_5F,
-        };
-    }
-    if tag < 0x9F00 {
-        return RowRange {
+        },
+        ..0x9F00 => RowRange {
             from: FIRST_OF_5F,
             to: FIRST_OF_9F,
-        };
-    }
-    if tag < 0xDF00 {
-        return RowRange {
+        },
+        ..0xDF00 => RowRange {
             from: FIRST_OF_9F,
             to: FIRST_OF_DF,
-        };
-    }
-    if tag < 0x10000 {
-        return RowRange {
+        },
+        ..0x10000 => RowRange {
             from: FIRST_OF_DF,
             to: FIRST_OF_THREE,
-        };
-    }
-    RowRange {
-        from: FIRST_OF_THREE,
-        to: ROWS,
+        },
+        _ => RowRange {
+            from: FIRST_OF_THREE,
+            to: ROWS,
+        },
     }
 }
 
@@ -186,24 +193,25 @@ pub fn used_rows() -> [usize; USED]
     USED_ROWS
 }
 
+// A row's entry in a column of the table; 0 past the last row.
+fn entry_or_zero(column: &[u32; ROWS], row: usize) -> u32
+    ensures { result ≡ get_or column.now row 0 }
+{
+    column.get(row).copied().unwrap_or(0)
+}
+
 // A row's tag.
 pub fn row_tag(row: usize) -> u32
     ensures { result ≡ (row_at row).tag }
 {
-    if row < ROWS {
-        return TAGS[row];
-    }
-    0
+    entry_or_zero(&TAGS, row)
 }
 
 // What a row states; nothing past the last row.
 pub fn attributes_of(row: usize) -> RowAttributes
     ensures { result ≡ attributes_of (row_at row) }
 {
-    if row < ROWS {
-        return unpack_row_attributes(CODES[row]);
-    }
-    unpack_row_attributes(0)
+    unpack_row_attributes(entry_or_zero(&CODES, row))
 }
 
 // The tags and the numbers of all rows. An array that is read at a place known only when the code runs is built anew
@@ -236,106 +244,70 @@ pub fn unpack_row_attributes(code: u32) -> RowAttributes
 }
 
 // Whether both digits of a byte are decimal.
+#[tactic(auto, unfolding(crate::specs::Inner::is_decimal_byte, basics::specs::Choice::both))]
 fn is_digits(b: u8) -> bool
     ensures { result ≡ is_decimal_byte b }
 {
-    if b / 16 < 10 {
-        return b % 16 < 10;
-    }
-    false
+    b / 16 < 10 && b % 16 < 10
 }
 
 // How many bytes at the front are decimal digits.
 fn digit_bytes(v: &[u8]) -> usize
-    ensures value { result ≡ leading_decimal_bytes v.now }
-    ensures upper_bound { result ≤ length v.now }
+    ensures { result ≡ leading_decimal_bytes v.now }
 {
-    let mut i = 0;
-    while i < v.len() {
-        if !is_digits(v[i]) {
-            return i;
-        }
-        i += 1;
-    }
-    i
+    v.iter().take_while(|b| is_digits(**b)).count()
 }
 
-// Whether every byte from a place on is FF.
-fn only_fs(v: &[u8], from: usize) -> bool
-    ensures { result ≡ all_bytes_ff (drop from v.now) }
+// Whether every byte is FF.
+fn only_fs(v: &[u8]) -> bool
+    ensures { result ≡ all_bytes_ff v.now }
 {
-    let mut i = from;
-    while i < v.len() {
-        if v[i] != 0xFF {
-            return false;
-        }
-        i += 1;
-    }
-    true
+    v.iter().all(|b| *b == 0xFF)
 }
 
 // Whether every byte is two decimal digits.
 fn is_numeric(v: &[u8]) -> bool
-    ensures { result ≡ is_numeric v.now }
+    ensures { result ≡ list_all is_decimal_byte v.now }
 {
-    digit_bytes(v) == v.len()
+    v.iter().all(|b| is_digits(*b))
 }
 
 // Whether the bytes are decimal digits and then only Fs.
 fn is_compressed(v: &[u8]) -> bool
     ensures { result ≡ is_compressed_numeric v.now }
 {
-    let at = digit_bytes(v);
-    if at == v.len() {
-        return true;
+    match &v[digit_bytes(v)..] {
+        [] => true,
+        [b, rest @ ..] if *b / 16 < 10 => *b % 16 == 15 && only_fs(rest),
+        rest => only_fs(rest),
     }
-    let b = v[at];
-    if b == 0xFF {
-        return only_fs(v, at + 1);
-    }
-    if b / 16 < 10 {
-        if b % 16 == 15 {
-            return only_fs(v, at + 1);
-        }
-    }
-    false
 }
 
 // Whether a value's digits are those of a form; the form b requires nothing.
+// Kept: the form is a number, since an enum would narrow the parameter.
 pub fn digits_match_form(form: u8, v: &[u8]) -> bool
     ensures { result ≡ digits_match_form form v.now }
 {
-    if form == FORM_N {
-        return is_numeric(v);
+    match form {
+        FORM_N => is_numeric(v),
+        FORM_CN => is_compressed(v),
+        _ => true,
     }
-    if form == FORM_CN {
-        return is_compressed(v);
-    }
-    true
 }
 
 // Whether a value's length and digits fit a row of these attributes.
+#[tactic(auto, unfolding(crate::specs::Form::length_and_digits_fit_row, basics::specs::Choice::both))]
 pub fn length_and_digits_fit_row(attributes: RowAttributes, v: &[u8]) -> bool
     ensures { result ≡ length_and_digits_fit_row (row_with_attributes_and_tag_zero attributes) v.now }
 {
-    if v.len() < attributes.least {
-        return false;
-    }
-    if attributes.greatest < v.len() {
-        return false;
-    }
-    digits_match_form(attributes.form, v)
+    (attributes.least..=attributes.greatest).contains(&v.len())
+        && digits_match_form(attributes.form, v)
 }
 
 // Whether a terminal type is one of those that the session takes.
+#[tactic(auto, unfolding(crate::specs::TerminalType::listed_terminal_type, basics::specs::Choice::both, basics::specs::Choice::either))]
 pub fn is_listed_terminal_type(kind: u8) -> bool
     ensures { result ≡ listed_terminal_type kind }
 {
-    if basics::is_between(0x11, kind, 0x16) {
-        return true;
-    }
-    if basics::is_between(0x21, kind, 0x26) {
-        return true;
-    }
-    basics::is_between(0x34, kind, 0x36)
+    matches!(kind, 0x11..=0x16 | 0x21..=0x26 | 0x34..=0x36)
 }

@@ -1,9 +1,9 @@
 -- Bytes written into a buffer: writing one after another is writing at once, and what covers them leaves
 -- nothing of them.
 -- Assumes nothing.
+use Rattle.std.specs.Prelude.{Option, Some}
 use mathlib.Core.Path.{◌≡◌, refl, sym, ap, ◌∙◌}
 use mathlib.Core.List.{List, [], ◌∷◌, ◌++◌, append-nil, append_assoc}
-use mathlib.Core.Option.{Option, some}
 use Prim.Native.Nat.{ℕ, ◌+◌, ◌-◌, ◌≤◌, ◌<◌}
 use native.Mathlib.Nat.{add-zero, add_assoc}
 use native.Mathlib.Numerals.{add-one}
@@ -11,15 +11,12 @@ use native.Mathlib.Omega.{arith}
 use lib.ListN.{length, take, drop, set, replicate, length-append, length-take, length-drop, take-append-drop}
 use lib.ListN.{drop_of_length-le, length-replicate, replicate-append-replicate}
 use lib.Seq.{take_at, drop_at, drop-drop, take-length, set_split, length-take-le, sets, sets-eq}
+use borrow.Rule.Slice.PartMut.{put_mid}
 use Rattle.dol.specs.Measure.{buffer_with_bytes_at, buffer_with_filled_dol_at}
 
 pub over_nothing : (b : List ℕ) (at : ℕ) → buffer_with_bytes_at b at [] ≡ b
 unfolding buffer_with_bytes_at
 over_nothing b at = rw add-zero (take-append-drop at b)
-
-pub over-one : (b : List ℕ) (at x : ℕ) → at < length b → set b at x ≡ buffer_with_bytes_at b at (x ∷ [])
-unfolding buffer_with_bytes_at
-over-one b at x h = rw add-one (set_split b at x h)
 
 module _ (b : List ℕ) (at : ℕ) (v : List ℕ) (h : at + length v ≤ length b) where
   front_length : length (take at b ++ v) ≡ at + length v
@@ -32,10 +29,6 @@ module _ (b : List ℕ) (at : ℕ) (v : List ℕ) (h : at + length v ≤ length 
   -- the buffer keeps its length
   pub over_length : length (buffer_with_bytes_at b at v) ≡ length b
   over_length = rw front_is (simp (length-append, length-take, length-drop) (omega arith))
-
-  -- stored one by one
-  pub over_sets : sets b at v ≡ buffer_with_bytes_at b at v
-  over_sets = sets-eq v b at h ∙ sym front_is
 
   -- the bytes after stay
   pub over_behind : (n : ℕ) → at + length v ≤ n → drop n (buffer_with_bytes_at b at v) ≡ drop n b
@@ -80,30 +73,13 @@ module _ (b : List ℕ) (at : ℕ) (v : List ℕ) (h : at + length v ≤ length 
   over_cover w l = ap (λ (r : List ℕ). w ++ r) (over_behind (0 + length w) (omega arith))
 
 -- a filling that is there is written
-pub over_some : (b : List ℕ) (at : ℕ) (x : Option (List ℕ)) (v : List ℕ) → x ≡ some v
+pub over_some : (b : List ℕ) (at : ℕ) (x : Option (List ℕ)) (v : List ℕ) → x ≡ Some v
     → buffer_with_filled_dol_at b at x ≡ buffer_with_bytes_at b at v
 unfolding buffer_with_filled_dol_at
 over_some b at x v e = ap (buffer_with_filled_dol_at b at) e
 
--- a part of the buffer that was borrowed, and comes back with v copied into it
-pub over_part : (b : List ℕ) (at : ℕ) (v ys : List ℕ) → at + length v ≤ length b
-    → ys ≡ take (length v) v ++ drop (length v) (take (at + length v - at) (drop at b))
-    → take at b ++ (ys ++ drop (at + length v - at) (drop at b)) ≡ buffer_with_bytes_at b at v
+-- a part of the buffer that was borrowed, and comes back as the bytes v
+pub over_part : (b : List ℕ) (at n : ℕ) (v : List ℕ) {ys : List ℕ} → ys ≡ v → length v ≡ n
+    → put_mid at (at + n - at) b ys ≡ buffer_with_bytes_at b at v
 unfolding buffer_with_bytes_at
-over_part b at v ys h p =
-    let e : at + length v - at ≡ length v = omega arith in
-    let l : length (take (length v) (drop at b)) ≤ length v = simp length-take (omega arith) in
-    let q : ys ≡ v = p ∙ rw (e, take-length v, drop_of_length-le _ l) (append-nil v) in
-    rw (q, e, drop-drop (length v) at b)
-
--- one more byte of a run
-pub repeat_more : (b : List ℕ) (at i x : ℕ) → at + i < length b → set (buffer_with_bytes_at b at (replicate i x)) (at + i)
-    x ≡ buffer_with_bytes_at b at (replicate (i + 1) x)
-repeat_more b at i x h =
-    let n : length (replicate i x) ≡ i = length-replicate i x in
-    let l : at + length (replicate i x) ≤ length b = omega arith in
-    let k : at + i < length (buffer_with_bytes_at b at (replicate i x)) = rw (over_length b at _ l) h in
-    let e : at + i ≡ at + length (replicate i x) = omega arith in
-    over-one (buffer_with_bytes_at b at (replicate i x)) (at + i) x k ∙ ap
-    (λ (m : ℕ). buffer_with_bytes_at (buffer_with_bytes_at b at (replicate i x)) m (x ∷ [])) e
-    ∙ over_join b at (replicate i x) l (x ∷ []) ∙ ap (buffer_with_bytes_at b at) (replicate-append-replicate i 1 x)
+over_part b at n v p l = let e : at + n - at ≡ length v = omega arith in rw (p, e, drop-drop (length v) at b)

@@ -1,9 +1,9 @@
 -- A filling from a store of bytes is bytes: it is made of parts of the store and of runs of 00 and FF.
 -- Assumes nothing.
+use Rattle.std.specs.Prelude.{Some, None, Option}
 use mathlib.Core.Path.{◌≡◌, ap, subst, subst⁻¹}
 use mathlib.Core.List.{List, [], ◌∷◌, ◌++◌}
 use mathlib.Core.Logic.{inl, inr}
-use mathlib.Core.Option.{Option, some, none}
 use Prim.Native.Nat.{ℕ, zero, suc, ◌+◌, ◌-◌, ◌<◌}
 use native.Mathlib.Omega.{arith}
 use lib.Dec.{leb, eqb}
@@ -14,8 +14,6 @@ use Rattle.basics.proofs.Order.{le-or-gt}
 use Rattle.tlv.specs.Tag.{is_template}
 use Rattle.tlv.proofs.Laws.{Bytes}
 use Rattle.dictionary.specs.Rows.{Row, row_in, find_row, form_n, form_cn}
-use Rattle.dictionary.specs.declared.RowFound.{RowFound}
-use Rattle.dictionary.specs.declared.RowFound.TheVariants.{At, Unknown}
 use Rattle.store.specs.Place.{StoredValue, absent, present, bytes_or_empty_if_absent, row_offset, row_value}
 use Rattle.store.proofs.Laws.{stored_length, value_bytes, no_place}
 use Rattle.dol.specs.declared.DolEntry.{DolEntry}
@@ -85,9 +83,9 @@ module _ (table : List Row) (store : List ℕ) (b : Bytes store) where
   of_value form n absent d = bytes_run n 0 (omega arith)
   of_value form n (present v) d = fitted_bytes form n v d
 
-  of_found : (n : ℕ) (x : RowFound) → Bytes (dol_bytes_of_row_found table store n x)
-  of_found n Unknown = bytes_run n 0 (omega arith)
-  of_found n (At k) = of_value (row_in table k).form n (row_value table store k) (stored_bytes k)
+  of_found : (n : ℕ) (x : Option ℕ) → Bytes (dol_bytes_of_row_found table store n x)
+  of_found n None = bytes_run n 0 (omega arith)
+  of_found n (Some k) = of_value (row_in table k).form n (row_value table store k) (stored_bytes k)
 
   entry_bytes : (e : DolEntry) → Bytes (dol_entry_bytes table store e)
   unfolding dol_entry_bytes
@@ -101,7 +99,7 @@ module _ (table : List Row) (store : List ℕ) (b : Bytes store) where
   filling_bytes (e ∷ es) = bytes_append (dol_entry_bytes table store e) (dol_data table store es) (entry_bytes e)
       (filling_bytes es)
 
-  pub filled_bytes : (x : Option (List DolEntry)) (v : List ℕ) → dol_data_if_parsed table store x ≡ some v → Bytes v
+  pub filled_bytes : (x : Option (List DolEntry)) (v : List ℕ) → dol_data_if_parsed table store x ≡ Some v → Bytes v
   unfolding dol_data_if_parsed
-  filled_bytes none v p = let z : ◌≡◌ {A = ℕ} 0 1 = cc in absurd (omega arith)
-  filled_bytes (some es) v p = let e : dol_data table store es ≡ v = cc in subst Bytes e (filling_bytes es)
+  filled_bytes None v p = let z : ◌≡◌ {A = ℕ} 0 1 = cc in absurd (omega arith)
+  filled_bytes (Some es) v p = let e : dol_data table store es ≡ v = cc in subst Bytes e (filling_bytes es)

@@ -1,7 +1,7 @@
 -- Worked examples of lists and values, computed. Assumes nothing.
+use Rattle.std.specs.Prelude.{Some, None}
 use mathlib.Core.Path.{◌≡◌, refl}
 use mathlib.Core.List.{[], ◌∷◌, map}
-use mathlib.Core.Option.{some, none}
 use Rattle.basics.specs.Recursion.{recurse_with_fuel_from_length, recurse_with_fuel}
 use Rattle.basics.specs.Choice.{if}
 use Rattle.basics.specs.Number.{append_big_endian_bytes}
@@ -15,40 +15,40 @@ use Rattle.dol.specs.Filling.{truncated_to_length, padding_byte, padded_to_lengt
 -- ---- lists
 
 -- two entries, tags of two bytes and of one
-pub two_entries : dol_entries (0x9F ∷ 0x02 ∷ 6 ∷ 0x95 ∷ 5 ∷ []) ≡ some (dol_entry 0x9F02 6 ∷ dol_entry 0x95 5 ∷ [])
+pub two_entries : dol_entries (0x9F ∷ 0x02 ∷ 6 ∷ 0x95 ∷ 5 ∷ []) ≡ Some (dol_entry 0x9F02 6 ∷ dol_entry 0x95 5 ∷ [])
 unfolding dol_entries recurse_with_fuel_from_length recurse_with_fuel dol_entries_step dol_entry_at dol_entry_with_length
     prepend_dol_entry tag_at tag_size tag_size_from_second_byte tag_size_from_third_byte append_big_endian_bytes if
 two_entries = refl
 
 -- a tag of three bytes
-pub three_bytes : dol_entries (0xDF ∷ 0x81 ∷ 0x23 ∷ 3 ∷ []) ≡ some (dol_entry 0xDF8123 3 ∷ [])
+pub three_bytes : dol_entries (0xDF ∷ 0x81 ∷ 0x23 ∷ 3 ∷ []) ≡ Some (dol_entry 0xDF8123 3 ∷ [])
 unfolding dol_entries recurse_with_fuel_from_length recurse_with_fuel dol_entries_step dol_entry_at dol_entry_with_length
     prepend_dol_entry tag_at tag_size tag_size_from_second_byte tag_size_from_third_byte append_big_endian_bytes if
 three_bytes = refl
 
 -- one length byte, and no long form
-pub plain_length : dol_entries (0x95 ∷ 0x81 ∷ []) ≡ some (dol_entry 0x95 129 ∷ [])
+pub plain_length : dol_entries (0x95 ∷ 0x81 ∷ []) ≡ Some (dol_entry 0x95 129 ∷ [])
 unfolding dol_entries recurse_with_fuel_from_length recurse_with_fuel dol_entries_step dol_entry_at dol_entry_with_length
     prepend_dol_entry tag_at tag_size tag_size_from_second_byte tag_size_from_third_byte append_big_endian_bytes if
 plain_length = refl
 
 -- broken: a first byte 00, a second byte 80, an end inside a tag, an end before the length
-pub first_00 : dol_entries (0 ∷ 0 ∷ []) ≡ none
+pub first_00 : dol_entries (0 ∷ 0 ∷ []) ≡ None
 unfolding dol_entries recurse_with_fuel_from_length recurse_with_fuel dol_entries_step dol_entry_at dol_entry_with_length
     prepend_dol_entry tag_at tag_size tag_size_from_second_byte tag_size_from_third_byte append_big_endian_bytes if
 first_00 = refl
 
-pub second_80 : dol_entries (0x9F ∷ 0x80 ∷ 2 ∷ []) ≡ none
+pub second_80 : dol_entries (0x9F ∷ 0x80 ∷ 2 ∷ []) ≡ None
 unfolding dol_entries recurse_with_fuel_from_length recurse_with_fuel dol_entries_step dol_entry_at dol_entry_with_length
     prepend_dol_entry tag_at tag_size tag_size_from_second_byte tag_size_from_third_byte append_big_endian_bytes if
 second_80 = refl
 
-pub half_a_tag : dol_entries (0x95 ∷ 5 ∷ 0x9F ∷ []) ≡ none
+pub half_a_tag : dol_entries (0x95 ∷ 5 ∷ 0x9F ∷ []) ≡ None
 unfolding dol_entries recurse_with_fuel_from_length recurse_with_fuel dol_entries_step dol_entry_at dol_entry_with_length
     prepend_dol_entry tag_at tag_size tag_size_from_second_byte tag_size_from_third_byte append_big_endian_bytes if
 half_a_tag = refl
 
-pub no_length : dol_entries (0x9F ∷ 0x02 ∷ []) ≡ none
+pub no_length : dol_entries (0x9F ∷ 0x02 ∷ []) ≡ None
 unfolding dol_entries recurse_with_fuel_from_length recurse_with_fuel dol_entries_step dol_entry_at dol_entry_with_length
     prepend_dol_entry tag_at tag_size tag_size_from_second_byte tag_size_from_third_byte append_big_endian_bytes if
 no_length = refl
@@ -56,7 +56,7 @@ no_length = refl
 -- padding before the first tag, after the last length and between two entries
 pub padding_around : map dol_entries ((0 ∷ 0x9F ∷ 0x02 ∷ 6 ∷ []) ∷ (0x9F ∷ 0x02 ∷ 6 ∷ 0 ∷ []) ∷ (0 ∷ 0x95 ∷ 5 ∷ [])
     ∷ (0x95 ∷ 5 ∷ 0 ∷ []) ∷ (0x9F ∷ 0x02 ∷ 6 ∷ 0 ∷ 0x95 ∷ 5 ∷ []) ∷ [])
-    ≡ none ∷ none ∷ none ∷ none ∷ none ∷ []
+    ≡ None ∷ None ∷ None ∷ None ∷ None ∷ []
 unfolding dol_entries recurse_with_fuel_from_length recurse_with_fuel dol_entries_step dol_entry_at dol_entry_with_length
     prepend_dol_entry tag_at tag_size tag_size_from_second_byte tag_size_from_third_byte append_big_endian_bytes if
 padding_around = refl

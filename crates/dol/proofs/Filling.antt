@@ -1,18 +1,16 @@
 -- Filling a list: an entry's bytes by what its tag is, and what joins and measures a filling, by induction over
 -- the entries.
 -- Assumes nothing.
+use Rattle.std.specs.Prelude.{Some, None, Option}
 use mathlib.Core.Path.{◌≡◌, refl, sym, ap, ap₂, ◌∙◌}
 use mathlib.Core.Bool.{true, false}
 use mathlib.Core.List.{List, [], ◌∷◌, ◌++◌, append_assoc}
-use mathlib.Core.Option.{Option, some, none}
 use Prim.Native.Nat.{ℕ, ◌+◌}
 use native.Mathlib.Omega.{arith}
 use lib.ListN.{length, length-append, length-replicate}
 use Rattle.basics.proofs.Laws.{if_yes, if_no, if_ind}
 use Rattle.tlv.specs.Tag.{is_template}
 use Rattle.dictionary.specs.Rows.{Row, row_in, find_row}
-use Rattle.dictionary.specs.declared.RowFound.{RowFound}
-use Rattle.dictionary.specs.declared.RowFound.TheVariants.{At, Unknown}
 use Rattle.store.specs.Place.{StoredValue, absent, present, bytes_or_empty_if_absent, is_present, row_value}
 use Rattle.dol.specs.declared.DolEntry.{DolEntry}
 use Rattle.dol.specs.Entries.{dol_entries, dol_total_length}
@@ -28,39 +26,19 @@ module _ (table : List Row) (store : List ℕ) (e : DolEntry) where
   unfolding dol_entry_bytes
   of_template t = if_yes _ _ t
 
-  of_primitive : (x : RowFound) → is_template e.tag ≡ false → find_row table e.tag ≡ x
+  of_primitive : (x : Option ℕ) → is_template e.tag ≡ false → find_row table e.tag ≡ x
       → dol_entry_bytes table store e ≡ dol_bytes_of_row_found table store e.asked x
   unfolding dol_entry_bytes
   of_primitive x t p = if_no _ _ t ∙ ap (dol_bytes_of_row_found table store e.asked) p
 
-  pub of_unknown : is_template e.tag ≡ false → find_row table e.tag ≡ Unknown
+  pub of_unknown : is_template e.tag ≡ false → find_row table e.tag ≡ None
       → dol_entry_bytes table store e ≡ zero_bytes e.asked
-  of_unknown t p = of_primitive Unknown t p
+  of_unknown t p = of_primitive None t p
 
-  module _ (k : ℕ) (t : is_template e.tag ≡ false) (p : find_row table e.tag ≡ At k) where
-    by_value : (x : StoredValue) → row_value table store k ≡ x
+  module _ (k : ℕ) (t : is_template e.tag ≡ false) (p : find_row table e.tag ≡ Some k) where
+    pub by_value : (x : StoredValue) → row_value table store k ≡ x
         → dol_entry_bytes table store e ≡ dol_value_bytes (row_in table k).form e.asked x
-    by_value x q = of_primitive (At k) t p ∙ ap (dol_value_bytes (row_in table k).form e.asked) q
-
-    pub of_absent : is_present (row_value table store k) ≡ false → dol_entry_bytes table store e ≡ zero_bytes e.asked
-    of_absent q = go (row_value table store k) refl q
-      where
-        go : (x : StoredValue) → row_value table store k ≡ x → is_present x ≡ false
-            → dol_entry_bytes table store e ≡ zero_bytes e.asked
-        go absent r a = by_value absent r
-        go (present v) r a = cc
-
-    pub of_present : is_present (row_value table store k) ≡ true
-        → dol_entry_bytes table store e ≡ fitted_to_length (row_in table k).form e.asked
-        (bytes_or_empty_if_absent (row_value table store k))
-    of_present q = go (row_value table store k) refl q
-      where
-        go : (x : StoredValue) → row_value table store k ≡ x → is_present x ≡ true
-            → dol_entry_bytes table store e ≡ fitted_to_length (row_in table k).form e.asked
-            (bytes_or_empty_if_absent (row_value table store k))
-        go absent r a = cc
-        go (present v) r a = by_value (present v) r ∙ ap (λ (x : StoredValue). fitted_to_length (row_in table k).form
-            e.asked (bytes_or_empty_if_absent x)) (sym r)
+    by_value x q = of_primitive (Some k) t p ∙ ap (dol_value_bytes (row_in table k).form e.asked) q
 
 -- ---- lengths
 
@@ -69,9 +47,9 @@ module _ (table : List Row) (store : List ℕ) where
   value_length form n absent = length-replicate n 0
   value_length form n (present v) = fitted_length form n v
 
-  found_length : (n : ℕ) (x : RowFound) → length (dol_bytes_of_row_found table store n x) ≡ n
-  found_length n Unknown = length-replicate n 0
-  found_length n (At k) = value_length (row_in table k).form n (row_value table store k)
+  found_length : (n : ℕ) (x : Option ℕ) → length (dol_bytes_of_row_found table store n x) ≡ n
+  found_length n None = length-replicate n 0
+  found_length n (Some k) = value_length (row_in table k).form n (row_value table store k)
 
   -- an entry's bytes are as many as it requests
   pub entry_length : (e : DolEntry) → length (dol_entry_bytes table store e) ≡ e.asked
@@ -96,28 +74,28 @@ module _ (table : List Row) (store : List ℕ) where
       ap (λ (r : List ℕ). dol_entry_bytes table store e ++ r) (filling_join es fs) ∙ sym
       (append_assoc (dol_entry_bytes table store e) _ _)
 
-  pub filled_some : (x : Option (List DolEntry)) (es : List DolEntry) → x ≡ some es → dol_data_if_parsed table store x
-      ≡ some (dol_data table store es)
+  pub filled_some : (x : Option (List DolEntry)) (es : List DolEntry) → x ≡ Some es → dol_data_if_parsed table store x
+      ≡ Some (dol_data table store es)
   unfolding dol_data_if_parsed
   filled_some x es p = rw p
 
   -- where a filling is, there are its entries
-  filled_entries : (x : Option (List DolEntry)) (v : List ℕ) → dol_data_if_parsed table store x ≡ some v
-      → (es : List DolEntry) × (x ≡ some es) × (dol_data table store es ≡ v)
+  filled_entries : (x : Option (List DolEntry)) (v : List ℕ) → dol_data_if_parsed table store x ≡ Some v
+      → (es : List DolEntry) × (x ≡ Some es) × (dol_data table store es ≡ v)
   unfolding dol_data_if_parsed
-  filled_entries none v p = let z : ◌≡◌ {A = ℕ} 0 1 = cc in absurd (omega arith)
-  filled_entries (some es) v p = let e : dol_data table store es ≡ v = cc in (es, refl, e)
+  filled_entries None v p = let z : ◌≡◌ {A = ℕ} 0 1 = cc in absurd (omega arith)
+  filled_entries (Some es) v p = let e : dol_data table store es ≡ v = cc in (es, refl, e)
 
   -- the filling of two whole lists concatenated is their fillings concatenated
-  pub filled_join : (s t v w : List ℕ) → dol_filled table store s ≡ some v → dol_filled table store t ≡ some w
-      → dol_filled table store (s ++ t) ≡ some (v ++ w)
+  pub filled_join : (s t v w : List ℕ) → dol_filled table store s ≡ Some v → dol_filled table store t ≡ Some w
+      → dol_filled table store (s ++ t) ≡ Some (v ++ w)
   filled_join s t v w p q =
       let a = filled_entries (dol_entries s) v p in
       let b = filled_entries (dol_entries t) w q in
-      filled_some _ _ (entries_join s t a.0 b.0 a.1 b.1) ∙ ap some
+      filled_some _ _ (entries_join s t a.0 b.0 a.1 b.1) ∙ ap Some
       (filling_join a.0 b.0 ∙ ap₂ ◌++◌ a.2 b.2)
 
   -- nothing is requested, nothing is filled
-  pub filled_nothing : dol_filled table store [] ≡ some []
+  pub filled_nothing : dol_filled table store [] ≡ Some []
   unfolding dol_data
   filled_nothing = filled_some _ [] (entries_end [] refl)

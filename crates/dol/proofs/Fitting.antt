@@ -38,9 +38,9 @@ module _ (form n : ℕ) (v : List ℕ) where
 
   -- ---- lengths
 
-  pub cut-length : n ≤ length v → length (truncated_to_length form n v) ≡ n
+  pub cut_length : n ≤ length v → length (truncated_to_length form n v) ≡ n
   unfolding truncated_to_length
-  cut-length h =
+  cut_length h =
       if_ind (λ (l : List ℕ). length l ≡ n) (eqb form form_n) _ _
       (λ _. simp length-drop (omega arith)) (λ _. simp length-take (omega arith))
 
@@ -63,7 +63,7 @@ module _ (form n : ℕ) (v : List ℕ) where
 -- a fitted value has the length that was requested
 pub fitted_length : (form n : ℕ) (v : List ℕ) → length (fitted_to_length form n v) ≡ n
 fitted_length form n v = elim (le-or-gt n (length v)) [
-  | inl h ↦ ap length (fitted_cut form n v h) ∙ cut-length form n v h
+  | inl h ↦ ap length (fitted_cut form n v h) ∙ cut_length form n v h
   | inr h ↦ ap length (fitted_short form n v h) ∙ padded_length form n v (omega arith)
 ]
 

@@ -1,14 +1,11 @@
 -- Filling a DOL from a store (document 01, "Commands and steps", filling; Book 3, 1.4). What holds here holds of every
 -- table of rows.
 -- Assumes nothing.
-use Rattle.std.specs.Prelude.{List, [], ◌∷◌, ◌++◌, ℕ, ◌-◌, length, take, drop, replicate}
-use Rattle.std.proofs.Math.Option.{Option, some, none}
+use Rattle.std.specs.Prelude.{List, [], ◌∷◌, ◌++◌, ℕ, ◌-◌, length, take, drop, replicate, Option, Some, None}
 use Rattle.basics.specs.Types.{Byte, Bytes, DolBytes, Length, StoreBytes, Value}
 use Rattle.basics.specs.Choice.{when◌then◌else◌, ◌≤?◌, ◌=?◌}
 use Rattle.tlv.specs.Tag.{is_template}
 use Rattle.dictionary.specs.Rows.{Row, row_in, find_row, form_n, form_cn}
-use Rattle.dictionary.specs.declared.RowFound.{RowFound}
-use Rattle.dictionary.specs.declared.RowFound.TheVariants.{At, Unknown}
 use Rattle.store.specs.Place.{StoredValue, absent, present, row_value}
 use Rattle.dol.specs.declared.DolEntry.{DolEntry}
 use Rattle.dol.specs.Entries.{dol_entries}
@@ -41,9 +38,9 @@ dol_value_bytes form k absent = zero_bytes k
 dol_value_bytes form k (present v) = fitted_to_length form k v
 
 -- an unknown tag gives zeros
-abbrev pub dol_bytes_of_row_found : List Row → StoreBytes → Length → RowFound → Bytes
-dol_bytes_of_row_found table store k Unknown = zero_bytes k
-dol_bytes_of_row_found table store k (At row) = dol_value_bytes (row_in table row).form k (row_value table store row)
+abbrev pub dol_bytes_of_row_found : List Row → StoreBytes → Length → Option ℕ → Bytes
+dol_bytes_of_row_found table store k None = zero_bytes k
+dol_bytes_of_row_found table store k (Some row) = dol_value_bytes (row_in table row).form k (row_value table store row)
 
 -- an entry's bytes: a template's tag gives zeros
 unfoldable pub dol_entry_bytes : List Row → StoreBytes → DolEntry → Bytes
@@ -58,8 +55,8 @@ dol_data table store (e ∷ es) = dol_entry_bytes table store e ++ dol_data tabl
 
 -- the filling of the entries that a list has; none where it is broken
 unfoldable pub dol_data_if_parsed : List Row → StoreBytes → Option (List DolEntry) → Option Bytes
-dol_data_if_parsed table store none = none
-dol_data_if_parsed table store (some es) = some (dol_data table store es)
+dol_data_if_parsed table store None = None
+dol_data_if_parsed table store (Some es) = Some (dol_data table store es)
 
 -- a list filled from a store, or none where the list is broken
 abbrev pub dol_filled : List Row → StoreBytes → DolBytes → Option Bytes

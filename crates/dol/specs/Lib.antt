@@ -1,3 +1,4 @@
 pub mod Entries
 pub mod Filling
 pub mod Measure
+pub mod Inner

@@ -1,15 +1,14 @@
 // DOLs: a list that names tags and lengths is measured, and filled from a store.
 #![tactic(auto)]
 
-ghost use Rattle.std.specs.Prelude.{◌≡◌, ◌+◌, ◌-◌, ◌≤◌, ◌<◌, length, take, drop, replicate};
+ghost use Rattle.std.specs.Prelude.{◌≡◌, ◌≤◌, length, option_map};
 ghost use Rattle.dictionary.specs.Rows.{dictionary_rows};
-ghost use Rattle.dictionary.specs.Tables.{AreDictionaryTables};
 ghost use Rattle.dol.specs.Entries.{dol_entry_at, dol_entries};
 ghost use Rattle.dol.specs.Filling.{truncated_to_length, padding_byte, padded_to_length, fitted_to_length, dol_entry_bytes, dol_filled};
-ghost use Rattle.dol.specs.Measure.{dol_total_if_at_most255, FilledDolFitsAt, buffer_with_bytes_at, buffer_with_filled_dol_at};
+ghost use Rattle.dol.specs.Inner.{dol_bytes_of_form_and_value};
+ghost use Rattle.dol.specs.Measure.{dol_total_if_at_most255, FilledDolFitsAt, buffer_with_filled_dol_at};
 
-use dictionary::{ROWS, RowFound};
-use tlv::TagFront;
+use dictionary::DictionaryTables;
 
 // An entry of a list: the tag, and how many bytes are requested of it.
 #[derive(Clone, Copy)]
@@ -18,38 +17,22 @@ pub struct DolEntry {
     pub asked: u8,
 }
 
-// What is at the front of a list: an entry and its size in the list, or none.
-#[derive(Clone, Copy)]
-pub enum DolEntryFront {
-    Asked(DolEntry, usize),
-    Broken,
-}
-
-// How many bytes a list requests: a total of at most 255, or a list that is broken or requests more.
-#[derive(Clone, Copy)]
-pub enum DolTotal {
-    Total(usize),
-    Unfit,
-}
-
 // How many bytes a list requests.
-pub fn measure(list: &[u8]) -> DolTotal
+// Kept: a walk over the rest of the list, here and in `fill`: an entry's own size says where the next one is.
+pub fn measure(list: &[u8]) -> Option<usize>
     ensures { result ≡ dol_total_if_at_most255 (dol_entries list.now) }
 {
     let mut rest = list;
     let mut total = 0;
-    while rest.len() != 0 {
-        let front = entry_at(rest);
-        let DolEntryFront::Asked(entry, size) = front else {
-            return DolTotal::Unfit;
-        };
-        total += basics::widen(entry.asked);
+    while !rest.is_empty() {
+        let (entry, size) = entry_at(rest)?;
+        total += usize::from(entry.asked);
         if 255 < total {
-            return DolTotal::Unfit;
+            return None;
         }
         rest = &rest[size..];
     }
-    DolTotal::Total(total)
+    Some(total)
 }
 
 // Writes the filling of a whole list from a place on. A list is measured first: this one is whole, and its filling ends
@@ -58,156 +41,105 @@ pub fn fill(list: &[u8], store: &[u8], buffer: &mut [u8], at: usize)
     requires { FilledDolFitsAt (dol_entries list.now) at (length buffer.old) }
     ensures { buffer.new ≡ buffer_with_filled_dol_at buffer.old at (dol_filled dictionary_rows store.now list.now) }
 {
-    let tags = dictionary::dictionary_tags();
-    let codes = dictionary::packed_row_attributes();
-    fill_entries(list, store, buffer, at, &tags, &codes);
-}
-
-// The same with the table borrowed: entry by entry.
-fn fill_entries(
-    list: &[u8],
-    store: &[u8],
-    buffer: &mut [u8],
-    at: usize,
-    tags: &[u32; ROWS],
-    codes: &[u32; ROWS],
-)
-    requires filled_dol_fits_at { FilledDolFitsAt (dol_entries list.now) at (length buffer.old) }
-    requires are_dictionary_tables { AreDictionaryTables tags.now codes.now }
-    ensures { buffer.new ≡ buffer_with_filled_dol_at buffer.old at (dol_filled dictionary_rows store.now list.now) }
-{
+    let tables = DictionaryTables::new();
     let mut rest = list;
     let mut to = at;
-    while rest.len() != 0 {
-        let front = entry_at(rest);
-        let DolEntryFront::Asked(entry, size) = front else {
-            return;
-        };
-        write_entry(entry, store, buffer, to, tags, codes);
-        to += basics::widen(entry.asked);
+    while let Some((entry, size)) = entry_at(rest) {
+        let end = to + usize::from(entry.asked);
+        write_entry(entry, store, &mut buffer[to..end], &tables);
+        to = end;
         rest = &rest[size..];
     }
 }
 
-// The entry at the front of a list.
-fn entry_at(list: &[u8]) -> DolEntryFront
+// The entry at the front of a list, and how many of its bytes the entry takes.
+#[tactic(auto, using(crate::proofs::Entries::entry_untagged, crate::proofs::Entries::entry_asked, crate::proofs::Entries::entry_short))]
+fn entry_at(list: &[u8]) -> Option<(DolEntry, usize)>
     ensures { result ≡ dol_entry_at list.now }
 {
-    let front = tlv::tag_at(list);
-    let TagFront::Tagged(t) = front else {
-        return DolEntryFront::Broken;
-    };
-    let size = t.size;
-    if size < list.len() {
-        return DolEntryFront::Asked(
-            DolEntry {
-                tag: t.number,
-                asked: list[size],
-            },
-            size + 1,
-        );
-    }
-    DolEntryFront::Broken
+    let tag = tlv::tag_at(list)?;
+    let asked = *list.get(tag.size)?;
+    Some((
+        DolEntry {
+            tag: tag.number,
+            asked,
+        },
+        tag.size + 1,
+    ))
 }
 
-// Writes an entry's bytes.
-fn write_entry(
+// Writes an entry's bytes over as many.
+fn write_entry(entry: DolEntry, store: &[u8], room: &mut [u8], tables: &DictionaryTables)
+    requires { length room.old ≡ entry.asked }
+    ensures { room.new ≡ dol_entry_bytes dictionary_rows store.now entry }
+{
+    match form_and_value(entry, store, tables) {
+        Some((form, v)) => write_value(form, v, room),
+        None => room.fill(0),
+    }
+}
+
+// The form and the value of an entry's object; none for a template's tag, an unknown one, or an absent object.
+fn form_and_value<'a>(
     entry: DolEntry,
-    store: &[u8],
-    buffer: &mut [u8],
-    at: usize,
-    tags: &[u32; ROWS],
-    codes: &[u32; ROWS],
-)
-    requires asked_in_bounds { at + entry.asked ≤ length buffer.old }
-    requires are_dictionary_tables { AreDictionaryTables tags.now codes.now }
-    ensures { buffer.new ≡ buffer_with_bytes_at buffer.old at (dol_entry_bytes dictionary_rows store.now entry) }
+    store: &'a [u8],
+    tables: &DictionaryTables,
+) -> Option<(u8, &'a [u8])>
+    ensures { dol_entry_bytes dictionary_rows store.now entry ≡ dol_bytes_of_form_and_value entry.asked (option_map (λ x. (x.0, x.1.now)) result) }
 {
-    let n = basics::widen(entry.asked);
     if tlv::is_template(entry.tag) {
-        repeat(0, n, buffer, at);
-        return;
+        return None;
     }
-    let found = dictionary::search_tags(tags, entry.tag).found;
-    let RowFound::At(row) = found else {
-        repeat(0, n, buffer, at);
-        return;
-    };
-    if !store::is_present(store, row) {
-        repeat(0, n, buffer, at);
-        return;
-    }
-    let attributes = dictionary::unpack_row_attributes(codes[row]);
-    write_value(attributes.form, n, store::value(store, row), buffer, at);
+    let row = tables.find_row(entry.tag).found?;
+    let v = store::value_if_present(store, row)?;
+    Some((tables.attributes_of(row).form, v))
 }
 
-// Writes a value as the n bytes requested.
-fn write_value(form: u8, n: usize, v: &[u8], buffer: &mut [u8], at: usize)
-    requires { at + n ≤ length buffer.old }
-    ensures { buffer.new ≡ buffer_with_bytes_at buffer.old at (fitted_to_length form n v.now) }
+// Writes a value as the bytes requested.
+#[tactic(auto, using(crate::proofs::Fitting::fitted_cut, crate::proofs::Fitting::fitted_short, crate::proofs::Fitting::cut_length))]
+fn write_value(form: u8, v: &[u8], room: &mut [u8])
+    ensures { room.new ≡ fitted_to_length form (length room.old) v.now }
 {
+    let n = room.len();
     if n <= v.len() {
-        write_truncated(form, n, v, buffer, at);
+        room.copy_from_slice(truncated(form, n, v));
     } else {
-        write_padded(form, n, v, buffer, at);
+        write_padded(form, v, room);
     }
 }
 
-// Writes the part of a value that is left where fewer bytes are requested.
-fn write_truncated(form: u8, n: usize, v: &[u8], buffer: &mut [u8], at: usize)
-    requires { (n ≤ length v.now) × (at + n ≤ length buffer.old) }
-    ensures { buffer.new ≡ buffer_with_bytes_at buffer.old at (truncated_to_length form n v.now) }
+// The part of a value that is left where fewer bytes are requested.
+#[tactic(auto, using(crate::proofs::Fitting::cut_n, crate::proofs::Fitting::cut_other, std::proofs::lemmas::List::take_rest))]
+fn truncated(form: u8, n: usize, v: &[u8]) -> &[u8]
+    requires { n ≤ length v.now }
+    ensures { result.now ≡ truncated_to_length form n v.now }
 {
     if form == dictionary::FORM_N {
-        let from = v.len() - n;
-        place(&v[from..], buffer, at);
-        return;
+        &v[v.len() - n..]
+    } else {
+        &v[..n]
     }
-    place(&v[..n], buffer, at);
 }
 
 // Writes a value and what it gains where more bytes are requested.
-fn write_padded(form: u8, n: usize, v: &[u8], buffer: &mut [u8], at: usize)
-    requires { (length v.now ≤ n) × (at + n ≤ length buffer.old) }
-    ensures { buffer.new ≡ buffer_with_bytes_at buffer.old at (padded_to_length form n v.now) }
+fn write_padded(form: u8, v: &[u8], room: &mut [u8])
+    requires { length v.now ≤ length room.old }
+    ensures { room.new ≡ padded_to_length form (length room.old) v.now }
 {
-    let gap = n - v.len();
     if form != dictionary::FORM_N {
-        place(v, buffer, at);
-        repeat(padding_byte(form), gap, buffer, at + v.len());
-        return;
+        let (front, back) = room.split_at_mut(v.len());
+        front.copy_from_slice(v);
+        back.fill(padding_byte(form));
+    } else {
+        let (front, back) = room.split_at_mut(room.len() - v.len());
+        front.fill(0);
+        back.copy_from_slice(v);
     }
-    repeat(0, gap, buffer, at);
-    place(v, buffer, at + gap);
 }
 
 // The byte that a value grows by at its end.
 fn padding_byte(form: u8) -> u8
     ensures { result ≡ padding_byte form }
 {
-    if form == dictionary::FORM_CN {
-        return 0xFF;
-    }
-    0
-}
-
-// Writes bytes into the buffer from a place on.
-fn place(v: &[u8], buffer: &mut [u8], at: usize)
-    requires { at + length v.now ≤ length buffer.old }
-    ensures { buffer.new ≡ buffer_with_bytes_at buffer.old at v.now }
-{
-    let e = at + v.len();
-    basics::copy(v, &mut buffer[at..e]);
-}
-
-// Writes one byte n times from a place on.
-fn repeat(byte: u8, n: usize, buffer: &mut [u8], at: usize)
-    requires { at + n ≤ length buffer.old }
-    ensures { buffer.new ≡ buffer_with_bytes_at buffer.old at (replicate n byte) }
-{
-    let mut i = 0;
-    while i < n {
-        buffer[at + i] = byte;
-        i += 1;
-    }
+    if form == dictionary::FORM_CN { 0xFF } else { 0 }
 }

@@ -1,11 +1,11 @@
 -- What is never refused: a record in its ranges that has what every stage needs, with the choice or the outcome that
 -- the rest of it gives. A running session has it all, since a listed terminal type ends in 1 to 6.
 -- Assumes nothing.
+use Rattle.std.specs.Prelude.{Some, None, Option}
 use mathlib.Core.Path.{◌≡◌, refl, sym, ap, ◌∙◌}
 use mathlib.Core.Bool.{Bool, true, false, not}
 use mathlib.Core.Logic.{◌⊎◌, inl, inr}
 use mathlib.Core.List.{List}
-use mathlib.Core.Option.{Option}
 use Prim.Native.Nat.{ℕ, zero, suc, ◌%◌, ◌≤◌}
 use native.Mathlib.Omega.{arith}
 use borrow.Author.Tests.{eq-eqb, leb-true}
@@ -22,7 +22,6 @@ use Rattle.analysis.specs.Choice.{lowest_tvr_bit_in_codes, online_capability_by_
 use Rattle.analysis.specs.Choice.{some_tvr_bit_in_codes_of_stage, denial_stage, generate_ac_p1}
 use Rattle.analysis.specs.Action.{terminal_type, action_codes_of}
 use Rattle.analysis.specs.declared.choice.OnlineCapability.{OnlineCapability}
-use Rattle.analysis.specs.declared.choice.LowestBit.{LowestBit}
 use Rattle.session_record.specs.declared.RequestedCryptogram.{RequestedCryptogram}
 use Rattle.session_record.specs.declared.Ending.{Ending}
 use Rattle.session_record.specs.declared.Outcome.{Outcome}
@@ -35,7 +34,6 @@ use Rattle.session_record.proofs.Clauses.{RunningClauses}
 use Rattle.session_record.proofs.Values.{brought_there}
 use Rattle.session.specs.Answer.{outcome_for_cryptogram_type}
 use Rattle.explain.specs.declared.Stage.{Stage}
-use Rattle.explain.specs.declared.DecidingStage.{DecidingStage}
 use Rattle.explain.specs.declared.Explanation.{Explanation}
 use Rattle.explain.specs.Explain.{stored_tvr, recomputed_choice, deciding_stage_by_denial_bit, deciding_stage_in}
 use Rattle.explain.specs.Explain.{tags_needed_by_stage, stage_if_its_data_present, deciding_stage_if_its_data_present}
@@ -109,26 +107,26 @@ module _ (b : List ℕ) (w : Complete b) where
   all_there Stage.Online = both_yes _ _ w.results
       (both_yes _ _ w.denial_code_lem (both_yes _ _ w.online_code_lem refl))
 
-  some_stage : deciding_stage_in b ≡ DecidingStage.Nothing → ⊥
+  some_stage : deciding_stage_in b ≡ None → ⊥
   unfolding deciding_stage_in
   some_stage = go (online_capability_of_type (terminal_type b)) (some_tvr_bit_in_codes_of_stage (stored_tvr b) (action_codes_of b)
       denial_stage) (listed_capable (terminal_type b) w.terminal)
     where
       go : (r : OnlineCapability) (h : Bool) → (r ≡ OnlineCapability.Unlisted → ⊥)
-          → deciding_stage_by_denial_bit r h ≡ DecidingStage.Nothing → ⊥
+          → deciding_stage_by_denial_bit r h ≡ None → ⊥
       go r true n e = let z : ◌≡◌ {A = ℕ} 0 1 = cc in omega arith
       go OnlineCapability.OnlineOnly false n e = let z : ◌≡◌ {A = ℕ} 0 1 = cc in omega arith
       go OnlineCapability.OnlineCapable false n e = let z : ◌≡◌ {A = ℕ} 0 1 = cc in omega arith
       go OnlineCapability.OfflineOnly false n e = let z : ◌≡◌ {A = ℕ} 0 1 = cc in omega arith
       go OnlineCapability.Unlisted false n e = n refl
 
-  decides : deciding_stage_if_its_data_present b ≡ DecidingStage.Nothing → ⊥
+  decides : deciding_stage_if_its_data_present b ≡ None → ⊥
   unfolding deciding_stage_if_its_data_present
   decides = go (deciding_stage_in b) some_stage
     where
-      go : (d : DecidingStage) → (d ≡ DecidingStage.Nothing → ⊥) → stage_if_its_data_present b d ≡ DecidingStage.Nothing → ⊥
-      go DecidingStage.Nothing n e = n refl
-      go (DecidingStage.At stage) n e = let z : DecidingStage.At stage ≡ DecidingStage.Nothing =
+      go : (d : Option Stage) → (d ≡ None → ⊥) → stage_if_its_data_present b d ≡ None → ⊥
+      go None n e = n refl
+      go (Some stage) n e = let z : Some stage ≡ None =
           sym (if_yes _ _ (all_there stage)) ∙ e in n z
 
 -- what a stage reports is no refusal
@@ -136,9 +134,9 @@ says : (b : List ℕ) (stage : Stage) → explanation_at_stage b stage ≡ Expla
 unfolding explanation_at_stage
 says b stage = go (lowest_tvr_bit_in_codes (stored_tvr b) (action_codes_of_stage b stage))
   where
-    go : (l : LowestBit) → explanation_by_bit stage (action_codes_of_stage b stage) l ≡ Explanation.Refused → ⊥
-    go (LowestBit.Bit i) e = let z : ◌≡◌ {A = ℕ} 0 1 = cc in omega arith
-    go LowestBit.NoBit e = let z : ◌≡◌ {A = ℕ} 0 1 = cc in omega arith
+    go : (l : Option ℕ) → explanation_by_bit stage (action_codes_of_stage b stage) l ≡ Explanation.Refused → ⊥
+    go (Some i) e = let z : ◌≡◌ {A = ℕ} 0 1 = cc in omega arith
+    go None e = let z : ◌≡◌ {A = ℕ} 0 1 = cc in omega arith
 
 -- ---- by phase
 
@@ -148,10 +146,10 @@ module _ (b : List ℕ) (w : Complete b) where
       → explanation_awaiting_cryptogram a b (deciding_stage_if_its_data_present b) ≡ Explanation.Refused → ⊥
   waiting_answers a c = go (deciding_stage_if_its_data_present b) (decides b w)
     where
-      go : (d : DecidingStage) → (d ≡ DecidingStage.Nothing → ⊥) → explanation_awaiting_cryptogram a b d
+      go : (d : Option Stage) → (d ≡ None → ⊥) → explanation_awaiting_cryptogram a b d
           ≡ Explanation.Refused → ⊥
-      go DecidingStage.Nothing n e = n refl
-      go (DecidingStage.At stage) n e = says b stage (sym (if_yes _ _ (eq-eqb _ _ (ap generate_ac_p1 c))) ∙ e)
+      go None n e = n refl
+      go (Some stage) n e = says b stage (sym (if_yes _ _ (eq-eqb _ _ (ap generate_ac_p1 c))) ∙ e)
 
   -- ended with the outcome that the cryptogram gives on it
   pub decided_answers : (x : Ending) → has_object b 0x9F27 ≡ true → StoredCryptogramDecidesOutcome b x.outcome
@@ -166,9 +164,9 @@ module _ (b : List ℕ) (w : Complete b) where
       P : Explanation → Type 0
       P r = r ≡ Explanation.Refused → ⊥
 
-      go : (d : DecidingStage) → (d ≡ DecidingStage.Nothing → ⊥) → explanation_of_decision x b d ≡ Explanation.Refused → ⊥
-      go DecidingStage.Nothing n = λ e. n refl
-      go (DecidingStage.At stage) n =
+      go : (d : Option Stage) → (d ≡ None → ⊥) → explanation_of_decision x b d ≡ Explanation.Refused → ⊥
+      go None n = λ e. n refl
+      go (Some stage) n =
           if_ind P _ _ _ (λ t e. (let z : ◌≡◌ {A = Bool} false true = sym (ap not h) ∙ t in let y : ◌≡◌ {A = ℕ} 0 1 = cc
           in omega arith))
           (λ t. if_ind P _ _ _

@@ -2,11 +2,11 @@
 -- there forces, so the lowest bit that is named explains the choice; and from that every clause of what an
 -- explanation promises.
 -- Assumes nothing.
+use Rattle.std.specs.Prelude.{Some, None, Option}
 use mathlib.Core.Path.{◌≡◌, refl, sym, ap, ap₂, subst, subst⁻¹, ◌∙◌}
 use mathlib.Core.Bool.{Bool, true, false, not}
 use mathlib.Core.Logic.{inl, inr}
 use mathlib.Core.List.{List, [], ◌∷◌}
-use mathlib.Core.Option.{Option, some, none}
 use Prim.Native.Nat.{ℕ, zero, suc, ◌≤◌, ◌<◌}
 use native.Mathlib.Nat.{zero-div}
 use native.Mathlib.Omega.{arith}
@@ -24,7 +24,6 @@ use Rattle.analysis.specs.Choice.{online_capability_of_type, choice_by_stages, t
 use Rattle.analysis.specs.Action.{terminal_type, action_codes_of, choice_for_tvr}
 use Rattle.analysis.specs.declared.choice.OnlineCapability.{OnlineCapability}
 use Rattle.analysis.specs.declared.choice.Choice.{Choice}
-use Rattle.analysis.specs.declared.choice.LowestBit.{LowestBit}
 use Rattle.analysis.specs.declared.choice.ActionCodes.{ActionCodes}
 use Rattle.analysis.proofs.Stages.{lowest_held, none_held, all_clear}
 use Rattle.session_record.specs.declared.RequestedCryptogram.{RequestedCryptogram}
@@ -38,7 +37,6 @@ use Rattle.session_record.specs.Session.{store_bytes}
 use Rattle.session_record.specs.Ranges.{mag_stripe_mode}
 use Rattle.session.specs.Answer.{outcome_for_cryptogram_type}
 use Rattle.explain.specs.declared.Stage.{Stage}
-use Rattle.explain.specs.declared.DecidingStage.{DecidingStage}
 use Rattle.explain.specs.declared.ForcedChoiceCause.{ForcedChoiceCause}
 use Rattle.explain.specs.declared.Explanation.{Explanation}
 use Rattle.explain.specs.Explain.{stored_tvr, recomputed_choice, deciding_stage_by_denial_bit, deciding_stage_in}
@@ -55,61 +53,20 @@ use Rattle.explain.specs.Promise.{StoredCryptogramDecidesOutcome, ExplanationHol
 -- ---- the stage that decided
 
 module _ (b : List ℕ) where
-  pub deciding_nothing : deciding_stage_in b ≡ DecidingStage.Nothing → deciding_stage_if_its_data_present b
-      ≡ DecidingStage.Nothing
-  unfolding deciding_stage_if_its_data_present
-  deciding_nothing e = ap (stage_if_its_data_present b) e
-
-  module _ (stage : Stage) (e : deciding_stage_in b ≡ DecidingStage.At stage) where
-    pub deciding_lacks : every (has_object b) (tags_needed_by_stage stage) ≡ false → deciding_stage_if_its_data_present b
-        ≡ DecidingStage.Nothing
-    unfolding deciding_stage_if_its_data_present
-    deciding_lacks n = ap (stage_if_its_data_present b) e ∙ if_no _ _ n
-
-    pub deciding_at : every (has_object b) (tags_needed_by_stage stage) ≡ true → deciding_stage_if_its_data_present b
-        ≡ DecidingStage.At stage
-    unfolding deciding_stage_if_its_data_present
-    deciding_at n = ap (stage_if_its_data_present b) e ∙ if_yes _ _ n
-
   -- a stage that decided is the one that the type and the denial codes determine
-  pub deciding_stage_lem : (stage : Stage) → deciding_stage_if_its_data_present b ≡ DecidingStage.At stage
-      → deciding_stage_in b ≡ DecidingStage.At stage
+  pub deciding_stage_lem : (stage : Stage) → deciding_stage_if_its_data_present b ≡ Some stage
+      → deciding_stage_in b ≡ Some stage
   unfolding deciding_stage_if_its_data_present
   deciding_stage_lem stage e = go (deciding_stage_in b) e
     where
-      go : (d : DecidingStage) → stage_if_its_data_present b d ≡ DecidingStage.At stage → d ≡ DecidingStage.At stage
-      go DecidingStage.Nothing = λ e. e
-      go (DecidingStage.At g) = if_ind (λ (d : DecidingStage). d ≡ DecidingStage.At stage
-          → DecidingStage.At g ≡ DecidingStage.At stage) _ _ _ (λ t e. e) (λ t e. cc)
+      go : (d : Option Stage) → stage_if_its_data_present b d ≡ Some stage → d ≡ Some stage
+      go None = λ e. e
+      go (Some g) = if_ind (λ (d : Option Stage). d ≡ Some stage
+          → Some g ≡ Some stage) _ _ _ (λ t e. e) (λ t e. cc)
 
--- the code asks the denial codes first, and then the type
-module _ (b : List ℕ) {l : LowestBit} {result : List ℕ} {pair : ActionCodes} (f : l ≡ lowest_tvr_bit_in_codes result pair)
-    (r : result ≡ stored_tvr b) where
-  -- the lowest bit that was found is the stage's
-  pub found_at : (stage : Stage) {m : LowestBit} → pair ≡ action_codes_of_stage b stage → l ≡ m
-      → lowest_tvr_bit_in_codes (stored_tvr b) (action_codes_of_stage b stage) ≡ m
-  found_at stage p e = ap₂ lowest_tvr_bit_in_codes (sym r) (sym p) ∙ sym f ∙ e
-
-  module _ (p : pair ≡ action_codes_of_stage b Stage.Denial) where
-    pub stage_denial : {i : ℕ} → l ≡ LowestBit.Bit i → deciding_stage_in b ≡ DecidingStage.At Stage.Denial
-    unfolding deciding_stage_in some_tvr_bit_in_codes_of_stage action_codes_of_stage
-    stage_denial e = ap (λ (m : LowestBit). deciding_stage_by_denial_bit (online_capability_of_type (terminal_type b))
-        (is_some_bit m)) (found_at Stage.Denial p e)
-
-    pub stage_type : {x : OnlineCapability} → l ≡ LowestBit.NoBit → online_capability_of_type (terminal_type b) ≡ x
-        → deciding_stage_in b ≡ deciding_stage_by_denial_bit x false
-    unfolding deciding_stage_in some_tvr_bit_in_codes_of_stage action_codes_of_stage
-    stage_type e c = ap₂ (λ (m : LowestBit) (x : OnlineCapability). deciding_stage_by_denial_bit x (is_some_bit m))
-        (found_at Stage.Denial p e) c
-
-pub bit_within : (result : List ℕ) (pair : ActionCodes) {l : LowestBit} {i : ℕ} → l ≡ lowest_tvr_bit_in_codes result pair
-    → l ≡ LowestBit.Bit i → i < 40
+pub bit_within : (result : List ℕ) (pair : ActionCodes) {l : Option ℕ} {i : ℕ} → l ≡ lowest_tvr_bit_in_codes result pair
+    → l ≡ Some i → i < 40
 bit_within result pair {l} {i} f e = omega (arith, (lowest_held result pair i (sym f ∙ e)).within)
-
--- one object
-pub every_one : (f : ℕ → Bool) (x : ℕ) → every f (x ∷ []) ≡ f x
-unfolding every both
-every_one f x = elim (bool_cases (f x)) [ inl e ↦ rw e | inr e ↦ rw e ]
 
 -- ---- whether it holds a bit
 
@@ -125,7 +82,7 @@ abbrev choice_at : Stage → Bool → Choice
 choice_at stage true = choice_forced_by stage
 choice_at stage false = choice_unforced_at stage
 
-by_stage : (r : OnlineCapability) (h o d : Bool) (stage : Stage) → deciding_stage_by_denial_bit r h ≡ DecidingStage.At stage
+by_stage : (r : OnlineCapability) (h o d : Bool) (stage : Stage) → deciding_stage_by_denial_bit r h ≡ Some stage
     → choice_by_stages r h o d ≡ choice_at stage (held_here stage h o d)
 by_stage r true o d stage e = let z : Stage.Denial ≡ stage = cc in ap (λ (g : Stage). choice_at g (held_here g true o d))
     z
@@ -175,7 +132,7 @@ module _ (b : List ℕ) where
   held_here_lem Stage.Online = refl
 
   -- so a stage with a bit gives exactly its choice
-  stage_choice : (stage : Stage) → deciding_stage_if_its_data_present b ≡ DecidingStage.At stage
+  stage_choice : (stage : Stage) → deciding_stage_if_its_data_present b ≡ Some stage
       → recomputed_choice b ≡ choice_at stage (held_in stage)
   unfolding choice_for_tvr terminal_action_analysis deciding_stage_in
   stage_choice stage e = by_stage _ _ _ _ stage (deciding_stage_lem b stage e) ∙ ap (choice_at stage) (held_here_lem stage)
@@ -206,8 +163,8 @@ plain b r p =
     }
 
 -- the lowest bit that the stage that decided holds, or that it holds none
-module _ (b : List ℕ) (stage : Stage) (e : deciding_stage_if_its_data_present b ≡ DecidingStage.At stage) where
-  found_right : (i : ℕ) → lowest_tvr_bit_in_codes (stored_tvr b) (action_codes_of_stage b stage) ≡ LowestBit.Bit i
+module _ (b : List ℕ) (stage : Stage) (e : deciding_stage_if_its_data_present b ≡ Some stage) where
+  found_right : (i : ℕ) → lowest_tvr_bit_in_codes (stored_tvr b) (action_codes_of_stage b stage) ≡ Some i
       → ForcedChoiceExplained b
       (record { stage = stage; bit = i; holder = action_code_holder_of_bit (action_codes_of_stage b stage) i })
   unfolding tvr_bit_is_in_either_action_code held_in
@@ -220,26 +177,26 @@ module _ (b : List ℕ) (stage : Stage) (e : deciding_stage_if_its_data_present 
         held = both_right _ _ k.passes;
         lowest = λ m h. k.below m (omega arith) h;
         holder = refl;
-        choice = stage_choice b stage e ∙ ap (λ (l : LowestBit). choice_at stage (is_some_bit l)) f;
+        choice = stage_choice b stage e ∙ ap (λ (l : Option ℕ). choice_at stage (is_some_bit l)) f;
       }
 
-  none_right : lowest_tvr_bit_in_codes (stored_tvr b) (action_codes_of_stage b stage) ≡ LowestBit.NoBit
+  none_right : lowest_tvr_bit_in_codes (stored_tvr b) (action_codes_of_stage b stage) ≡ None
       → UnforcedChoiceExplained b stage
   unfolding held_in
   none_right f =
       record {
         decides = e;
         none = none_held (stored_tvr b) (action_codes_of_stage b stage) f;
-        choice = stage_choice b stage e ∙ ap (λ (l : LowestBit). choice_at stage (is_some_bit l)) f;
+        choice = stage_choice b stage e ∙ ap (λ (l : Option ℕ). choice_at stage (is_some_bit l)) f;
       }
 
   reason_right : Right b (explanation_at_stage b stage)
   unfolding explanation_at_stage
   reason_right = go (lowest_tvr_bit_in_codes (stored_tvr b) (action_codes_of_stage b stage)) refl
     where
-      go : (l : LowestBit) → lowest_tvr_bit_in_codes (stored_tvr b) (action_codes_of_stage b stage) ≡ l
+      go : (l : Option ℕ) → lowest_tvr_bit_in_codes (stored_tvr b) (action_codes_of_stage b stage) ≡ l
           → Right b (explanation_by_bit stage (action_codes_of_stage b stage) l)
-      go (LowestBit.Bit i) f =
+      go (Some i) f =
           record {
             named =
                 λ c h.
@@ -252,7 +209,7 @@ module _ (b : List ℕ) (stage : Stage) (e : deciding_stage_if_its_data_present 
             unnamed = λ g h. (let z : ◌≡◌ {A = ℕ} 0 1 = cc in absurd (omega arith));
             lower = λ h. (let z : ◌≡◌ {A = ℕ} 0 1 = cc in absurd (omega arith));
           }
-      go LowestBit.NoBit f =
+      go None f =
           record {
             named = λ c h. (let z : ◌≡◌ {A = ℕ} 0 1 = cc in absurd (omega arith));
             unnamed = λ g h. (let z : stage ≡ g = cc in subst (UnforcedChoiceExplained b) z (none_right f));
@@ -270,15 +227,15 @@ module _ (b : List ℕ) where
         lower = λ e. h;
       }
 
-  waiting_right : (a : RequestedCryptogram) (d : DecidingStage) → deciding_stage_if_its_data_present b ≡ d
+  waiting_right : (a : RequestedCryptogram) (d : Option Stage) → deciding_stage_if_its_data_present b ≡ d
       → Right b (explanation_awaiting_cryptogram a b d)
-  waiting_right a DecidingStage.Nothing e = plain b _ tt
-  waiting_right a (DecidingStage.At g) e = if_ind (Right b) _ _ _ (λ t. reason_right b g e) (λ t. plain b _ tt)
+  waiting_right a None e = plain b _ tt
+  waiting_right a (Some g) e = if_ind (Right b) _ _ _ (λ t. reason_right b g e) (λ t. plain b _ tt)
 
-  decided_right : (x : Ending) (d : DecidingStage) → deciding_stage_if_its_data_present b ≡ d
+  decided_right : (x : Ending) (d : Option Stage) → deciding_stage_if_its_data_present b ≡ d
       → Right b (explanation_of_decision x b d)
-  decided_right x DecidingStage.Nothing e = plain b _ tt
-  decided_right x (DecidingStage.At g) e =
+  decided_right x None e = plain b _ tt
+  decided_right x (Some g) e =
       if_ind (Right b) _ _ _ (λ t. plain b _ tt)
       (λ t. if_ind (Right b) _ _ _ (λ u. plain b _ tt)
       (λ u. if_ind (Right b) _ _ _ (λ v. lower_right (ltb-true _ _ v)) (λ v. reason_right b g e)))
@@ -303,34 +260,6 @@ module _ (x : Ending) (b : List ℕ) where
   pub ended_reason : (x.reason ≡ reason_none → ⊥) → explanation_of_ending x b ≡ Explanation.Reason x.reason
   unfolding explanation_of_ending
   ended_reason n = if_no _ _ (ne_eqb _ _ n)
-
-  module _ (z : x.reason ≡ reason_none) where
-    decided : {d : DecidingStage} → deciding_stage_if_its_data_present b ≡ d
-        → explanation_of_ending x b ≡ explanation_of_decision x b d
-    unfolding explanation_of_ending
-    decided e = if_yes _ _ (eq-eqb _ _ z) ∙ ap (explanation_of_decision x b) e
-
-    pub ended_nothing : deciding_stage_if_its_data_present b ≡ DecidingStage.Nothing
-        → explanation_of_ending x b ≡ Explanation.Refused
-    ended_nothing e = decided e
-
-    module _ (stage : Stage) (e : deciding_stage_if_its_data_present b ≡ DecidingStage.At stage) where
-      pub ended_lacks : has_object b 0x9F27 ≡ false → explanation_of_ending x b ≡ Explanation.Refused
-      ended_lacks h = decided e ∙ if_yes _ _ (ap not h)
-
-      module _ (h : has_object b 0x9F27 ≡ true) where
-        pub ended_other : is_decision_outcome (outcome_for_cryptogram_type (recomputed_choice b) (stored_cryptogram_type b))
-            x.outcome ≡ false → explanation_of_ending x b ≡ Explanation.Refused
-        ended_other g = decided e ∙ if_no _ _ (ap not h) ∙ if_yes _ _ (ap not g)
-
-        module _ (g : is_decision_outcome (outcome_for_cryptogram_type (recomputed_choice b) (stored_cryptogram_type b))
-            x.outcome ≡ true) where
-          pub ended_lower : CryptogramLowerThanRequested b → explanation_of_ending x b ≡ Explanation.LowerCryptogram
-          ended_lower k = decided e ∙ if_no _ _ (ap not h) ∙ if_no _ _ (ap not g) ∙ if_yes _ _ (lt-ltb _ _ k)
-
-          pub ended_stage : rank_of_cryptogram_type (requested_cryptogram_type (recomputed_choice b)) ≤ rank_of_cryptogram_type
-              (stored_cryptogram_type b) → explanation_of_ending x b ≡ explanation_at_stage b stage
-          ended_stage k = decided e ∙ if_no _ _ (ap not h) ∙ if_no _ _ (ap not g) ∙ if_no _ _ (le-ltb _ _ k)
 
 -- record's mag-stripe mode: the card requests it, and the terminal's configuration does not say that it is off
 pub mag_stripe_mode_is : (b : List ℕ) → mag_stripe_mode b ≡ both (aip_indicates_mag_stripe b)
@@ -380,23 +309,23 @@ outcome_back Outcome.Declined = refl
 outcome_back Outcome.Ended = refl
 outcome_back Outcome.SelectNext = refl
 
-pub gives_it : (d : Option Outcome) (o : Outcome) → is_decision_outcome d o ≡ true → d ≡ some o
-gives_it none o e = cc
-gives_it (some x) o e = ap some (sym (outcome_back x) ∙ ap outcome_of (eqb-true (outcome_number x) (outcome_number o) e) ∙
+pub gives_it : (d : Option Outcome) (o : Outcome) → is_decision_outcome d o ≡ true → d ≡ Some o
+gives_it None o e = cc
+gives_it (Some x) o e = ap Some (sym (outcome_back x) ∙ ap outcome_of (eqb-true (outcome_number x) (outcome_number o) e) ∙
     outcome_back o)
 
 module _ (b : List ℕ) where
-  waiting_held : (a : RequestedCryptogram) (d : DecidingStage)
+  waiting_held : (a : RequestedCryptogram) (d : Option Stage)
       → (explanation_awaiting_cryptogram a b d ≡ Explanation.Refused → ⊥) → a.choice ≡ recomputed_choice b
-  waiting_held a DecidingStage.Nothing = λ n. absurd (n refl)
-  waiting_held a (DecidingStage.At g) =
+  waiting_held a None = λ n. absurd (n refl)
+  waiting_held a (Some g) =
       if_ind (λ (r : Explanation). (r ≡ Explanation.Refused → ⊥) → a.choice ≡ recomputed_choice b) _ _ _
       (λ t n. same_p1 _ _ (eqb-true _ _ t)) (λ t n. absurd (n refl))
 
-  decided_given : (x : Ending) (d : DecidingStage) → (explanation_of_decision x b d ≡ Explanation.Refused → ⊥)
+  decided_given : (x : Ending) (d : Option Stage) → (explanation_of_decision x b d ≡ Explanation.Refused → ⊥)
       → StoredCryptogramDecidesOutcome b x.outcome
-  decided_given x DecidingStage.Nothing = λ n. absurd (n refl)
-  decided_given x (DecidingStage.At g) =
+  decided_given x None = λ n. absurd (n refl)
+  decided_given x (Some g) =
       if_ind P _ _ _ (λ t n. absurd (n refl))
       (λ t. if_ind P _ _ _ (λ u n. absurd (n refl)) (λ u n. gives_it _ _ (not-false _ u)))
     where
@@ -426,13 +355,13 @@ module _ (b : List ℕ) where
   unfolding explanation_at_stage
   reason_tells stage = go (lowest_tvr_bit_in_codes (stored_tvr b) (action_codes_of_stage b stage))
     where
-      go : (l : LowestBit) → Tells (explanation_by_bit stage (action_codes_of_stage b stage) l)
-      go (LowestBit.Bit i) = tt
-      go LowestBit.NoBit = tt
+      go : (l : Option ℕ) → Tells (explanation_by_bit stage (action_codes_of_stage b stage) l)
+      go (Some i) = tt
+      go None = tt
 
-  decided_tells : (x : Ending) (d : DecidingStage) → Tells (explanation_of_decision x b d)
-  decided_tells x DecidingStage.Nothing = tt
-  decided_tells x (DecidingStage.At g) =
+  decided_tells : (x : Ending) (d : Option Stage) → Tells (explanation_of_decision x b d)
+  decided_tells x None = tt
+  decided_tells x (Some g) =
       if_ind Tells _ _ _ (λ t. tt)
       (λ t. if_ind Tells _ _ _ (λ u. tt) (λ u. if_ind Tells _ _ _ (λ v. tt) (λ v. reason_tells g)))
 

@@ -3,8 +3,7 @@
 -- those of analysis, and the decision on a cryptogram is that of session: no rule of document 01 is stated twice. How
 -- 95 came about is not examined.
 -- Assumes nothing.
-use Rattle.std.specs.Prelude.{Bool, true, false, not, [], ◌∷◌, ℕ, ◌/◌, get_or}
-use Rattle.std.proofs.Math.Option.{Option, some, none}
+use Rattle.std.specs.Prelude.{Bool, true, false, not, [], ◌∷◌, ℕ, ◌/◌, get_or, Option, Some, None}
 use Rattle.basics.specs.Choice.{when◌then◌else◌, every, ◌and◌, ◌<?◌, ◌=?◌}
 use Rattle.basics.specs.Reason.{reason_none}
 use Rattle.basics.specs.Types.{StoreBytes, TvrBytes, TagList}
@@ -17,7 +16,6 @@ use Rattle.analysis.specs.Choice.{some_tvr_bit_in_codes_of_stage, online_capabil
 use Rattle.analysis.specs.Action.{terminal_type, action_codes_of, choice_for_tvr}
 use Rattle.analysis.specs.declared.choice.OnlineCapability.{OnlineCapability}
 use Rattle.analysis.specs.declared.choice.Choice.{Choice}
-use Rattle.analysis.specs.declared.choice.LowestBit.{LowestBit}
 use Rattle.analysis.specs.declared.choice.ActionCodes.{ActionCodes}
 use Rattle.session_record.specs.declared.AwaitedResponse.{AwaitedResponse}
 use Rattle.session_record.specs.declared.RequestedCryptogram.{RequestedCryptogram}
@@ -30,7 +28,6 @@ use Rattle.session_record.specs.Session.{store_bytes}
 use Rattle.session_record.specs.Ranges.{emv_mode, session_record_in_ranges}
 use Rattle.session.specs.Answer.{outcome_for_cryptogram_type}
 use Rattle.explain.specs.declared.Stage.{Stage}
-use Rattle.explain.specs.declared.DecidingStage.{DecidingStage}
 use Rattle.explain.specs.declared.ActionCodeHolder.{ActionCodeHolder}
 use Rattle.explain.specs.declared.Explanation.{Explanation}
 
@@ -47,15 +44,15 @@ recomputed_choice b = choice_for_tvr b (stored_tvr b)
 -- ---- the stage that decided
 
 -- denial where a bit is held there; else the one that the terminal's type consults, none by a type with another ending
-abbrev pub deciding_stage_by_denial_bit : OnlineCapability → Bool → DecidingStage
-deciding_stage_by_denial_bit r true = DecidingStage.At Stage.Denial
-deciding_stage_by_denial_bit OnlineCapability.OnlineOnly false = DecidingStage.At Stage.OnlineOnly
-deciding_stage_by_denial_bit OnlineCapability.OfflineOnly false = DecidingStage.At Stage.Default
-deciding_stage_by_denial_bit OnlineCapability.OnlineCapable false = DecidingStage.At Stage.Online
-deciding_stage_by_denial_bit OnlineCapability.Unlisted false = DecidingStage.Nothing
+abbrev pub deciding_stage_by_denial_bit : OnlineCapability → Bool → Option Stage
+deciding_stage_by_denial_bit r true = Some Stage.Denial
+deciding_stage_by_denial_bit OnlineCapability.OnlineOnly false = Some Stage.OnlineOnly
+deciding_stage_by_denial_bit OnlineCapability.OfflineOnly false = Some Stage.Default
+deciding_stage_by_denial_bit OnlineCapability.OnlineCapable false = Some Stage.Online
+deciding_stage_by_denial_bit OnlineCapability.Unlisted false = None
 
 -- of a store; an absent type reads as one with another ending
-unfoldable pub deciding_stage_in : StoreBytes → DecidingStage
+unfoldable pub deciding_stage_in : StoreBytes → Option Stage
 deciding_stage_in b =
     deciding_stage_by_denial_bit (online_capability_of_type (terminal_type b))
     (some_tvr_bit_in_codes_of_stage (stored_tvr b) (action_codes_of b) denial_stage)
@@ -73,13 +70,13 @@ abbrev pub tags_needed_by_stage : Stage → TagList
 tags_needed_by_stage stage = 0x95 ∷ 0xDF8121 ∷ tac_tags_of_stage_after_denial stage
 
 -- the stage, if all of it is present
-abbrev pub stage_if_its_data_present : StoreBytes → DecidingStage → DecidingStage
-stage_if_its_data_present b DecidingStage.Nothing = DecidingStage.Nothing
-stage_if_its_data_present b (DecidingStage.At stage) =
-    when every (has_object b) (tags_needed_by_stage stage) then DecidingStage.At stage
-    else DecidingStage.Nothing
+abbrev pub stage_if_its_data_present : StoreBytes → Option Stage → Option Stage
+stage_if_its_data_present b None = None
+stage_if_its_data_present b (Some stage) =
+    when every (has_object b) (tags_needed_by_stage stage) then Some stage
+    else None
 
-unfoldable pub deciding_stage_if_its_data_present : StoreBytes → DecidingStage
+unfoldable pub deciding_stage_if_its_data_present : StoreBytes → Option Stage
 deciding_stage_if_its_data_present b = stage_if_its_data_present b (deciding_stage_in b)
 
 -- ---- the bit that forced it
@@ -103,10 +100,10 @@ action_codes_of_stage b Stage.Default = get_or (action_codes_of b) default_stage
 action_codes_of_stage b Stage.Online = get_or (action_codes_of b) online_stage no_action_codes
 
 -- the lowest bit that they hold, with its holder; where there is none, no bit forced the choice
-abbrev pub explanation_by_bit : Stage → ActionCodes → LowestBit → Explanation
-explanation_by_bit stage pair (LowestBit.Bit i) =
+abbrev pub explanation_by_bit : Stage → ActionCodes → Option ℕ → Explanation
+explanation_by_bit stage pair (Some i) =
     Explanation.Forced (record { stage = stage; bit = i; holder = action_code_holder_of_bit pair i })
-explanation_by_bit stage pair LowestBit.NoBit = Explanation.Unforced stage
+explanation_by_bit stage pair None = Explanation.Unforced stage
 
 -- what a stage reports of the choice
 unfoldable pub explanation_at_stage : StoreBytes → Stage → Explanation
@@ -116,9 +113,9 @@ explanation_at_stage b stage =
 -- ---- waiting on the cryptogram
 
 -- the choice that is held must be the one that the rest gives
-abbrev pub explanation_awaiting_cryptogram : RequestedCryptogram → StoreBytes → DecidingStage → Explanation
-explanation_awaiting_cryptogram a b DecidingStage.Nothing = Explanation.Refused
-explanation_awaiting_cryptogram a b (DecidingStage.At stage) =
+abbrev pub explanation_awaiting_cryptogram : RequestedCryptogram → StoreBytes → Option Stage → Explanation
+explanation_awaiting_cryptogram a b None = Explanation.Refused
+explanation_awaiting_cryptogram a b (Some stage) =
     when generate_ac_p1 a.choice =? generate_ac_p1 (recomputed_choice b) then explanation_at_stage b stage
     else Explanation.Refused
 
@@ -142,14 +139,14 @@ requested_cryptogram_type choice = generate_ac_p1 choice / 64
 
 -- a decision is this outcome
 abbrev pub is_decision_outcome : Option Outcome → Outcome → Bool
-is_decision_outcome none outcome = false
-is_decision_outcome (some d) outcome = outcome_number d =? outcome_number outcome
+is_decision_outcome None outcome = false
+is_decision_outcome (Some d) outcome = outcome_number d =? outcome_number outcome
 
 -- a decision was reached: 9F27 must be present and give the stored outcome on the choice; a cryptogram lower than the
 -- one requested is the reason then
-abbrev pub explanation_of_decision : Ending → StoreBytes → DecidingStage → Explanation
-explanation_of_decision e b DecidingStage.Nothing = Explanation.Refused
-explanation_of_decision e b (DecidingStage.At stage) =
+abbrev pub explanation_of_decision : Ending → StoreBytes → Option Stage → Explanation
+explanation_of_decision e b None = Explanation.Refused
+explanation_of_decision e b (Some stage) =
     let kind = stored_cryptogram_type b in
     let choice = recomputed_choice b in
     when lacks_object b 0x9F27 then Explanation.Refused

@@ -1,8 +1,7 @@
 -- What is promised of an explanation, in the words of document 02, Item 7: it is the one of Explain.antt, and what
 -- follows from that of the bit that is named, of a choice that no bit forced, and of the choice and the outcome.
 -- Assumes nothing.
-use Rattle.std.specs.Prelude.{◌≡◌, true, false, ℕ, ◌<◌}
-use Rattle.std.proofs.Math.Option.{some}
+use Rattle.std.specs.Prelude.{◌≡◌, true, false, ℕ, ◌<◌, Some}
 use Rattle.basics.specs.Choice.{◌or◌}
 use Rattle.basics.specs.Reason.{reason_none}
 use Rattle.basics.specs.Types.{StoreBytes}
@@ -18,7 +17,6 @@ use Rattle.session_record.specs.declared.Session.{Session}
 use Rattle.session_record.specs.Session.{store_bytes}
 use Rattle.session.specs.Answer.{outcome_for_cryptogram_type}
 use Rattle.explain.specs.declared.Stage.{Stage}
-use Rattle.explain.specs.declared.DecidingStage.{DecidingStage}
 use Rattle.explain.specs.declared.ForcedChoiceCause.{ForcedChoiceCause}
 use Rattle.explain.specs.declared.Explanation.{Explanation}
 use Rattle.explain.specs.Explain.{stored_tvr, recomputed_choice, deciding_stage_if_its_data_present}
@@ -43,7 +41,7 @@ choice_unforced_at Stage.Online = Choice.Offline
 -- a bit that is named: the stage decided, the bit is set and held in a code of the stage, no lower one is, its holder
 -- holds it, and a bit of that stage forces exactly this choice
 pub record ForcedChoiceExplained (store : StoreBytes) (cause : ForcedChoiceCause) : Type 0 where
-  pub decides : deciding_stage_if_its_data_present store ≡ DecidingStage.At cause.stage
+  pub decides : deciding_stage_if_its_data_present store ≡ Some cause.stage
   pub within : cause.bit < 40
   pub set : has_bit_counted_from_zero_at_byte1b8 (stored_tvr store) cause.bit ≡ true
   pub held : let pair = action_codes_of_stage store cause.stage in
@@ -56,7 +54,7 @@ pub record ForcedChoiceExplained (store : StoreBytes) (cause : ForcedChoiceCause
 
 -- a choice that no bit forced: the stage decided, it holds no bit, and the choice is the one that the type leaves
 pub record UnforcedChoiceExplained (store : StoreBytes) (deciding_stage : Stage) : Type 0 where
-  pub decides : deciding_stage_if_its_data_present store ≡ DecidingStage.At deciding_stage
+  pub decides : deciding_stage_if_its_data_present store ≡ Some deciding_stage
   pub none : (i : ℕ) → i < 40
       → tvr_bit_is_in_either_action_code (stored_tvr store) (action_codes_of_stage store deciding_stage) i ≡ false
   pub choice : recomputed_choice store ≡ choice_unforced_at deciding_stage
@@ -68,7 +66,7 @@ CryptogramLowerThanRequested b =
 
 -- the decision on the stored cryptogram, by the choice, is the outcome
 abbrev pub StoredCryptogramDecidesOutcome : StoreBytes → Outcome → Type 0
-StoredCryptogramDecidesOutcome b o = outcome_for_cryptogram_type (recomputed_choice b) (stored_cryptogram_type b) ≡ some o
+StoredCryptogramDecidesOutcome b o = outcome_for_cryptogram_type (recomputed_choice b) (stored_cryptogram_type b) ≡ Some o
 
 -- what is promised of the explanation r of a session; one that is not refused holds the choice that the rest of the
 -- record gives, or, outside mag-stripe mode, the outcome that its cryptogram gives; after reason 0 there is no choice

@@ -19,9 +19,8 @@ ghost use Rattle.explain.specs.Explain.{explanation_of_ending_by_mode, explanati
 ghost use Rattle.explain.specs.Promise.{ExplanationHolds};
 ghost use Rattle.explain.specs.Word.{stage_number, holder_number, explained_choice_word, explanation_word};
 
-use analysis::choice::{ActionCodes, Choice, DEFAULT, DENIAL, LowestBit, ONLINE, OnlineCapability};
+use analysis::choice::{ActionCodes, Choice, DEFAULT, DENIAL, ONLINE, OnlineCapability};
 use dictionary::{ROW_AIP, ROW_CID, ROW_TAC_DEFAULT, ROW_TAC_DENIAL, ROW_TAC_ONLINE, ROW_TVR};
-use session::CryptogramOutcome;
 use session_record::{AwaitedResponse, Ending, Outcome, Phase, RequestedCryptogram, Session};
 
 // The stage that decided a choice: denial, the type of a terminal that is online only, default, online.
@@ -31,13 +30,6 @@ pub enum Stage {
     OnlineOnly,
     Default,
     Online,
-}
-
-// The stage that decided, or nothing where a store lacks what determines it.
-#[derive(Clone, Copy)]
-pub enum DecidingStage {
-    At(Stage),
-    Nothing,
 }
 
 // Whose code holds a bit.
@@ -110,22 +102,22 @@ fn explain_awaited(awaited: AwaitedResponse, bytes: &[u8]) -> Explanation
     ensures { result ≡ explanation_while_awaiting awaited bytes.now }
 {
     match awaited {
-        AwaitedResponse::Gpo => Explanation::NoChoice,
-        AwaitedResponse::Record(_) => Explanation::NoChoice,
         AwaitedResponse::Cryptogram(asked) => waiting(asked, bytes),
-        AwaitedResponse::Checksum(_) => Explanation::NoChoice,
+        AwaitedResponse::Gpo | AwaitedResponse::Record(_) | AwaitedResponse::Checksum(_) => {
+            Explanation::NoChoice
+        }
     }
 }
 
 // Waiting on the cryptogram: the choice held must be the one that the store gives.
+// Kept: `explanation_awaiting_cryptogram`, a definition that stays, compares the choices by their P1.
 fn waiting(asked: RequestedCryptogram, bytes: &[u8]) -> Explanation
     ensures { result ≡ explanation_awaiting_cryptogram asked bytes.now (deciding_stage_if_its_data_present bytes.now) }
 {
-    let DecidingStage::At(stage) = deciding_in(bytes) else {
+    let Some(stage) = deciding_in(bytes) else {
         return Explanation::Refused;
     };
-    let choice = asked.choice;
-    if analysis::choice::generate_ac_p1(choice)
+    if analysis::choice::generate_ac_p1(asked.choice)
         != analysis::choice::generate_ac_p1(choice_in(bytes))
     {
         return Explanation::Refused;
@@ -137,10 +129,7 @@ fn waiting(asked: RequestedCryptogram, bytes: &[u8]) -> Explanation
 fn ended_by(end: Ending, bytes: &[u8]) -> Explanation
     ensures { result ≡ explanation_of_ending_by_mode end bytes.now }
 {
-    if end.reason != basics::REASON_NONE {
-        return ended(end, bytes);
-    }
-    if card_asks_mag_stripe(bytes) {
+    if end.reason == basics::REASON_NONE && card_asks_mag_stripe(bytes) {
         return Explanation::NoChoice;
     }
     ended(end, bytes)
@@ -150,10 +139,7 @@ fn ended_by(end: Ending, bytes: &[u8]) -> Explanation
 fn card_asks_mag_stripe(bytes: &[u8]) -> bool
     ensures { result ≡ aip_indicates_mag_stripe bytes.now }
 {
-    if !store::is_present(bytes, ROW_AIP) {
-        return false;
-    }
-    !session_record::is_emv_mode(bytes)
+    store::is_present(bytes, ROW_AIP) && !session_record::is_emv_mode(bytes)
 }
 
 // Ended: the reason, or why it was decided so.
@@ -163,7 +149,7 @@ fn ended(end: Ending, bytes: &[u8]) -> Explanation
     if end.reason != basics::REASON_NONE {
         return Explanation::Reason(end.reason);
     }
-    let DecidingStage::At(stage) = deciding_in(bytes) else {
+    let Some(stage) = deciding_in(bytes) else {
         return Explanation::Refused;
     };
     if !store::is_present(bytes, ROW_CID) {
@@ -171,8 +157,7 @@ fn ended(end: Ending, bytes: &[u8]) -> Explanation
     }
     let kind = basics::byte_at(store::value(bytes, ROW_CID), 0) / 64;
     let choice = choice_in(bytes);
-    let outcome = end.outcome;
-    if !decides(choice, kind, outcome) {
+    if !decides(choice, kind, end.outcome) {
         return Explanation::Refused;
     }
     if cryptogram_rank(kind) < cryptogram_rank(analysis::choice::generate_ac_p1(choice) / 64) {
@@ -185,11 +170,7 @@ fn ended(end: Ending, bytes: &[u8]) -> Explanation
 fn decides(choice: Choice, kind: u8, outcome: Outcome) -> bool
     ensures { result ≡ is_decision_outcome (outcome_for_cryptogram_type choice kind) outcome }
 {
-    let CryptogramOutcome::On(d) = session::outcome_for_cryptogram_type(choice, kind) else {
-        return false;
-    };
-    let given = d.outcome;
-    session_record::outcome_number(given) == session_record::outcome_number(outcome)
+    session::outcome_for_cryptogram_type(choice, kind) == Some(outcome)
 }
 
 // The rank of a cryptogram's type, the top two bits of 9F27 and of P1: AAC, then ARQC, then TC.
@@ -218,35 +199,27 @@ fn choice_in(bytes: &[u8]) -> Choice
 }
 
 // The stage that decided, if what the stages consulted need is present.
-fn deciding_in(bytes: &[u8]) -> DecidingStage
+fn deciding_in(bytes: &[u8]) -> Option<Stage>
     ensures { result ≡ deciding_stage_if_its_data_present bytes.now }
 {
-    let deciding = stage_in(bytes);
-    let DecidingStage::At(stage) = deciding else {
-        return deciding;
-    };
-    if !is_complete(stage, bytes) {
-        return DecidingStage::Nothing;
-    }
-    deciding
+    let stage = stage_in(bytes)?;
+    is_complete(stage, bytes).then_some(stage)
 }
 
 // The stage that decided: denial where it holds a bit, else by the terminal's type.
-fn stage_in(bytes: &[u8]) -> DecidingStage
+fn stage_in(bytes: &[u8]) -> Option<Stage>
     ensures { result ≡ deciding_stage_in bytes.now }
 {
     let pair = pair_at(Stage::Denial, bytes);
-    if let LowestBit::Bit(_) = analysis::choice::lowest_tvr_bit_in_codes(result_in(bytes), pair) {
-        return DecidingStage::At(Stage::Denial);
+    if analysis::choice::lowest_tvr_bit_in_codes(result_in(bytes), pair).is_some() {
+        return Some(Stage::Denial);
     }
-    let capability = analysis::choice::online_capability_of_type(analysis::action::terminal_type(
-        bytes,
-    ));
-    match capability {
-        OnlineCapability::OnlineOnly => DecidingStage::At(Stage::OnlineOnly),
-        OnlineCapability::OfflineOnly => DecidingStage::At(Stage::Default),
-        OnlineCapability::OnlineCapable => DecidingStage::At(Stage::Online),
-        OnlineCapability::Unlisted => DecidingStage::Nothing,
+    let terminal = analysis::action::terminal_type(bytes);
+    match analysis::choice::online_capability_of_type(terminal) {
+        OnlineCapability::OnlineOnly => Some(Stage::OnlineOnly),
+        OnlineCapability::OfflineOnly => Some(Stage::Default),
+        OnlineCapability::OnlineCapable => Some(Stage::Online),
+        OnlineCapability::Unlisted => None,
     }
 }
 
@@ -254,18 +227,13 @@ fn stage_in(bytes: &[u8]) -> DecidingStage
 fn is_complete(stage: Stage, bytes: &[u8]) -> bool
     ensures { result ≡ every (has_object bytes.now) (tags_needed_by_stage stage) }
 {
-    if !store::is_present(bytes, ROW_TVR) {
-        return false;
-    }
-    if !store::is_present(bytes, ROW_TAC_DENIAL) {
-        return false;
-    }
-    match stage {
-        Stage::Denial => true,
-        Stage::OnlineOnly => true,
-        Stage::Default => store::is_present(bytes, ROW_TAC_DEFAULT),
-        Stage::Online => store::is_present(bytes, ROW_TAC_ONLINE),
-    }
+    store::is_present(bytes, ROW_TVR)
+        && store::is_present(bytes, ROW_TAC_DENIAL)
+        && match stage {
+            Stage::Denial | Stage::OnlineOnly => true,
+            Stage::Default => store::is_present(bytes, ROW_TAC_DEFAULT),
+            Stage::Online => store::is_present(bytes, ROW_TAC_ONLINE),
+        }
 }
 
 // The codes of a stage; those of the online-only type hold no bit.
@@ -289,7 +257,7 @@ fn reason_at(stage: Stage, bytes: &[u8]) -> Explanation
     ensures { result ≡ explanation_at_stage bytes.now stage }
 {
     let pair = pair_at(stage, bytes);
-    let LowestBit::Bit(i) = analysis::choice::lowest_tvr_bit_in_codes(result_in(bytes), pair) else {
+    let Some(i) = analysis::choice::lowest_tvr_bit_in_codes(result_in(bytes), pair) else {
         return Explanation::Unforced(stage);
     };
     let holder = holder_of(pair, i);
@@ -301,9 +269,7 @@ fn reason_at(stage: Stage, bytes: &[u8]) -> Explanation
 fn holder_of(pair: ActionCodes, i: usize) -> ActionCodeHolder
     ensures { result ≡ action_code_holder_of_bit pair i }
 {
-    let card = pair.card;
-    let terminal = pair.terminal;
-    holder_by(has_bit(card, i), has_bit(terminal, i))
+    holder_by(has_bit(pair.card, i), has_bit(pair.terminal, i))
 }
 
 // Bit i of a code, counted from byte 1 b8.
@@ -317,16 +283,12 @@ fn has_bit(code: [u8; 5], i: usize) -> bool
 fn holder_by(card: bool, terminal: bool) -> ActionCodeHolder
     ensures { result ≡ holder_by_codes card terminal }
 {
-    if card {
-        if terminal {
-            return ActionCodeHolder::Both;
-        }
-        return ActionCodeHolder::Card;
+    match (card, terminal) {
+        (true, true) => ActionCodeHolder::Both,
+        (true, false) => ActionCodeHolder::Card,
+        (false, true) => ActionCodeHolder::Terminal,
+        (false, false) => ActionCodeHolder::Nobody,
     }
-    if terminal {
-        return ActionCodeHolder::Terminal;
-    }
-    ActionCodeHolder::Nobody
 }
 
 // ---- numbers
@@ -336,15 +298,11 @@ pub fn explanation_word(explanation: Explanation) -> u32
     ensures { result ≡ explanation_word explanation }
 {
     match explanation {
-        Explanation::Refused => REFUSED + basics::widen32(basics::REFUSED_RANGES),
-        Explanation::Reason(number) => REASON + basics::widen32(number),
+        Explanation::Refused => REFUSED + u32::from(basics::REFUSED_RANGES),
+        Explanation::Reason(number) => REASON + u32::from(number),
         Explanation::NoChoice => NO_CHOICE,
         Explanation::LowerCryptogram => LOWER_CRYPTOGRAM,
-        Explanation::Forced(cause) => {
-            let stage = cause.stage;
-            let holder = cause.holder;
-            choice_word(stage, holder, cause.bit)
-        }
+        Explanation::Forced(cause) => choice_word(cause.stage, cause.holder, cause.bit),
         Explanation::Unforced(stage) => choice_word(stage, ActionCodeHolder::Nobody, NO_BIT),
     }
 }
@@ -353,9 +311,10 @@ pub fn explanation_word(explanation: Explanation) -> u32
 fn choice_word(stage: Stage, holder: ActionCodeHolder, bit: u8) -> u32
     ensures { result ≡ explained_choice_word stage holder bit }
 {
-    CHOICE + stage_number(stage) * 4096 + holder_number(holder) * 256 + basics::widen32(bit)
+    CHOICE + stage_number(stage) * 4096 + holder_number(holder) * 256 + u32::from(bit)
 }
 
+// Kept: beside `holder_number`: each gives the numbers of its own enum, which `explanation_word` of specs/Word states.
 fn stage_number(stage: Stage) -> u32
     ensures { (result ≡ stage_number stage) × (result < 4) }
 {

@@ -3,11 +3,11 @@
 -- goes by is as it was. So a decision is explained unless its answer brought a code; two inductions over the calls,
 -- each by the same cases, carry both.
 -- Assumes nothing.
+use Rattle.std.specs.Prelude.{Option, Some, None}
 use mathlib.Core.Path.{◌≡◌, refl, sym, ap, ap₂, subst, ◌∙◌}
 use mathlib.Core.Bool.{Bool, true, false, not}
 use mathlib.Core.Logic.{◌⊎◌, inl, inr}
 use mathlib.Core.List.{List, [], ◌∷◌, ◌++◌, map}
-use mathlib.Core.Option.{Option, some, none}
 use Prim.Native.Nat.{ℕ, ◌+◌}
 use native.Mathlib.Omega.{arith}
 use lib.ListN.{length, get_or}
@@ -187,7 +187,7 @@ module _ (s : Session) (a : RequestedCryptogram) (card buf : List ℕ) (i : sess
 
     -- a decision on the stored cryptogram: what the choice goes by stays, unless a code is brought
     decision_answers : (x : Outcome) → cid_atc_and_cryptogram_present o.store ≡ true
-        → outcome_for_cryptogram_type a.choice (stored_cryptogram_type o.store) ≡ some x
+        → outcome_for_cryptogram_type a.choice (stored_cryptogram_type o.store) ≡ Some x
         → Leaves s (answer card buf)
         (without_command (ended_reply (cvm_number a.cvm) s.count o.store (ending_of x reason_none)) buf)
     unfolding is_final_ac_answer_bringing_iac
@@ -245,8 +245,8 @@ module _ (s : Session) (a : RequestedCryptogram) (card buf : List ℕ) (i : sess
         → outcome_for_cryptogram_type a.choice (stored_cryptogram_type o.store) ≡ x
         → Leaves s (answer card buf)
         (without_command (ended_reply (cvm_number a.cvm) s.count o.store (ending_for_decision x)) buf)
-    end_answers none t e = failed s (answer card buf) buf _ 8 _ (record { least = omega arith; most = omega arith })
-    end_answers (some x) t e = decision_answers x t e
+    end_answers None t e = failed s (answer card buf) buf _ 8 _ (record { least = omega arith; most = omega arith })
+    end_answers (Some x) t e = decision_answers x t e
 
     reply_leaves : Leaves s (answer card buf)
         (step_of_next s.count buf (next_on_cryptogram_response a (store_bytes s) card))
@@ -288,7 +288,7 @@ module _ (s : Session) (card buf : List ℕ) (i : session_record_in_ranges s ≡
 
   -- the cryptogram is requested: the choice is the one of the store that the analysis leaves
   asked_leaves : (m : ℕ) (b x : List ℕ) → length b ≡ store_size → is_early s.phase ≡ true
-      → generate_ac (generate_ac_p1 (requested_cryptogram m b).choice) (store_with_findings b (findings_of b)) ≡ some x
+      → generate_ac (generate_ac_p1 (requested_cryptogram m b).choice) (store_with_findings b (findings_of b)) ≡ Some x
       → Leaves s c (command_step s.count (store_with_findings b (findings_of b))
       (AwaitedResponse.Cryptogram (requested_cryptogram m b)) x buf)
   asked_leaves m b x l y g k =
@@ -457,8 +457,8 @@ on s (c ∷ cs) d i h f =
     (λ x g e. on (call_step s c).reply.session cs x (call_keeps s c i) g e)
 
 by_last_is : (x : Option CallMade) → by false is_final_ac_answer_bringing_iac x ≡ last_call_is_final_ac_answer_bringing_iac x
-by_last_is none = refl
-by_last_is (some m) = refl
+by_last_is None = refl
+by_last_is (Some m) = refl
 
 -- one call, and what is traced of it and of the calls after it
 one_trace : (s : Session) (c : Call) (d : Bool) → Left s (call_step s c) ⊎ After s c (call_step s c)

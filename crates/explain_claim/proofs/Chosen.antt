@@ -2,11 +2,11 @@
 -- what the choice goes by has not changed. So what explain reports of the final store it says of that one, and each
 -- clause on the choice follows.
 -- Assumes nothing.
+use Rattle.std.specs.Prelude.{Some, None, Option}
 use mathlib.Core.Path.{◌≡◌, refl, sym, ap, ap₂, subst, ◌∙◌}
 use mathlib.Core.Bool.{Bool, true, false, not}
 use mathlib.Core.Logic.{inl, inr}
 use mathlib.Core.List.{List, [], ◌∷◌, ◌++◌, map, append-nil, append_assoc, map-append}
-use mathlib.Core.Option.{Option, some, none}
 use Prim.Native.Nat.{ℕ, ◌≤◌, ◌<◌}
 use native.Mathlib.Omega.{arith}
 use lib.ListN.{length, get_or, take, drop}
@@ -28,7 +28,6 @@ use Rattle.analysis.specs.Choice.{default_stage, no_action_codes, some_tvr_bit_i
 use Rattle.analysis.specs.Choice.{generate_ac_p1}
 use Rattle.analysis.specs.Action.{terminal_type, action_codes_of}
 use Rattle.analysis.specs.declared.choice.Choice.{Choice}
-use Rattle.analysis.specs.declared.choice.LowestBit.{LowestBit}
 use Rattle.analysis.specs.declared.choice.ActionCodes.{ActionCodes}
 use Rattle.laws.specs.Rank.{choice_rank}
 use Rattle.session_record.specs.declared.CallResult.{CallResult}
@@ -44,7 +43,6 @@ use Rattle.session_claim.specs.Calls.{commands_sent, calls_accepted, last_elemen
 use Rattle.session.specs.Calls.{CallMade, is_refusal, command_sent}
 use Rattle.session_claim.specs.Order.{begins_with_two_bytes}
 use Rattle.explain.specs.declared.ForcedChoiceCause.{ForcedChoiceCause}
-use Rattle.explain.specs.declared.DecidingStage.{DecidingStage}
 use Rattle.explain.specs.declared.Explanation.{Explanation}
 use Rattle.explain.specs.declared.Stage.{Stage}
 use Rattle.explain.specs.Explain.{stored_tvr, recomputed_choice, deciding_stage_by_denial_bit, deciding_stage_in}
@@ -135,10 +133,10 @@ abbrev pub Asks : ℕ → List ℕ → Type 0
 Asks p1 c = (begins_with_two_bytes 0x80 0xAE c ≡ true) × (get_or c 2 0 ≡ p1)
 
 sent_is : (p1 : ℕ) (x : Option (List ℕ)) (c : List ℕ) → command_if_data_is1_to255_bytes (proprietary_command 0xAE p1 0) x
-    ≡ some c → Asks p1 c
+    ≡ Some c → Asks p1 c
 unfolding command_if_data_is1_to255_bytes
-sent_is p1 none c = λ e. let z : ◌≡◌ {A = ℕ} 0 1 = cc in absurd (omega arith)
-sent_is p1 (some v) c =
+sent_is p1 None c = λ e. let z : ◌≡◌ {A = ℕ} 0 1 = cc in absurd (omega arith)
+sent_is p1 (Some v) c =
     if_ind P _ _ _
     (λ t e. let z : proprietary_command 0xAE p1 0 v ≡ c = cc in (
       ap (begins_with_two_bytes 0x80 0xAE) (sym z) ∙ both_yes _ _ (eq-eqb 0x80 0x80 refl) (eq-eqb 0xAE 0xAE refl),
@@ -147,9 +145,9 @@ sent_is p1 (some v) c =
     (λ t e. let z : ◌≡◌ {A = ℕ} 0 1 = cc in absurd (omega arith))
   where
     P : Option (List ℕ) → Type 0
-    P y = y ≡ some c → Asks p1 c
+    P y = y ≡ Some c → Asks p1 c
 
-pub generate_sent : (p1 : ℕ) (store c : List ℕ) → generate_ac p1 store ≡ some c → Asks p1 c
+pub generate_sent : (p1 : ℕ) (store c : List ℕ) → generate_ac p1 store ≡ Some c → Asks p1 c
 unfolding generate_ac
 generate_sent p1 store c e = sent_is p1 _ c e
 
@@ -313,7 +311,7 @@ module _ {ps : List ℕ} {qs : List (List ℕ)} (b : List ℕ) (k : KeptChoice p
   bit_same stage i = ap₂ (λ (r : List ℕ) (p : ActionCodes). tvr_bit_is_in_either_action_code r p i) tvr_same (pair_same stage)
 
   -- the stage that decided
-  then_decided : (stage : Stage) → deciding_stage_if_its_data_present b ≡ DecidingStage.At stage
+  then_decided : (stage : Stage) → deciding_stage_if_its_data_present b ≡ Some stage
       → StageDecides stage k.store
   unfolding deciding_stage_in
   then_decided stage e =
@@ -340,32 +338,32 @@ module _ {ps : List ℕ} {qs : List (List ℕ)} (b : List ℕ) (k : KeptChoice p
 -- ---- every explanation, as explain comes to it
 
 -- no number is another, so no constructor is
-none-some : {A P : Type 0} {x : A} → none ≡ some x → P
+none-some : {A P : Type 0} {x : A} → None ≡ Some x → P
 none-some e = let z : ◌≡◌ {A = ℕ} 0 1 = cc in absurd (omega arith)
 
-some-none : {A P : Type 0} {x : A} → some x ≡ none → P
+some-none : {A P : Type 0} {x : A} → Some x ≡ None → P
 some-none e = let z : ◌≡◌ {A = ℕ} 0 1 = cc in absurd (omega arith)
 
 module _ (b : List ℕ) where
   -- what is not refused explains a choice
   abbrev Explains : Explanation → Type 0
-  Explains r = (r ≡ Explanation.Refused → ⊥) → explained_choice b r ≡ none → ⊥
+  Explains r = (r ≡ Explanation.Refused → ⊥) → explained_choice b r ≡ None → ⊥
 
   stage_explains : (stage : Stage) → Explains (explanation_at_stage b stage)
   unfolding explanation_at_stage
   stage_explains stage = go (lowest_tvr_bit_in_codes (stored_tvr b) (action_codes_of_stage b stage))
     where
-      go : (l : LowestBit) → Explains (explanation_by_bit stage (action_codes_of_stage b stage) l)
-      go (LowestBit.Bit i) n e = some-none e
-      go LowestBit.NoBit n e = some-none e
+      go : (l : Option ℕ) → Explains (explanation_by_bit stage (action_codes_of_stage b stage) l)
+      go (Some i) n e = some-none e
+      go None n e = some-none e
 
-  waiting_explains : (a : RequestedCryptogram) (d : DecidingStage) → Explains (explanation_awaiting_cryptogram a b d)
-  waiting_explains a DecidingStage.Nothing = λ n e. n refl
-  waiting_explains a (DecidingStage.At stage) = if_ind Explains _ _ _ (λ t. stage_explains stage) (λ t n e. n refl)
+  waiting_explains : (a : RequestedCryptogram) (d : Option Stage) → Explains (explanation_awaiting_cryptogram a b d)
+  waiting_explains a None = λ n e. n refl
+  waiting_explains a (Some stage) = if_ind Explains _ _ _ (λ t. stage_explains stage) (λ t n e. n refl)
 
-  decided_explains : (x : Ending) (d : DecidingStage) → Explains (explanation_of_decision x b d)
-  decided_explains x DecidingStage.Nothing = λ n e. n refl
-  decided_explains x (DecidingStage.At stage) =
+  decided_explains : (x : Ending) (d : Option Stage) → Explains (explanation_of_decision x b d)
+  decided_explains x None = λ n e. n refl
+  decided_explains x (Some stage) =
       if_ind Explains _ _ _ (λ t n e. n refl)
       (λ t. if_ind Explains _ _ _ (λ u n e. n refl)
       (λ u. if_ind Explains _ _ _ (λ v n e. some-none e) (λ v. stage_explains stage)))
@@ -373,13 +371,13 @@ module _ (b : List ℕ) where
   -- a stage is named only where the cryptogram is no lower
   abbrev NotLower : Explanation → Type 0
   NotLower r =
-      (stage : Stage) → explained_stage r ≡ some stage
+      (stage : Stage) → explained_stage r ≡ Some stage
       → rank_of_cryptogram_type (requested_cryptogram_type (recomputed_choice b)) ≤ rank_of_cryptogram_type
       (stored_cryptogram_type b)
 
-  decided_rank : (x : Ending) (d : DecidingStage) → NotLower (explanation_of_decision x b d)
-  decided_rank x DecidingStage.Nothing = λ g e. none-some e
-  decided_rank x (DecidingStage.At stage) =
+  decided_rank : (x : Ending) (d : Option Stage) → NotLower (explanation_of_decision x b d)
+  decided_rank x None = λ g e. none-some e
+  decided_rank x (Some stage) =
       if_ind NotLower _ _ _ (λ t g e. none-some e)
       (λ t. if_ind NotLower _ _ _ (λ u g e. none-some e)
       (λ u. if_ind NotLower _ _ _ (λ v g e. none-some e) (λ v g e. ltb-false _ _ v)))
@@ -446,7 +444,7 @@ module _ (ms : List CallMade) (s : Session) (i : session_record_in_ranges s ≡ 
   decided_says x q z m = phase_says (Phase.Ended x) q ∙ by_choice x (store_bytes s) m ∙ if_yes _ _ z
 
   pub explains_clause : (explanation_of s ≡ Explanation.Refused → ⊥) → choice_made_and_not_ended_for_reason s ≡ true
-      → explained_choice (store_bytes s) (explanation_of s) ≡ none → ⊥
+      → explained_choice (store_bytes s) (explanation_of s) ≡ None → ⊥
   unfolding either both
   explains_clause r h e = go s.phase refl h
     where
@@ -468,7 +466,7 @@ module _ (ms : List CallMade) (s : Session) (i : session_record_in_ranges s ≡ 
           by_explained (decided_says x q z m)
           (decided_explains (store_bytes s) x (deciding_stage_if_its_data_present (store_bytes s)))
 
-  pub p1_clause : (choice : Choice) → explained_choice (store_bytes s) (explanation_of s) ≡ some choice
+  pub p1_clause : (choice : Choice) → explained_choice (store_bytes s) (explanation_of s) ≡ Some choice
       → generate_ac_p1s (commands_sent ms) ≡ generate_ac_p1 choice ∷ []
   p1_clause choice = go (explanation_of s) refl
     where
@@ -478,7 +476,7 @@ module _ (ms : List CallMade) (s : Session) (i : session_record_in_ranges s ≡ 
       is : recomputed_choice (store_bytes s) ≡ choice → of_choice (explanation_of s) ≡ true → P1
       is z e = (kept e).p1 ∙ ap (λ (c : Choice). generate_ac_p1 c ∷ []) z
 
-      go : (r : Explanation) → explanation_of s ≡ r → explained_choice (store_bytes s) r ≡ some choice → P1
+      go : (r : Explanation) → explanation_of s ≡ r → explained_choice (store_bytes s) r ≡ Some choice → P1
       go Explanation.Refused q e = let z : ◌≡◌ {A = ℕ} 0 1 = cc in absurd (omega arith)
       go (Explanation.Reason m) q e = let z : ◌≡◌ {A = ℕ} 0 1 = cc in absurd (omega arith)
       go Explanation.NoChoice q e = let z : ◌≡◌ {A = ℕ} 0 1 = cc in absurd (omega arith)
@@ -492,18 +490,18 @@ module _ (ms : List CallMade) (s : Session) (i : session_record_in_ranges s ≡ 
   at : {P : List ℕ → Type 0} (k : KeptBy ms s) → P k.store → HoldsAtOnlyGenerateAc ms P
   at k p = record { store = k.store; only = k.only; fact = p }
 
-  pub stage_clause : (stage : Stage) → explained_stage (explanation_of s) ≡ some stage
+  pub stage_clause : (stage : Stage) → explained_stage (explanation_of s) ≡ Some stage
       → HoldsAtOnlyGenerateAc ms (StageDecides stage)
   stage_clause stage = go (explanation_of s) refl
     where
-      is : (g : Stage) → g ≡ stage → deciding_stage_if_its_data_present (store_bytes s) ≡ DecidingStage.At g
+      is : (g : Stage) → g ≡ stage → deciding_stage_if_its_data_present (store_bytes s) ≡ Some g
           → of_choice (explanation_of s) ≡ true
           → HoldsAtOnlyGenerateAc ms (StageDecides stage)
       is g z d e =
           let k = kept e in
           at k (subst (λ (x : Stage). StageDecides x k.store) z (then_decided (store_bytes s) k g d))
 
-      go : (r : Explanation) → explanation_of s ≡ r → explained_stage r ≡ some stage
+      go : (r : Explanation) → explanation_of s ≡ r → explained_stage r ≡ Some stage
           → HoldsAtOnlyGenerateAc ms (StageDecides stage)
       go Explanation.Refused q e = let z : ◌≡◌ {A = ℕ} 0 1 = cc in absurd (omega arith)
       go (Explanation.Reason m) q e = let z : ◌≡◌ {A = ℕ} 0 1 = cc in absurd (omega arith)
@@ -541,13 +539,13 @@ module _ (ms : List CallMade) (s : Session) (i : session_record_in_ranges s ≡ 
   lower_clause q choice e = let r = rank_same choice e (ap of_choice q) in omega (arith, r, says.lower q)
 
   pub not_lower_clause : is_ended_with_reason_none s.phase ≡ true → (stage : Stage) → explained_stage (explanation_of s)
-      ≡ some stage
+      ≡ Some stage
       → (choice : Choice) → generate_ac_p1s (commands_sent ms) ≡ generate_ac_p1 choice ∷ []
       → choice_rank choice ≤ rank_of_cryptogram_type (stored_cryptogram_type (store_bytes s))
   not_lower_clause d stage f choice e =
       let r = rank_same choice e (of_stage (explanation_of s) f) in omega (arith, r, go s.phase refl d)
     where
-      of_stage : (r : Explanation) → explained_stage r ≡ some stage → of_choice r ≡ true
+      of_stage : (r : Explanation) → explained_stage r ≡ Some stage → of_choice r ≡ true
       of_stage Explanation.Refused z = none-some z
       of_stage (Explanation.Reason m) z = none-some z
       of_stage Explanation.NoChoice z = none-some z

@@ -2,6 +2,7 @@
 -- may not set, so the choice stays unless the answer brings an action code; and the choice that is requested is the one
 -- of the store that the analysis leaves.
 -- Assumes nothing.
+use Rattle.std.specs.Prelude.{Some}
 use mathlib.Core.Path.{◌≡◌, refl, sym, ap, ◌∙◌}
 use mathlib.Core.Bool.{Bool, true, false, not}
 use mathlib.Core.Logic.{inl, inr}
@@ -15,7 +16,6 @@ use Rattle.dictionary.specs.Named.{row_tvr, row_iac_default, row_iac_denial, row
 use Rattle.dictionary.specs.Named.{row_kernel_configuration, row_tac_default, row_tac_denial, row_tac_online}
 use Rattle.dictionary.specs.Rows.{dictionary_rows, row_at, find_row, store_size}
 use Rattle.dictionary.specs.TerminalType.{listed_terminal_type}
-use Rattle.dictionary.specs.declared.RowFound.TheVariants.{At}
 use Rattle.dictionary.proofs.Fit.{fits_length}
 use Rattle.dictionary.proofs.Named.{at_95, at_9f0d, at_9f0e, at_9f0f, at_9f35, at_df811b, at_df8120, at_df8121}
 use Rattle.dictionary.proofs.Named.{at_df8122}
@@ -118,7 +118,7 @@ module _ (a : Awaited) (b s : List ℕ) (l : length b ≡ store_size) where
   abbrev read : List ℕ
   read = (read_answer a b s).store
 
-  own_value : (t k : ℕ) → find_row dictionary_rows t ≡ At k → card_may_set (row_at k) ≡ false
+  own_value : (t k : ℕ) → find_row dictionary_rows t ≡ Some k → card_may_set (row_at k) ≡ false
       → object_value read t ≡ object_value b t
   own_value t k e n = by_row dictionary_rows read t k e ∙ read_own a b s l k n ∙ sym (by_row dictionary_rows b t k e)
 
@@ -138,7 +138,7 @@ module _ (a : Awaited) (b s : List ℕ) (l : length b ≡ store_size) where
   read_configuration = own_value 0xDF811B row_kernel_configuration at_df811b not_card.5
 
   -- an object of the card with bytes stays, and one that is absent stays absent unless the answer brings it
-  code_kept : AllObjectsFit b → (t k : ℕ) → find_row dictionary_rows t ≡ At k → 1 ≤ (row_at k).least
+  code_kept : AllObjectsFit b → (t k : ℕ) → find_row dictionary_rows t ≡ Some k → 1 ≤ (row_at k).least
       → object_appears b read t ≡ false → object_value read t ≡ object_value b t
   code_kept f t k e m n =
       elim (bool_cases (has_object b t)) [
@@ -167,7 +167,7 @@ module _ (b : List ℕ) (l : length b ≡ store_size) where
   abbrev analysed : List ℕ
   analysed = store_with_findings b f
 
-  other : (t k : ℕ) → find_row dictionary_rows t ≡ At k → (k ≡ row_tvr → ⊥) → (k ≡ row_cvm_results → ⊥)
+  other : (t k : ℕ) → find_row dictionary_rows t ≡ Some k → (k ≡ row_tvr → ⊥) → (k ≡ row_cvm_results → ⊥)
       → object_value analysed t ≡ object_value b t
   other = found_other b f l (found_length b) (bits_length b)
 

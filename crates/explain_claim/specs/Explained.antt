@@ -4,8 +4,8 @@
 -- code of the card that was absent, in a 70 inside its 77, as document 01 allows: the choice was made without that
 -- code, and what the final store gives is answered, 25 or not.
 -- Assumes nothing.
+use Rattle.std.specs.Prelude.{Option, Some, None}
 use Rattle.std.specs.Prelude.{◌≡◌, Bool, true, false, not, List, [], ◌∷◌, ◌++◌, map, ℕ, ◌≤◌, ◌<◌, get_or}
-use Rattle.std.proofs.Math.Option.{Option, some, none}
 use Rattle.basics.specs.Types.{StoreBytes, CommandBytes, Byte, Tag}
 use Rattle.basics.specs.Choice.{when◌then◌else◌, ◌and◌, ◌or◌, ◌=?◌}
 use Rattle.basics.specs.Reason.{reason_none}
@@ -23,7 +23,6 @@ use Rattle.session.specs.Calls.{CallMade, call_result, command_sent}
 use Rattle.session_claim.specs.Order.{begins_with_two_bytes}
 use Rattle.explain.specs.declared.ForcedChoiceCause.{ForcedChoiceCause}
 use Rattle.explain.specs.declared.Explanation.{Explanation}
-use Rattle.explain.specs.declared.DecidingStage.{DecidingStage}
 use Rattle.explain.specs.declared.Stage.{Stage}
 use Rattle.explain.specs.Explain.{stored_tvr, recomputed_choice, deciding_stage_in, action_code_holder_of_bit}
 use Rattle.explain.specs.Explain.{action_codes_of_stage, rank_of_cryptogram_type}
@@ -65,8 +64,8 @@ is_final_ac_answer_bringing_iac m =
 
 -- the last call that was not refused did
 abbrev pub last_call_is_final_ac_answer_bringing_iac : Option CallMade → Bool
-last_call_is_final_ac_answer_bringing_iac none = false
-last_call_is_final_ac_answer_bringing_iac (some m) = is_final_ac_answer_bringing_iac m
+last_call_is_final_ac_answer_bringing_iac None = false
+last_call_is_final_ac_answer_bringing_iac (Some m) = is_final_ac_answer_bringing_iac m
 
 -- ---- the choice that was handed out
 
@@ -102,7 +101,7 @@ tvr_bit_set_and_in_stage_codes b stage i = tvr_bit_is_in_either_action_code (sto
 
 -- a stage decides: denial where one of its codes has a bit of TVR, else the one of the terminal's type
 abbrev pub StageDecides : Stage → StoreBytes → Type 0
-StageDecides stage b = deciding_stage_in b ≡ DecidingStage.At stage
+StageDecides stage b = deciding_stage_in b ≡ Some stage
 
 -- bit i, of the 40, is the lowest that the stage holds
 pub record LowestTvrBitInStageCodes (stage : Stage) (bit_number : ℕ) (store : StoreBytes) : Type 0 where
@@ -129,21 +128,21 @@ choice_made_and_not_ended_for_reason s =
 -- the choice that is explained: the one that a bit of the stage forces, or that is left without; with a lower
 -- cryptogram the one that the store gives; the other explanations are of none
 abbrev pub explained_choice : StoreBytes → Explanation → Option Choice
-explained_choice b Explanation.Refused = none
-explained_choice b (Explanation.Reason n) = none
-explained_choice b Explanation.NoChoice = none
-explained_choice b Explanation.LowerCryptogram = some (recomputed_choice b)
-explained_choice b (Explanation.Forced c) = some (choice_forced_by c.stage)
-explained_choice b (Explanation.Unforced stage) = some (choice_unforced_at stage)
+explained_choice b Explanation.Refused = None
+explained_choice b (Explanation.Reason n) = None
+explained_choice b Explanation.NoChoice = None
+explained_choice b Explanation.LowerCryptogram = Some (recomputed_choice b)
+explained_choice b (Explanation.Forced c) = Some (choice_forced_by c.stage)
+explained_choice b (Explanation.Unforced stage) = Some (choice_unforced_at stage)
 
 -- the stage that is named, with a bit or without
 abbrev pub explained_stage : Explanation → Option Stage
-explained_stage Explanation.Refused = none
-explained_stage (Explanation.Reason n) = none
-explained_stage Explanation.NoChoice = none
-explained_stage Explanation.LowerCryptogram = none
-explained_stage (Explanation.Forced c) = some c.stage
-explained_stage (Explanation.Unforced stage) = some stage
+explained_stage Explanation.Refused = None
+explained_stage (Explanation.Reason n) = None
+explained_stage Explanation.NoChoice = None
+explained_stage Explanation.LowerCryptogram = None
+explained_stage (Explanation.Forced c) = Some c.stage
+explained_stage (Explanation.Unforced stage) = Some stage
 
 -- ---- the claim
 
@@ -153,12 +152,12 @@ pub record ExplanationTrueOfChoice (calls_made : List CallMade) (session_after :
   pub never_25 : explanation_of session_after ≡ Explanation.Refused → ⊥
   -- where there is a choice, a choice is explained
   pub explains : choice_made_and_not_ended_for_reason session_after ≡ true
-      → explained_choice (store_bytes session_after) (explanation_of session_after) ≡ none → ⊥
+      → explained_choice (store_bytes session_after) (explanation_of session_after) ≡ None → ⊥
   -- the choice explained is the one whose P1 was handed out, in the one GENERATE AC
-  pub p1 : (choice : Choice) → explained_choice (store_bytes session_after) (explanation_of session_after) ≡ some choice
+  pub p1 : (choice : Choice) → explained_choice (store_bytes session_after) (explanation_of session_after) ≡ Some choice
       → generate_ac_p1s (commands_sent calls_made) ≡ generate_ac_p1 choice ∷ []
   -- the stage named is the one that decided at the time of the choice
-  pub stage : (stage : Stage) → explained_stage (explanation_of session_after) ≡ some stage
+  pub stage : (stage : Stage) → explained_stage (explanation_of session_after) ≡ Some stage
       → HoldsAtOnlyGenerateAc calls_made (StageDecides stage)
   -- the bit named is the lowest that this stage held then; where none is named it held none
   pub bit : (c : ForcedChoiceCause) → explanation_of session_after ≡ Explanation.Forced c
@@ -174,7 +173,7 @@ pub record ExplanationTrueOfChoice (calls_made : List CallMade) (session_after :
       → generate_ac_p1s (commands_sent calls_made) ≡ generate_ac_p1 choice ∷ []
       → rank_of_cryptogram_type (stored_cryptogram_type (store_bytes session_after)) < choice_rank choice
   pub not_lower : is_ended_with_reason_none session_after.phase ≡ true → (stage : Stage)
-      → explained_stage (explanation_of session_after) ≡ some stage
+      → explained_stage (explanation_of session_after) ≡ Some stage
       → (choice : Choice) → generate_ac_p1s (commands_sent calls_made) ≡ generate_ac_p1 choice ∷ []
       → choice_rank choice ≤ rank_of_cryptogram_type (stored_cryptogram_type (store_bytes session_after))
 

@@ -1,11 +1,11 @@
 -- What is found is what the tree says, by induction over shorter bytes: at each thing that can be next, parse and
 -- search take the same parts, and a place found in a part is one of the whole, so many bytes further on.
 -- Assumes nothing.
+use Rattle.std.specs.Prelude.{Option, Some, None}
 use mathlib.Core.Path.{◌≡◌, refl, sym, ap, subst, subst⁻¹, ◌∙◌}
 use mathlib.Core.Bool.{Bool, true, false}
 use mathlib.Core.Logic.{◌⊎◌, inl, inr}
 use mathlib.Core.List.{List}
-use mathlib.Core.Option.{Option, some, none}
 use Prim.Native.Nat.{ℕ, zero, suc, ◌+◌, ◌-◌, ◌≤◌, ◌<◌}
 use native.Mathlib.Omega.{arith}
 use lib.Dec.{leb, eqb}
@@ -65,16 +65,16 @@ module _ (b s : List ℕ) (n : ℕ) (further : (v : TreeValue) (p : ValueSpan) �
   finds_further : (z : Option TreeValue) (y : TagFound) → TagFoundMatchesValue b z y
       → TagFoundMatchesValue s z (found_shifted n y)
   unfolding found_shifted
-  finds_further none y f = ap (found_shifted n) f
-  finds_further (some v) y f =
+  finds_further None y f = ap (found_shifted n) f
+  finds_further (Some v) y f =
       (value_span (n + f.0.start) f.0.len, (ap (found_shifted n) f.1.0, further v f.0 f.1.1))
 
   -- bytes that have a tree take nothing from an earlier find
   earlier : (p : ValueSpan) (z : Option TreeValue) (y : TagFound) → TagFoundMatchesValue b z y
       → first_found_unless_malformed (At p) (found_shifted n y) ≡ At p
   unfolding first_found_unless_malformed found_shifted
-  earlier p none y f = ap (λ (x : TagFound). first_found_unless_malformed (At p) (found_shifted n x)) f
-  earlier p (some v) y f = ap (λ (x : TagFound). first_found_unless_malformed (At p) (found_shifted n x)) f.1.0
+  earlier p None y f = ap (λ (x : TagFound). first_found_unless_malformed (At p) (found_shifted n x)) f
+  earlier p (Some v) y f = ap (λ (x : TagFound). first_found_unless_malformed (At p) (found_shifted n x)) f.1.0
 
 -- ---- one object and what is after it
 
@@ -98,12 +98,12 @@ module _ (tag : ℕ) (s : List ℕ) (h : TlvHeader) (fits : HeaderFits s h) wher
   stands_own v e = record { inside = fits.inside; value = e }
 
   leaf_finds : (z : Option TreeValue) (y : TagFound) → TagFoundMatchesValue (behind_object s h) z y
-      → TagFoundMatchesValue s (if (eqb h.tag tag) (some (primitive (header_value s h))) z)
+      → TagFoundMatchesValue s (if (eqb h.tag tag) (Some (primitive (header_value s h))) z)
       (first_found_unless_malformed own (found_shifted stop y))
   unfolding if
   leaf_finds z y f = by (eqb h.tag tag)
     where
-      by : (t : Bool) → TagFoundMatchesValue s (if t (some (primitive (header_value s h))) z)
+      by : (t : Bool) → TagFoundMatchesValue s (if t (Some (primitive (header_value s h))) z)
           (first_found_unless_malformed (found_if_tag_matches t h.start h.len) (found_shifted stop y))
       by true = (
         value_span h.start h.len,
@@ -120,9 +120,9 @@ module _ (tag : ℕ) (s : List ℕ) (h : TlvHeader) (fits : HeaderFits s h) wher
       → TagFoundMatchesTree tag s (prepend_leaf h.tag (header_value s h) x)
       (first_found_unless_malformed own (found_shifted stop y))
   unfolding prepend_leaf first_value_of_tag_in_tree
-  leaf_told none y f = ap (λ (r : TagFound). first_found_unless_malformed own (found_shifted stop r)) f ∙ ap
+  leaf_told None y f = ap (λ (r : TagFound). first_found_unless_malformed own (found_shifted stop r)) f ∙ ap
       (first_found_unless_malformed own) (shift_malformed stop) ∙ first_malformed own
-  leaf_told (some r) y f = leaf_finds (first_value_of_tag_in_tree tag r) y f
+  leaf_told (Some r) y f = leaf_finds (first_value_of_tag_in_tree tag r) y f
 
   -- what a template holds, and what is after it
   abbrev both : TagFound → TagFound → TagFound
@@ -131,13 +131,13 @@ module _ (tag : ℕ) (s : List ℕ) (h : TlvHeader) (fits : HeaderFits s h) wher
   join_finds : (x z : Option TreeValue) (i y : TagFound) → TagFoundMatchesValue (header_value s h) x i
       → TagFoundMatchesValue (behind_object s h) z y → TagFoundMatchesValue s (tree_value_or x z) (both i y)
   unfolding tree_value_or
-  join_finds none z i y g f =
+  join_finds None z i y g f =
       let e : both i y ≡ found_shifted stop y = ap (λ (r : TagFound). both r y) g ∙ ap
       (λ (r : TagFound). first_found_unless_malformed r (found_shifted stop y)) (shift_absent h.start) ∙ absent_first _
       in
       subst⁻¹ (TagFoundMatchesValue s z) e (finds_further (behind_object s h) s stop later z y f)
-  join_finds (some v) z i y g f =
-      let d = finds_further (header_value s h) s h.start within (some v) i g in (
+  join_finds (Some v) z i y g f =
+      let d = finds_further (header_value s h) s h.start within (Some v) i g in (
         d.0,
         (
           ap (λ (r : TagFound). first_found_unless_malformed r (found_shifted stop y)) d.1.0 ∙ earlier
@@ -148,12 +148,12 @@ module _ (tag : ℕ) (s : List ℕ) (h : TlvHeader) (fits : HeaderFits s h) wher
 
   node_finds : (f : Forest) (x z : Option TreeValue) (i y : TagFound) → BytesAreTreeValue (template f) (header_value s h)
       → TagFoundMatchesValue (header_value s h) x i → TagFoundMatchesValue (behind_object s h) z y
-      → TagFoundMatchesValue s (if (eqb h.tag tag) (some (template f)) (tree_value_or x z))
+      → TagFoundMatchesValue s (if (eqb h.tag tag) (Some (template f)) (tree_value_or x z))
       (first_found_unless_malformed own (both i y))
   unfolding if
   node_finds f x z i y v g e = by (eqb h.tag tag)
     where
-      by : (t : Bool) → TagFoundMatchesValue s (if t (some (template f)) (tree_value_or x z))
+      by : (t : Bool) → TagFoundMatchesValue s (if t (Some (template f)) (tree_value_or x z))
           (first_found_unless_malformed (found_if_tag_matches t h.start h.len) (both i y))
       by true =
           let p = value_span h.start h.len in
@@ -166,21 +166,21 @@ module _ (tag : ℕ) (s : List ℕ) (h : TlvHeader) (fits : HeaderFits s h) wher
       by false = subst⁻¹ (TagFoundMatchesValue s (tree_value_or x z)) (absent_first (both i y)) (join_finds x z i y g e)
 
   node_told : (x z : Option Forest) (i y : TagFound)
-      → ((f : Forest) → x ≡ some f → parse_tree 3 (header_value s h) ≡ some f)
+      → ((f : Forest) → x ≡ Some f → parse_tree 3 (header_value s h) ≡ Some f)
       → TagFoundMatchesTree tag (header_value s h) x i → TagFoundMatchesTree tag (behind_object s h) z y
       → TagFoundMatchesTree tag s (prepend_node h.tag x z) (first_found_unless_malformed own (both i y))
   unfolding prepend_node first_value_of_tag_in_tree
-  node_told none z i y v g e =
+  node_told None z i y v g e =
       ap (λ (r : TagFound). first_found_unless_malformed own (both r y)) g
       ∙ ap (λ (r : TagFound). first_found_unless_malformed own (first_found_unless_malformed r (found_shifted stop y)))
       (shift_malformed h.start)
       ∙ ap (first_found_unless_malformed own) (malformed_first (found_shifted stop y)) ∙ first_malformed own
-  node_told (some f) none i y v g e =
+  node_told (Some f) None i y v g e =
       ap (λ (r : TagFound). first_found_unless_malformed own (both i r)) e
       ∙ ap (λ (r : TagFound). first_found_unless_malformed own (first_found_unless_malformed (found_shifted h.start i) r))
       (shift_malformed stop)
       ∙ ap (first_found_unless_malformed own) (first_malformed (found_shifted h.start i)) ∙ first_malformed own
-  node_told (some f) (some r) i y v g e = node_finds f (first_value_of_tag_in_tree tag f) (first_value_of_tag_in_tree tag r) i y
+  node_told (Some f) (Some r) i y v g e = node_finds f (first_value_of_tag_in_tree tag f) (first_value_of_tag_in_tree tag r) i y
       (v f refl) g e
 
 -- ---- all of the bytes
@@ -202,14 +202,14 @@ module _ (tag : ℕ) where
     of_next : (x : NextInTemplate) → next_in_template s ≡ x
         → TagFoundMatchesTree tag s (parse_tree l s) (find_tag_within_levels tag l s)
     unfolding TellsAll first_value_of_tag_in_tree
-    of_next following.End e = by_both (some end) Absent (parse_end l s e) (found_end tag l s e) refl
-    of_next following.Malformed e = by_both none Malformed (parse_malformed l s e) (found_malformed tag l s e) refl
+    of_next following.End e = by_both (Some end) Absent (parse_end l s e) (found_end tag l s e) refl
+    of_next following.Malformed e = by_both None Malformed (parse_malformed l s e) (found_malformed tag l s e) refl
     of_next (following.Inner h) e =
         let f = next_fits s h e in
         let b = before (behind_object s h) (shorter_behind f) l four in
         elim (bool_cases h.template) [
           | inl t ↦ elim (zero_cases l) [
-            | inl z ↦ by_both none Malformed (parse_deep l s h e t z) (found_deep tag l s h e t z) refl
+            | inl z ↦ by_both None Malformed (parse_deep l s h e t z) (found_deep tag l s h e t z) refl
             | inr n ↦ by_both _ _ (parse_node l s h e t n) (found_node tag l s h e t n)
                 (node_told tag s h f _ _ _ _ (λ g p. parse_deeper (l - 1) 3 (header_value s h) g p (omega arith))
                 (before (header_value s h) (shorter_value f) (l - 1) (omega arith)) b)
@@ -225,7 +225,7 @@ module _ (tag : ℕ) where
   unfolding find_tag if
   told_all s = by (leb (length s) 65535)
     where
-      by : (t : Bool) → TagFoundMatchesTree tag s (if t (parse_tree 4 s) none)
+      by : (t : Bool) → TagFoundMatchesTree tag s (if t (parse_tree 4 s) None)
           (if t (find_tag_within_levels tag 4 s) Malformed)
       by true = told s
       by false = refl
@@ -234,12 +234,12 @@ module _ (tag : ℕ) where
 
   inside : (s : List ℕ) (x : Option Forest) (r : TagFound) → length s ≤ 65535 → TagFoundMatchesTree tag s x r
       → FoundSpanWithin65535Bytes r
-  inside s none r l t = subst⁻¹ FoundSpanWithin65535Bytes t tt
-  inside s (some f) r l t = found_inside (first_value_of_tag_in_tree tag f) t
+  inside s None r l t = subst⁻¹ FoundSpanWithin65535Bytes t tt
+  inside s (Some f) r l t = found_inside (first_value_of_tag_in_tree tag f) t
     where
       found_inside : (z : Option TreeValue) → TagFoundMatchesValue s z r → FoundSpanWithin65535Bytes r
-      found_inside none t = subst⁻¹ FoundSpanWithin65535Bytes t tt
-      found_inside (some v) t = subst⁻¹ FoundSpanWithin65535Bytes t.1.0 (let i = t.1.1.inside in omega arith)
+      found_inside None t = subst⁻¹ FoundSpanWithin65535Bytes t tt
+      found_inside (Some v) t = subst⁻¹ FoundSpanWithin65535Bytes t.1.0 (let i = t.1.1.inside in omega arith)
 
   pub find_inside : (s : List ℕ) → FoundSpanWithin65535Bytes (find_tag tag s)
   unfolding find_tag if

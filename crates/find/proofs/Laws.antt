@@ -1,7 +1,7 @@
 -- The laws of finds and of the search. Finds concatenated make a monoid, with `Absent` as unit, that a shift keeps;
 -- each object is shorter than its list, so the search unrolls, with one law for each thing that can be next.
 -- Assumes nothing.
-use mathlib.Core.Path.{◌≡◌, refl, sym, ap, ap₂, ◌∙◌}
+use mathlib.Core.Path.{◌≡◌, refl, ap, ap₂, ◌∙◌}
 use mathlib.Core.Bool.{Bool, true, false}
 use mathlib.Core.List.{List}
 use Prim.Native.Nat.{ℕ, zero, suc, ◌+◌, ◌-◌, ◌<◌}
@@ -19,7 +19,6 @@ use Rattle.tlv.specs.Object.{header_value, behind_object}
 use Rattle.tlv.specs.Tree.{next_in_template}
 use Rattle.tlv.proofs.NextObject.{next_fits}
 use Rattle.tlv.proofs.Tree.{shorter_value, shorter_behind}
-use Rattle.find.specs.declared.ValueSpan.{ValueSpan}
 use Rattle.find.specs.declared.TagFound.{TagFound}
 use Rattle.find.specs.declared.TagFound.TheVariants.{At, Absent, Malformed}
 use Rattle.find.specs.Find.{value_span, found_if_tag_matches, first_found_unless_malformed, found_shifted}
@@ -60,11 +59,13 @@ first_assoc (At p) (At q) Absent = refl
 first_assoc (At p) (At q) (At o) = refl
 
 -- what was found before stays
-pub first-kept : (f : TagFound) (p : ValueSpan) → f ≡ At p → (same : Bool) (a n : ℕ)
-    → At p ≡ first_found_unless_malformed f (found_if_tag_matches same a n)
+pub first_kept : (f : TagFound) (same : Bool) (a n : ℕ) → (f ≡ Absent → same ≡ false)
+    → f ≡ first_found_unless_malformed f (found_if_tag_matches same a n)
 unfolding first_found_unless_malformed if
-first-kept f p e true a n = ap (λ (x : TagFound). first_found_unless_malformed x (At (value_span a n))) (sym e)
-first-kept f p e false a n = ap (λ (x : TagFound). first_found_unless_malformed x Absent) (sym e)
+first_kept Malformed same a n e = refl
+first_kept (At p) true a n e = refl
+first_kept (At p) false a n e = refl
+first_kept Absent same a n e = rw (e refl)
 
 -- ---- shifted
 

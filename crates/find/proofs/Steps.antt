@@ -9,7 +9,7 @@ use Prim.Native.Nat.{ℕ, zero, suc, ◌+◌, ◌-◌, ◌≤◌, ◌<◌}
 use native.Mathlib.Numerals.{add-one}
 use native.Mathlib.Omega.{arith}
 use lib.Dec.{eqb}
-use lib.ListN.{length, take, drop, get_or, set, length-take, length-set}
+use lib.ListN.{length, take, drop, get_or, set, length-take}
 use lib.Seq.{take-take, take-nil, drop-drop, take_all, get_or-set_same, get_or-set_other}
 use Rattle.tlv.specs.declared.TlvHeader.{TlvHeader}
 use Rattle.tlv.specs.declared.NextInTemplate.TheVariants as following
@@ -18,6 +18,7 @@ use Rattle.tlv.specs.Tree.{next_in_template}
 use Rattle.tlv.proofs.NextObject.{next_fits}
 use Rattle.find.specs.declared.TagFound.{TagFound}
 use Rattle.find.specs.declared.TagFound.TheVariants.{Absent, Malformed}
+use Rattle.find.specs.Inner.{ends_around}
 use Rattle.find.specs.Find.{found_if_tag_matches, first_found_unless_malformed, found_shifted, find_tag_within_levels}
 use Rattle.find.proofs.Laws.{first_absent, absent_first, first_malformed, malformed_first, first_assoc}
 use Rattle.find.proofs.Laws.{shift_first, shift_shift, shift_zero, shift_here, shift_absent, shift_malformed}
@@ -61,30 +62,29 @@ module _ (s : List ℕ) (a e : ℕ) (h : TlvHeader) (x : next_in_template (part 
 
 -- ---- the ends of the levels around the open templates, innermost first
 
-unfoldable pub around : List ℕ → ℕ → List ℕ
-around l zero = []
-around l (suc n) = get_or l n 0 ∷ around l n
+pub ends_none : (l : List ℕ) → ends_around l 0 ≡ []
+unfolding ends_around
+ends_none l = refl
 
-around_length : (l : List ℕ) (n : ℕ) → length (around l n) ≡ n
-unfolding around
-around_length l zero = refl
-around_length l (suc n) = ap suc (around_length l n)
+pub ends_length : (l : List ℕ) (n : ℕ) → length (ends_around l n) ≡ n
+unfolding ends_around
+ends_length l zero = refl
+ends_length l (suc n) = ap suc (ends_length l n)
 
-around_set : (l : List ℕ) (i v n : ℕ) → n ≤ i → around (set l i v) n ≡ around l n
-unfolding around
-around_set l i v zero h = refl
-around_set l i v (suc n) h = ap₂ {C = List ℕ} (λ x r. x ∷ r) (get_or-set_other l i n v 0 (λ q. omega arith))
-    (around_set l i v n (omega arith))
+ends_set : (l : List ℕ) (i v n : ℕ) → n ≤ i → ends_around (set l i v) n ≡ ends_around l n
+unfolding ends_around
+ends_set l i v zero h = refl
+ends_set l i v (suc n) h = ap₂ {C = List ℕ} (λ x r. x ∷ r) (get_or-set_other l i n v 0 (λ q. omega arith))
+    (ends_set l i v n (omega arith))
 
-around_push : (l : List ℕ) (n v : ℕ) → n < length l → around (set l n v) (n + 1) ≡ v ∷ around l n
-unfolding around
-around_push l n v h = rw (add-one n) (ap₂ {C = List ℕ} (λ x r. x ∷ r) (get_or-set_same l n v 0 h)
-    (around_set l n v n (omega arith)))
+pub ends_push : (l : List ℕ) (n v : ℕ) → n < length l → ends_around (set l n v) (n + 1) ≡ v ∷ ends_around l n
+unfolding ends_around
+ends_push l n v h = rw (add-one n) (ap₂ {C = List ℕ} (λ x r. x ∷ r) (get_or-set_same l n v 0 h)
+    (ends_set l n v n (omega arith)))
 
-around_pop : (l : List ℕ) (n : ℕ) → (n ≡ 0 → ⊥) → around l n ≡ get_or l (n - 1) 0 ∷ around l (n - 1)
-unfolding around
-around_pop l zero z = absurd (z refl)
-around_pop l (suc n) z = let e : n ≡ suc n - 1 = omega arith in ap (λ (k : ℕ). get_or l k 0 ∷ around l k) e
+pub ends_pop : (l : List ℕ) (n m : ℕ) → m + 1 ≡ n → ends_around l n ≡ get_or l m 0 ∷ ends_around l m
+unfolding ends_around
+ends_pop l n m e = rw (← e, add-one m)
 
 -- each level ends inside the one around it, the outermost inside n bytes
 unfoldable pub Rising : ℕ → ℕ → List ℕ → Type 0
@@ -175,22 +175,18 @@ module _ (s : List ℕ) (tag : ℕ) where
           ∙ first_assoc own _ rest ∙ ap (first_found_unless_malformed own)
           (first_assoc (level (suc (length r)) start stop) (level (length r) stop e) rest)
 
--- ---- the invariant, and each iteration of the walk
+-- ---- the invariant, and each iteration of the walk: r has the ends of the levels around the open templates
 
-pub record Reached (s : List ℕ) (tag : ℕ) (ends : List ℕ) (depth a e : ℕ) (f : TagFound) : Type 0 where
-  pub four : length ends ≡ 4
-  pub few : depth ≤ 4
+pub record Reached (s : List ℕ) (tag : ℕ) (r : List ℕ) (a e : ℕ) (f : TagFound) : Type 0 where
   pub ahead : a ≤ e
   pub inside : e ≤ length s
-  pub rising : Rising (length s) e (around ends depth)
-  pub same : find_tag_within_levels tag 4 s ≡ first_found_unless_malformed f (left s tag a e (around ends depth))
+  pub rising : Rising (length s) e r
+  pub same : find_tag_within_levels tag 4 s ≡ first_found_unless_malformed f (left s tag a e r)
 
 -- at the front nothing is found and no template is open
-pub begin : (s : List ℕ) (tag : ℕ) (ends : List ℕ) → length ends ≡ 4 → Reached s tag ends 0 0 (length s) Absent
-unfolding around Rising outer
-begin s tag ends four = record {
-  four = four;
-  few = omega arith;
+pub begin : (s : List ℕ) (tag : ℕ) → Reached s tag [] 0 (length s) Absent
+unfolding Rising outer
+begin s tag = record {
   ahead = omega arith;
   inside = omega arith;
   rising = omega arith;
@@ -200,93 +196,68 @@ begin s tag ends four = record {
     whole : part s 0 (length s) ≡ s
     whole = take_all (length s - 0) s (omega arith)
 
-module _ {s : List ℕ} {tag : ℕ} {ends : List ℕ} {depth a e : ℕ} {f : TagFound} (w : Reached s tag ends depth a e f)
-  where
-    abbrev all : TagFound
-    all = find_tag_within_levels tag 4 s
+module _ {s : List ℕ} {tag : ℕ} {r : List ℕ} {a e : ℕ} {f : TagFound} (w : Reached s tag r a e f) where
+  abbrev all : TagFound
+  all = find_tag_within_levels tag 4 s
 
-    abbrev opened : List ℕ
-    opened = around ends depth
+  same_with : (x : TagFound) → left s tag a e r ≡ x → all ≡ first_found_unless_malformed f x
+  same_with x q = w.same ∙ ap (first_found_unless_malformed f) q
 
-    levels : length opened ≡ depth
-    levels = around_length ends depth
+  pub done : next_in_template (part s a e) ≡ following.End → r ≡ [] → f ≡ all
+  unfolding outer
+  done q z = sym (same_with _ (left_end s tag a e r q ∙ ap (outer s tag e) z) ∙ first_absent f)
 
-    same_with : (x : TagFound) → left s tag a e opened ≡ x → all ≡ first_found_unless_malformed f x
-    same_with x q = w.same ∙ ap (first_found_unless_malformed f) q
+  pub failed : next_in_template (part s a e) ≡ following.Malformed → Malformed ≡ all
+  failed q = sym (same_with Malformed (left_malformed s tag a e r q) ∙ first_malformed f)
 
-    pub done : next_in_template (part s a e) ≡ following.End → depth ≡ 0 → f ≡ all
-    unfolding around outer
-    done q z =
-        sym (same_with _ (left_end s tag a e opened q ∙ ap (λ (k : ℕ). outer s tag e (around ends k)) z) ∙ first_absent
-        f)
+  pub close : next_in_template (part s a e) ≡ following.End → (x : ℕ) (t : List ℕ) → r ≡ x ∷ t
+      → Reached s tag t e x f
+  unfolding Rising outer
+  close q x t p =
+      let h = subst (Rising (length s) e) p w.rising in
+      record {
+        ahead = h.0;
+        inside = rising_most (length s) x t h.1;
+        rising = h.1;
+        same = same_with _ (left_end s tag a e r q ∙ ap (outer s tag e) p);
+      }
 
-    pub failed : next_in_template (part s a e) ≡ following.Malformed → Malformed ≡ all
-    failed q = sym (same_with Malformed (left_malformed s tag a e opened q) ∙ first_malformed f)
+  module _ (h : TlvHeader) (q : next_in_template (part s a e) ≡ following.Inner h) where
+    pub deep : h.template ≡ true → length r ≡ 4 → Malformed ≡ all
+    deep t z =
+        let l : 4 - length r ≡ 0 = omega arith in
+        sym (same_with Malformed (left_deep s tag a e r h q t l) ∙ first_malformed f)
 
-    pub close : next_in_template (part s a e) ≡ following.End → (depth ≡ 0 → ⊥)
-        → Reached s tag ends (depth - 1) e (get_or ends (depth - 1) 0) f
-    unfolding Rising outer
-    close q z =
-        let p = around_pop ends depth z in
-        let r = subst (Rising (length s) e) p w.rising in
-        record {
-          four = w.four;
-          few = omega arith;
-          ahead = r.0;
-          inside = rising_most (length s) (get_or ends (depth - 1) 0) (around ends (depth - 1)) r.1;
-          rising = r.1;
-          same = same_with _ (left_end s tag a e opened q ∙ ap (outer s tag e) p);
-        }
+    -- its value starts two bytes on at least, and ends where its level ends at the latest
+    pub bounds : (2 ≤ h.start) × ((a + h.start + h.len ≤ e) × (e ≤ length s))
+    bounds = let i = object_inside s a e h q in (object_two s a e h q, (omega arith, w.inside))
 
-    module _ (h : TlvHeader) (q : next_in_template (part s a e) ≡ following.Inner h) where
-      pub deep : h.template ≡ true → depth ≡ 4 → Malformed ≡ all
-      deep t z =
-          let n = levels in
-          let l : 4 - length opened ≡ 0 = omega arith in
-          sym (same_with Malformed (left_deep s tag a e opened h q t l) ∙ first_malformed f)
+    abbrev here_found : TagFound
+    here_found = found_if_tag_matches (eqb h.tag tag) (a + h.start) h.len
 
-      -- its value starts two bytes on at least, and ends where its level ends at the latest
-      pub bounds : (2 ≤ h.start) × ((a + h.start + h.len ≤ e) × (e ≤ length s))
-      bounds = let i = object_inside s a e h q in (object_two s a e h q, (omega arith, w.inside))
+    module _ (g : TagFound) (own : g ≡ first_found_unless_malformed f here_found) where
+      found_so : (x : TagFound) → left s tag a e r ≡ first_found_unless_malformed here_found x
+          → all ≡ first_found_unless_malformed g x
+      found_so x p = same_with _ p ∙ sym (first_assoc f _ x) ∙ ap (λ (y : TagFound). first_found_unless_malformed y x)
+          (sym own)
 
-      abbrev here_found : TagFound
-      here_found = found_if_tag_matches (eqb h.tag tag) (a + h.start) h.len
+      pub leaf : h.template ≡ false → Reached s tag r (a + h.start + h.len) e g
+      leaf t =
+          let i = object_inside s a e h q in
+          record {
+            ahead = omega arith;
+            inside = w.inside;
+            rising = w.rising;
+            same = found_so _ (left_leaf s tag a e r h q t);
+          }
 
-      module _ (g : TagFound) (own : g ≡ first_found_unless_malformed f here_found) where
-        found_so : (x : TagFound) → left s tag a e opened ≡ first_found_unless_malformed here_found x
-            → all ≡ first_found_unless_malformed g x
-        found_so x p = same_with _ p ∙ sym (first_assoc f _ x) ∙ ap (λ (y : TagFound). first_found_unless_malformed y x)
-            (sym own)
-
-        pub leaf : h.template ≡ false → Reached s tag ends depth (a + h.start + h.len) e g
-        leaf t =
-            let i = object_inside s a e h q in
-            record {
-              four = w.four;
-              few = w.few;
-              ahead = omega arith;
-              inside = w.inside;
-              rising = w.rising;
-              same = found_so _ (left_leaf s tag a e opened h q t);
-            }
-
-        pub push : h.template ≡ true → (depth ≡ 4 → ⊥) → Reached s tag (set ends depth e) (depth + 1) (a + h.start)
-            (a + h.start + h.len) g
-        unfolding Rising
-        push t n =
-            let i = object_inside s a e h q in
-            let m = levels in
-            let p : around (set ends depth e) (depth + 1) ≡ e ∷ opened = around_push ends depth e (omega arith) in
-            let le : a + h.start + h.len ≤ e = omega arith in
-            record {
-              four = length-set ends depth e ∙ w.four;
-              few = omega arith;
-              ahead = omega arith;
-              inside = omega arith;
-              rising = subst (Rising (length s) (a + h.start + h.len)) (sym p) (le, w.rising);
-              same =
-                  found_so _
-                  (left_node s tag a e opened h q t (omega arith) ∙ ap
-                  (λ (r : List ℕ). first_found_unless_malformed here_found
-                  (left s tag (a + h.start) (a + h.start + h.len) r)) (sym p));
-            }
+      pub push : h.template ≡ true → length r < 4 → Reached s tag (e ∷ r) (a + h.start) (a + h.start + h.len) g
+      unfolding Rising
+      push t n =
+          let i = object_inside s a e h q in
+          record {
+            ahead = omega arith;
+            inside = omega arith;
+            rising = (omega arith, w.rising);
+            same = found_so _ (left_node s tag a e r h q t n);
+          }

@@ -4,11 +4,11 @@
 // `find` reports the place; `find_word` reports it as one word, for a host in C.
 #![tactic(auto)]
 
-ghost use Rattle.std.specs.Prelude.{◌≡◌};
+ghost use Rattle.std.specs.Prelude.{◌≡◌, ◌≤◌, ◌<◌, [], ◌∷◌, length, MatchOption, MatchBool};
 ghost use Rattle.find.specs.Find.{found_if_tag_matches, first_found_unless_malformed, find_tag_within_levels, find_tag};
 ghost use Rattle.find.specs.InTree.{TagFoundMatchesTree, tree_of_card_bytes};
 ghost use Rattle.find.specs.Word.{find_word};
-ghost use Rattle.find.specs.Inner.{FoundSpanWithin65535Bytes};
+ghost use Rattle.find.specs.Inner.{FoundSpanWithin65535Bytes, ends_around};
 
 use tlv::NextInTemplate;
 
@@ -31,12 +31,43 @@ pub struct ValueSpan {
     pub len: usize,
 }
 
-// What a search finds: the value of the first object of the tag, no such object, or bytes that are malformed.
+// What a search finds: the value of the first object of the tag, no such object, or bytes that are malformed. An enum
+// of its own, since it has three cases.
 #[derive(Clone, Copy)]
 pub enum TagFound {
     At(ValueSpan),
     Absent,
     Malformed,
+}
+
+// The open templates, the innermost last: for each, where the bytes around it end.
+#[derive(Drop)]
+struct OpenTemplates {
+    ends: [usize; LEVELS],
+    depth: usize,
+    ghost few: { depth ≤ 4 },
+}
+
+impl OpenTemplates {
+    // Opens one more, where there is a level left for it.
+    fn push(&mut self, end: usize) -> bool
+        ensures { MatchBool result ((length (ends_around self.old.ends self.old.depth) < 4) × (ends_around self.new.ends self.new.depth ≡ end ∷ ends_around self.old.ends self.old.depth)) (length (ends_around self.old.ends self.old.depth) ≡ 4) }
+    {
+        if self.depth == LEVELS {
+            return false;
+        }
+        self.ends[self.depth] = end;
+        self.depth += 1;
+        true
+    }
+
+    // Closes the innermost, and gives where the bytes around it end.
+    fn pop(&mut self) -> Option<usize>
+        ensures { MatchOption result (ends_around self.old.ends self.old.depth ≡ []) (λ e. ends_around self.old.ends self.old.depth ≡ e ∷ ends_around self.new.ends self.new.depth) }
+    {
+        self.depth = self.depth.checked_sub(1)?;
+        Some(self.ends[self.depth])
+    }
 }
 
 // The first object of a tag.
@@ -70,38 +101,36 @@ fn word(found: TagFound) -> u64
     }
 }
 
-// The objects one by one, a template before what it holds. `end` is where the innermost open template ends,
-// and `ends` has, for each open template, where the bytes around it end.
+// The objects one by one, a template before what it holds. `end` is where the innermost open template ends.
+// Kept: a loop, since each object's size is read from its bytes.
 fn walk(bytes: &[u8], tag: u32) -> TagFound
     ensures { result ≡ find_tag_within_levels tag 4 bytes.now }
 {
-    let mut ends = [0usize; LEVELS];
-    let mut depth = 0;
+    let mut open = OpenTemplates {
+        ends: [0; LEVELS],
+        depth: 0,
+    };
     let mut at = 0;
     let mut end = bytes.len();
     let mut found = TagFound::Absent;
-    loop {
-        let following = tlv::next_behind_padding(&bytes[at..end]);
-        match following {
+    'objects: loop {
+        match tlv::next_behind_padding(&bytes[at..end]) {
             NextInTemplate::Malformed => return TagFound::Malformed,
             NextInTemplate::End => {
-                if depth == 0 {
+                let Some(around) = open.pop() else {
                     return found;
-                }
-                depth -= 1;
+                };
                 at = end;
-                end = ends[depth];
+                end = around;
             }
             NextInTemplate::Inner(h) => {
                 let start = at + h.start;
                 let e = start + h.len;
                 found = first(found, h.tag == tag, start, h.len);
                 if h.template {
-                    if depth == LEVELS {
+                    if !open.push(end) {
                         return TagFound::Malformed;
                     }
-                    ends[depth] = end;
-                    depth += 1;
                     at = start;
                     end = e;
                 } else {
@@ -117,13 +146,8 @@ fn first(found: TagFound, same: bool, start: usize, len: usize) -> TagFound
     ensures { result ≡ first_found_unless_malformed found (found_if_tag_matches same start len) }
 {
     match found {
-        TagFound::Malformed => TagFound::Malformed,
-        TagFound::At(p) => TagFound::At(p),
-        TagFound::Absent => {
-            if same {
-                return TagFound::At(ValueSpan { start, len });
-            }
-            TagFound::Absent
-        }
+        TagFound::At(_) | TagFound::Malformed => found,
+        TagFound::Absent if same => TagFound::At(ValueSpan { start, len }),
+        TagFound::Absent => found,
     }
 }

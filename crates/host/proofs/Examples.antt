@@ -1,9 +1,9 @@
 -- The words of an object read back, of an explanation and of the version, computed: a wrong number is refused even
 -- where definition and code agree on it.
 -- Assumes nothing.
+use Rattle.std.specs.Prelude.{Some, None}
 use mathlib.Core.Path.{◌≡◌, refl}
 use mathlib.Core.List.{List, [], ◌∷◌}
-use mathlib.Core.Option.{some, none}
 use Prim.Native.Nat.{ℕ}
 use Rattle.basics.specs.Choice.{if}
 use Rattle.dictionary.specs.Rows.{dictionary_rows, row_found_shifted, find_row}
@@ -16,7 +16,7 @@ use Rattle.host.specs.Object.{nothing_copied, object_copied_from_store, object_c
 use Rattle.host.specs.Version.{version_word}
 
 -- no record; a tag outside the dictionary; a tag that a store of no bytes does not hold
-no_record : (t : ℕ) (l : List ℕ) → object_copied_from_session none t l ≡ nothing_copied 0x20019 l
+no_record : (t : ℕ) (l : List ℕ) → object_copied_from_session None t l ≡ nothing_copied 0x20019 l
 unfolding object_copied_from_session
 no_record t l = refl
 
@@ -48,10 +48,10 @@ unfolding object_copied_from_store if dictionary_rows find_row row_found_shifted
 empty = refl
 
 -- bytes that hold no record are not explained, and a fresh session has no choice
-unexplained : explanation_word_or_refusal none ≡ 0x20019
+unexplained : explanation_word_or_refusal None ≡ 0x20019
 unexplained = refl
 
-fresh : explanation_word_or_refusal (some fresh_session) ≡ 0x40000
+fresh : explanation_word_or_refusal (Some fresh_session) ≡ 0x40000
 unfolding explanation_of if
 fresh = rw fresh_keeps
 

@@ -1,25 +1,21 @@
 -- What holds of an object read back, way by way as the code takes it, and that a value has at most 254 bytes, so that
--- its word determines which of the five it is; and of bytes that are wiped one by one: they hold no record.
+-- its word determines which of the five it is; and of bytes that are wiped: they hold no record.
 -- Assumes nothing.
+use Rattle.std.specs.Prelude.{Some, None, Option}
 use mathlib.Core.Path.{◌≡◌, refl, sym, ap, subst⁻¹, ◌∙◌}
 use mathlib.Core.Bool.{true, false, not}
 use mathlib.Core.Logic.{◌⊎◌, inl, inr}
-use mathlib.Core.List.{List, [], ◌∷◌, ◌++◌}
-use mathlib.Core.Option.{Option, some, none}
-use Prim.Native.Nat.{ℕ, ◌+◌, ◌≤◌, ◌<◌}
-use native.Mathlib.Numerals.{add-one}
+use mathlib.Core.List.{List, ◌++◌}
+use Prim.Native.Nat.{ℕ, ◌≤◌, ◌<◌}
 use native.Mathlib.Omega.{arith}
 use lib.Dec.{eqb, ltb}
-use lib.ListN.{length, get_or, take, drop, set, replicate, length-take, length-replicate, get_or-replicate}
-use lib.ListN.{replicate-append-replicate}
-use lib.Seq.{take_all, take-length, take-suc-set}
+use lib.ListN.{length, get_or, take, drop, replicate, length-take, length-replicate, get_or-replicate}
 use borrow.Author.Tests.{lt-ltb, le-ltb}
 use Rattle.basics.specs.Front.{written_over_front}
 use Rattle.basics.specs.Reason.{refusal_record_out_of_ranges}
 use Rattle.basics.proofs.Laws.{if_yes, if_no, if_ind}
 use Rattle.basics.proofs.Order.{le-or-gt}
-use Rattle.dictionary.specs.Rows.{dictionary_rows, row_count, store_size, find_row}
-use Rattle.dictionary.specs.declared.RowFound.{RowFound}
+use Rattle.dictionary.specs.Rows.{dictionary_rows, store_size, find_row}
 use Rattle.dictionary.proofs.Find.{found}
 use Rattle.store.specs.Place.{bytes_or_empty_if_absent, is_present, row_value, row_offset}
 use Rattle.store.specs.Held.{lacks_object, stored_bytes}
@@ -29,11 +25,9 @@ use Rattle.session_record.specs.declared.Session.{Session}
 use Rattle.session_record.specs.Session.{store_bytes, session_of}
 use Rattle.session_record.specs.Ranges.{session_record_in_ranges}
 use Rattle.layout.specs.declared.SessionRecordHead.{SessionRecordHead}
-use Rattle.layout.specs.declared.DecodedRecordHead.{DecodedRecordHead}
 use Rattle.layout.specs.Layout.{layout_version, record_head_size, session_record_size, decoded_session, decoded_record_head}
-use Rattle.layout.specs.Layout.{decoded_store_or_unchanged}
 use Rattle.layout.specs.Word.{refusal_word}
-use Rattle.layout.proofs.Laws.{held_none, held_some, was_record, decoded_short, decoded_version}
+use Rattle.layout.proofs.Laws.{held_none, held_session, decoded_short, decoded_version}
 use Rattle.host.specs.Object.{object_absent_word, tag_unknown_word, length_needed_word, ObjectCopied}
 use Rattle.host.specs.Object.{ReturnsObjectCopied, row_is_found, object_copied_from_store}
 use Rattle.host.specs.Object.{object_copied_from_session}
@@ -41,26 +35,33 @@ use Rattle.host.specs.Object.{object_copied_from_session}
 -- ---- an object of a store
 
 -- a value has at most 254 bytes
-pub value_small : (b : List ℕ) (k : ℕ) → k < row_count → length (bytes_or_empty_if_absent (row_value dictionary_rows b k))
-    ≤ 254
+pub value_small : (b : List ℕ) (t k : ℕ) (v : List ℕ) → find_row dictionary_rows t ≡ Some k
+    → v ≡ bytes_or_empty_if_absent (row_value dictionary_rows b k) → length v ≤ 254
 unfolding stored_length
-value_small b k h = go (le-or-gt (length b) (row_offset dictionary_rows k))
+value_small b t k v e g = rw g (go (le-or-gt (length b) (row_offset dictionary_rows k)))
   where
     go : (length b ≤ row_offset dictionary_rows k) ⊎ (row_offset dictionary_rows k < length b)
         → length (bytes_or_empty_if_absent (row_value dictionary_rows b k)) ≤ 254
     go (inl f) = rw (no_place dictionary_rows b k f) (omega arith)
-    go (inr f) = rw (value_bytes dictionary_rows b k f) (simp length-take (omega (arith, row_inside k h)))
+    go (inr f) = rw (value_bytes dictionary_rows b k f) (simp length-take (omega (
+      arith,
+      row_inside k (omega (
+        arith,
+        (found dictionary_rows t k e).0,
+        rows_length,
+      )),
+    )))
 
 module _ (b : List ℕ) (t : ℕ) (l : List ℕ) where
-  pub object_unknown : find_row dictionary_rows t ≡ RowFound.Unknown
+  pub object_unknown : find_row dictionary_rows t ≡ None
       → ReturnsObjectCopied tag_unknown_word l (object_copied_from_store b t l)
   unfolding object_copied_from_store
   object_unknown e = subst⁻¹ (ReturnsObjectCopied tag_unknown_word l)
-      (if_yes _ _ (ap (λ (f : RowFound). not (row_is_found f)) e)) (record { word = refl; buffer = refl })
+      (if_yes _ _ (ap (λ (f : Option ℕ). not (row_is_found f)) e)) (record { word = refl; buffer = refl })
 
-  module _ (k : ℕ) (e : find_row dictionary_rows t ≡ RowFound.At k) where
+  module _ (k : ℕ) (e : find_row dictionary_rows t ≡ Some k) where
     known_no : not (row_is_found (find_row dictionary_rows t)) ≡ false
-    known_no = ap (λ (f : RowFound). not (row_is_found f)) e
+    known_no = ap (λ (f : Option ℕ). not (row_is_found f)) e
 
     pub object_absent : is_present (row_value dictionary_rows b k) ≡ false
         → ReturnsObjectCopied object_absent_word l (object_copied_from_store b t l)
@@ -87,35 +88,29 @@ module _ (b : List ℕ) (t : ℕ) (l : List ℕ) where
           ∙ lt-ltb _ _ h))
           (record { word = ap (λ (x : List ℕ). length_needed_word (length x)) (sym value-is); buffer = refl })
 
-      pub object_copied : (m : List ℕ) → length v ≤ length l → m ≡ take (length v) v ++ drop (length v) l
-          → ReturnsObjectCopied (length v) m (object_copied_from_store b t l)
+      pub object_copied : (m : List ℕ) → length v ≤ length l → m ≡ v
+          → ReturnsObjectCopied (length v) (m ++ drop (length v) l) (object_copied_from_store b t l)
       unfolding object_copied_from_store
       object_copied m h c =
-          subst⁻¹ (ReturnsObjectCopied (length v) m)
+          subst⁻¹ (ReturnsObjectCopied (length v) (m ++ drop (length v) l))
           (if_no _ _ known_no ∙ if_no _ _ lacks_no ∙ if_no _ _ (ap (λ (x : List ℕ). ltb (length l) (length x)) value-is
           ∙ le-ltb _ _ h))
           (record {
             word = ap length (sym value-is);
-            buffer = c ∙ ap (λ (x : List ℕ). x ++ drop (length v) l) (take-length v) ∙ ap
+            buffer = ap (λ (x : List ℕ). x ++ drop (length v) l) c ∙ ap
                 (λ (x : List ℕ). written_over_front x l) (sym value-is);
           })
 
 -- ---- an object of the session that bytes hold
 
--- the session of a record's head and the store after it
-pub session_is : (s : List ℕ) (h : SessionRecordHead) → decoded_record_head (decoded_session s) ≡ DecodedRecordHead.Record
-    h → decoded_session s ≡ some (session_of h.phase h.count (take store_size (drop record_head_size s)))
-session_is s h e = was_record (decoded_session s) h [] _ e
-    (sym (ap (λ (x : Option Session). decoded_store_or_unchanged x []) (held_some s h e).1))
-
 module _ (t : ℕ) (l : List ℕ) where
-  pub object_no_record : (x : Option Session) → decoded_record_head x ≡ DecodedRecordHead.Nothing → (w : ℕ)
+  pub object_no_record : (x : Option Session) → decoded_record_head x ≡ None → (w : ℕ)
       → w ≡ refusal_word refusal_record_out_of_ranges → ReturnsObjectCopied w l (object_copied_from_session x t l)
   unfolding object_copied_from_session
   object_no_record x e w f = subst⁻¹ (λ (y : Option Session). ReturnsObjectCopied w l (object_copied_from_session y t l))
       (held_none x e) (record { word = f; buffer = refl })
 
-  module _ (s : List ℕ) (h : SessionRecordHead) (e : decoded_record_head (decoded_session s) ≡ DecodedRecordHead.Record h)
+  module _ (s : List ℕ) (h : SessionRecordHead) (e : decoded_record_head (decoded_session s) ≡ Some h)
     where
       pub object_ranges : session_record_in_ranges
           (session_of h.phase h.count (take store_size (drop record_head_size s)))
@@ -125,7 +120,7 @@ module _ (t : ℕ) (l : List ℕ) where
       unfolding object_copied_from_session
       object_ranges f w g = subst⁻¹ (ReturnsObjectCopied w l)
           (ap (λ (x : Option Session). object_copied_from_session x t l)
-          (session_is s h e) ∙ if_no _ _ f) (record { word = g; buffer = refl })
+          (held_session s h e) ∙ if_no _ _ f) (record { word = g; buffer = refl })
 
       pub object_session : session_record_in_ranges
           (session_of h.phase h.count (take store_size (drop record_head_size s))) ≡ true
@@ -134,7 +129,7 @@ module _ (t : ℕ) (l : List ℕ) where
           → ReturnsObjectCopied w m (object_copied_from_session (decoded_session s) t l)
       unfolding object_copied_from_session
       object_session f w m d = subst⁻¹ (ReturnsObjectCopied w m)
-          (ap (λ (x : Option Session). object_copied_from_session x t l) (session_is s h e) ∙ if_yes _ _ f) d
+          (ap (λ (x : Option Session). object_copied_from_session x t l) (held_session s h e) ∙ if_yes _ _ f) d
 
 -- ---- what a word reports
 
@@ -142,10 +137,9 @@ module _ (t : ℕ) (l : List ℕ) where
 pub bytes_small : (b : List ℕ) (t : ℕ) → length (stored_bytes b t) ≤ 254
 bytes_small b t = go (find_row dictionary_rows t) refl
   where
-    go : (x : RowFound) → find_row dictionary_rows t ≡ x → length (stored_bytes b t) ≤ 254
-    go RowFound.Unknown e = rw (unknown_absent dictionary_rows b t e) (omega arith)
-    go (RowFound.At k) e = rw (by_row dictionary_rows b t k e)
-        (value_small b k (omega (arith, (found dictionary_rows t k e).0, rows_length)))
+    go : (x : Option ℕ) → find_row dictionary_rows t ≡ x → length (stored_bytes b t) ≤ 254
+    go None e = rw (unknown_absent dictionary_rows b t e) (omega arith)
+    go (Some k) e = value_small b t k (stored_bytes b t) e (ap bytes_or_empty_if_absent (by_row dictionary_rows b t k e))
 
 -- the value of a tag at the front of the caller's bytes
 abbrev valued : Session → ℕ → List ℕ → ObjectCopied
@@ -157,7 +151,7 @@ valued s t l = record {
 
 module _ (s : Session) (t : ℕ) (l : List ℕ) where
   -- a word up to 254 is the length of a value that was written
-  pub object_value_lem : (object_copied_from_session (some s) t l).word ≤ 254 → object_copied_from_session (some s) t l
+  pub object_value_lem : (object_copied_from_session (Some s) t l).word ≤ 254 → object_copied_from_session (Some s) t l
       ≡ valued s t l
   unfolding object_copied_from_session object_copied_from_store
   object_value_lem =
@@ -174,8 +168,8 @@ module _ (s : Session) (t : ℕ) (l : List ℕ) where
 pub object_kept : (x : Option Session) (t : ℕ) (l : List ℕ) → 254 < (object_copied_from_session x t l).word
     → (object_copied_from_session x t l).buffer ≡ l
 unfolding object_copied_from_session object_copied_from_store
-object_kept none t l = λ h. refl
-object_kept (some s) t l =
+object_kept None t l = λ h. refl
+object_kept (Some s) t l =
     if_ind P (session_record_in_ranges s) _ _
     (λ r. if_ind P _ _ _ (λ u h. refl)
     (λ u. if_ind P _ _ _ (λ v h. refl)
@@ -187,25 +181,11 @@ object_kept (some s) t l =
 
 -- ---- wiping
 
--- one more byte is wiped
-pub wipe_next : (s : List ℕ) (i : ℕ) → i < length s → take i s ≡ replicate i 0
-    → take (i + 1) (set s i 0) ≡ replicate (i + 1) 0
-wipe_next s i h e =
-    ap (λ (n : ℕ). take n (set s i 0)) (add-one i) ∙ take-suc-set s i 0 h ∙ ap (λ (x : List ℕ). x ++ (0 ∷ [])) e
-    ∙ replicate-append-replicate i 1 0
-
--- all of them
-pub wipe_all : (s : List ℕ) (i n : ℕ) → length s ≡ n → i ≤ length s → length s ≤ i → take i s ≡ replicate i 0
-    → s ≡ replicate n 0
-wipe_all s i n z h k e =
-    let q : i ≡ n = omega arith in
-    sym (take_all i s k) ∙ e ∙ ap (λ (m : ℕ). replicate m 0) q
-
 -- wiped bytes hold no record
-pub wiped_none : (n : ℕ) → decoded_session (replicate n 0) ≡ none
+pub wiped_none : (n : ℕ) → decoded_session (replicate n 0) ≡ None
 wiped_none n = go (le-or-gt session_record_size n)
   where
-    go : (session_record_size ≤ n) ⊎ (n < session_record_size) → decoded_session (replicate n 0) ≡ none
+    go : (session_record_size ≤ n) ⊎ (n < session_record_size) → decoded_session (replicate n 0) ≡ None
     go (inl h) =
         let z : get_or {A = ℕ} (replicate n 0) 0 0 ≡ 0 = get_or-replicate {A = ℕ} n 0 0 0 (omega arith) in
         decoded_version (replicate n 0) (ap (λ (x : ℕ). eqb x layout_version) z)

@@ -1,8 +1,7 @@
 -- A call over bytes that the host provides (docs/HOST.md): the session as a record at the front of its bytes, the
 -- answer as one word.
 -- Assumes nothing.
-use Rattle.std.specs.Prelude.{◌≡◌, length}
-use Rattle.std.proofs.Math.Option.{Option, some, none}
+use Rattle.std.specs.Prelude.{◌≡◌, length, Option, Some, None}
 use Rattle.basics.specs.Choice.{when◌then◌else◌, ◌≤?◌, ◌<?◌}
 use Rattle.session_record.specs.declared.Session.{Session}
 use Rattle.basics.specs.Reason.{refusal_buffer_too_small, refusal_record_out_of_ranges}
@@ -46,8 +45,8 @@ host_result_of_step l st =
 
 -- no record is refused as one that is out of its ranges
 abbrev pub host_step_or_refusal : (Session → Buffer → Step) → Bytes → Buffer → Option Session → HostResult
-host_step_or_refusal step l buf none = host_refusal refusal_record_out_of_ranges l buf
-host_step_or_refusal step l buf (some s) = host_result_of_step l (step s buf)
+host_step_or_refusal step l buf None = host_refusal refusal_record_out_of_ranges l buf
+host_step_or_refusal step l buf (Some s) = host_result_of_step l (step s buf)
 
 -- the buffer's size (22), then the record (25), then the step
 unfoldable pub perform_host_call_if_admitted : (Session → Buffer → Step) → Bytes → Buffer → HostResult
@@ -75,5 +74,5 @@ pub record HostOpened (returned_word : ResultWord) (session_bytes_before session
 
 -- the count of commands handed out; all 32 bits set where the bytes hold no record
 abbrev pub command_count_or_all_ones : Option Session → Count
-command_count_or_all_ones none = 0xFFFFFFFF
-command_count_or_all_ones (some s) = s.count
+command_count_or_all_ones None = 0xFFFFFFFF
+command_count_or_all_ones (Some s) = s.count

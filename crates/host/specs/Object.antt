@@ -1,13 +1,11 @@
 -- An object of the dictionary read back from a session's bytes into the caller's bytes for it (docs/HOST.md).
 -- Assumes nothing.
-use Rattle.std.specs.Prelude.{◌≡◌, Bool, true, false, not, ◌+◌, length}
-use Rattle.std.proofs.Math.Option.{Option, some, none}
+use Rattle.std.specs.Prelude.{◌≡◌, Bool, true, false, not, ◌+◌, length, Option, Some, None, ℕ}
 use Rattle.basics.specs.Choice.{when◌then◌else◌, ◌<?◌}
 use Rattle.basics.specs.Front.{written_over_front}
 use Rattle.basics.specs.Reason.{refusal_record_out_of_ranges}
 use Rattle.basics.specs.Types.{Bytes, StoreBytes, Tag, Length, ResultWord}
 use Rattle.dictionary.specs.Rows.{dictionary_rows, find_row}
-use Rattle.dictionary.specs.declared.RowFound.{RowFound}
 use Rattle.store.specs.Held.{lacks_object, stored_bytes}
 use Rattle.session_record.specs.declared.Session.{Session}
 use Rattle.session_record.specs.Session.{store_bytes}
@@ -48,9 +46,9 @@ nothing_copied w l = record { word = w; buffer = l }
 -- ---- the call
 
 -- the dictionary has a row for a tag
-abbrev pub row_is_found : RowFound → Bool
-row_is_found RowFound.Unknown = false
-row_is_found (RowFound.At k) = true
+abbrev pub row_is_found : Option ℕ → Bool
+row_is_found None = false
+row_is_found (Some k) = true
 
 -- the object of a tag in the store b: the tag, then whether it is present, then the room for it; an empty
 -- one is present
@@ -63,8 +61,8 @@ object_copied_from_store b t l =
 
 -- the same of a session, if there is one that is in its ranges
 unfoldable pub object_copied_from_session : Option Session → Tag → Bytes → ObjectCopied
-object_copied_from_session none t l = nothing_copied (refusal_word refusal_record_out_of_ranges) l
-object_copied_from_session (some s) t l =
+object_copied_from_session None t l = nothing_copied (refusal_word refusal_record_out_of_ranges) l
+object_copied_from_session (Some s) t l =
     when session_record_in_ranges s then object_copied_from_store (store_bytes s) t l
     else nothing_copied (refusal_word refusal_record_out_of_ranges) l
 

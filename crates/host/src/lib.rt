@@ -9,29 +9,22 @@
 #![tactic(auto)]
 
 ghost use Rattle.std.specs.Prelude.{◌≡◌};
-ghost use Rattle.layout.specs.Layout.{session_record_size, decoded_session, record_head_written_over_front_if_room};
-ghost use Rattle.layout.specs.Word.{result_word};
+ghost use Rattle.layout.specs.Layout.{session_record_size, decoded_session};
 ghost use Rattle.find.specs.Find.{find_tag};
 ghost use Rattle.find.specs.Word.{find_word};
-ghost use Rattle.session.specs.Steps.{link_failed_step, stop_step};
+ghost use Rattle.basics.specs.Types.{Buffer};
+ghost use Rattle.session_record.specs.declared.Session.{Session};
+ghost use Rattle.session.specs.Steps.{Step, link_failed_step, stop_step};
 ghost use Rattle.host.specs.Hosted.{ReturnsHostResult, HostOpened, perform_host_call_if_admitted, host_start, host_answer, command_count_or_all_ones};
-ghost use Rattle.host.specs.Inner.{host_admission};
+ghost use Rattle.host.specs.Inner.{TakesStep};
 ghost use Rattle.host.specs.Explain.{explanation_word_or_refusal};
 ghost use Rattle.host.specs.Object.{ReturnsObjectCopied, object_copied_from_store, object_copied_from_session};
 ghost use Rattle.host.specs.Wipe.{SessionWiped};
 ghost use Rattle.host.specs.Version.{version_word};
 
-use dictionary::RowFound;
-use layout::{DecodedRecordHead, HEAD, RECORD_SIZE, SessionRecordHead};
+use layout::{HEAD, RECORD_SIZE};
 use session::LEAST_BUFFER;
 use session_record::{Phase, Transition};
-
-// Whether a call is taken, on the record of a head, or the word of its refusal.
-#[derive(Clone, Copy)]
-pub enum HostAdmission {
-    Admitted(SessionRecordHead),
-    Refused(u32),
-}
 
 // The count where the bytes hold no record.
 const NO_COUNT: u32 = 0xFFFFFFFF;
@@ -74,21 +67,9 @@ pub fn emv_start(session: &mut [u8], terminal: &[u8], command: &mut [u8]) -> u32
     ensures { ReturnsHostResult result session.new command.new
         (host_start terminal.now session.old command.old) }
 {
-    let admission = admit(session, command.len());
-    match admission {
-        HostAdmission::Refused(word) => word,
-        HostAdmission::Admitted(head) => {
-            let phase = head.phase;
-            let transition = session::start_on_parts(
-                phase,
-                head.count,
-                &mut session[HEAD..RECORD_SIZE],
-                terminal,
-                command,
-            );
-            finish(transition, session)
-        }
-    }
+    perform(session, command, |phase, count, store, command| {
+        session::start_on_parts(phase, count, store, terminal, command)
+    })
 }
 
 // Takes the card's answer to the command that was handed out last, status bytes included.
@@ -96,21 +77,9 @@ pub fn emv_answer(session: &mut [u8], card: &[u8], command: &mut [u8]) -> u32
     ensures { ReturnsHostResult result session.new command.new
         (host_answer card.now session.old command.old) }
 {
-    let admission = admit(session, command.len());
-    match admission {
-        HostAdmission::Refused(word) => word,
-        HostAdmission::Admitted(head) => {
-            let phase = head.phase;
-            let transition = session::answer_on_parts(
-                phase,
-                head.count,
-                &mut session[HEAD..RECORD_SIZE],
-                card,
-                command,
-            );
-            finish(transition, session)
-        }
-    }
+    perform(session, command, |phase, count, store, command| {
+        session::answer_on_parts(phase, count, store, card, command)
+    })
 }
 
 // The link to the card failed.
@@ -118,20 +87,9 @@ pub fn emv_link_failed(session: &mut [u8], command: &mut [u8]) -> u32
     ensures { ReturnsHostResult result session.new command.new
         (perform_host_call_if_admitted link_failed_step session.old command.old) }
 {
-    let admission = admit(session, command.len());
-    match admission {
-        HostAdmission::Refused(word) => word,
-        HostAdmission::Admitted(head) => {
-            let phase = head.phase;
-            let transition = session::link_failed_on_parts(
-                phase,
-                head.count,
-                &session[HEAD..RECORD_SIZE],
-                command,
-            );
-            finish(transition, session)
-        }
-    }
+    perform(session, command, |phase, count, store, command| {
+        session::link_failed_on_parts(phase, count, store, command)
+    })
 }
 
 // The terminal stops the session.
@@ -139,44 +97,30 @@ pub fn emv_stop(session: &mut [u8], command: &mut [u8]) -> u32
     ensures { ReturnsHostResult result session.new command.new
         (perform_host_call_if_admitted stop_step session.old command.old) }
 {
-    let admission = admit(session, command.len());
-    match admission {
-        HostAdmission::Refused(word) => word,
-        HostAdmission::Admitted(head) => {
-            let phase = head.phase;
-            let transition = session::stop_on_parts(
-                phase,
-                head.count,
-                &session[HEAD..RECORD_SIZE],
-                command,
-            );
-            finish(transition, session)
-        }
-    }
+    perform(session, command, |phase, count, store, command| {
+        session::stop_on_parts(phase, count, store, command)
+    })
 }
 
 // How many commands the session has handed out; NO_COUNT where the bytes hold no record.
 pub fn emv_count(session: &[u8]) -> u32
     ensures { result ≡ command_count_or_all_ones (decoded_session session.now) }
 {
-    let held = layout::decode_record_head(session);
-    let DecodedRecordHead::Record(head) = held else {
+    let Some(head) = layout::decode_record_head(session) else {
         return NO_COUNT;
     };
-    basics::widen32(head.count)
+    u32::from(head.count)
 }
 
 // Why the session is where it is: the stage that decided, the lowest bit that forced its choice and who holds it.
 pub fn emv_explain(session: &[u8]) -> u32
     ensures { result ≡ explanation_word_or_refusal (decoded_session session.now) }
 {
-    let held = layout::decode_record_head(session);
-    let DecodedRecordHead::Record(head) = held else {
+    let Some(head) = layout::decode_record_head(session) else {
         return layout::refusal_word(basics::REFUSED_RANGES);
     };
-    let phase = head.phase;
     explain::explanation_word(explain::explain_parts(
-        phase,
+        head.phase,
         head.count,
         &session[HEAD..RECORD_SIZE],
     ))
@@ -187,15 +131,14 @@ pub fn emv_explain(session: &[u8]) -> u32
 pub fn emv_object(session: &[u8], tag: u32, value: &mut [u8]) -> u32
     ensures { ReturnsObjectCopied result value.new (object_copied_from_session (decoded_session session.now) tag value.old) }
 {
-    let held = layout::decode_record_head(session);
-    let DecodedRecordHead::Record(head) = held else {
+    let Some(head) = layout::decode_record_head(session) else {
         return layout::refusal_word(basics::REFUSED_RANGES);
     };
-    let phase = head.phase;
-    if !session_record::session_parts_in_ranges(phase, head.count, &session[HEAD..RECORD_SIZE]) {
+    let store = &session[HEAD..RECORD_SIZE];
+    if !session_record::session_parts_in_ranges(head.phase, head.count, store) {
         return layout::refusal_word(basics::REFUSED_RANGES);
     }
-    object_in(&session[HEAD..RECORD_SIZE], tag, value)
+    object_in(store, tag, value)
 }
 
 // The first object of a tag in a card's bytes: its value's place and length, none, or that the bytes are malformed.
@@ -209,11 +152,7 @@ pub fn emv_find(bytes: &[u8], tag: u32) -> u64
 pub fn emv_wipe(session: &mut [u8]) -> u32
     ensures { SessionWiped result session.old session.new }
 {
-    let mut i = 0;
-    while i < session.len() {
-        session[i] = 0;
-        i += 1;
-    }
+    session.fill(0);
     0
 }
 
@@ -221,42 +160,41 @@ pub fn emv_wipe(session: &mut [u8]) -> u32
 pub fn emv_version() -> u32
     ensures { result ≡ version_word }
 {
-    MAJOR * 0x1000000 + MINOR * 0x10000 + PATCH * 0x100 + basics::widen32(layout::layout_version())
+    MAJOR * 0x1000000 + MINOR * 0x10000 + PATCH * 0x100 + u32::from(layout::layout_version())
 }
 
-// A buffer that is too short is refused before bytes that hold no record.
-fn admit(session: &[u8], size: usize) -> HostAdmission
-    ensures { result ≡ host_admission session.now size }
+// A call: a buffer that is too short is refused before bytes that hold no record; else the step on the parts of their
+// session, whose store it leaves in its place, then the head before the store and the word of the answer.
+fn perform<F: FnOnce(Phase, u8, &mut [u8], &mut [u8]) -> Transition>(
+    session: &mut [u8],
+    command: &mut [u8],
+    step: F,
+) -> u32
+    requires { F.IsAlwaysCallable step }
+    ensures { (s : Session → Buffer → Step) → TakesStep (F.post step) s → ReturnsHostResult result session.new command.new
+        (perform_host_call_if_admitted s session.old command.old) }
 {
-    if size < LEAST_BUFFER {
-        return HostAdmission::Refused(layout::refusal_word(basics::REFUSED_BUFFER));
+    if command.len() < LEAST_BUFFER {
+        return layout::refusal_word(basics::REFUSED_BUFFER);
     }
-    let held = layout::decode_record_head(session);
-    match held {
-        DecodedRecordHead::Record(head) => HostAdmission::Admitted(head),
-        DecodedRecordHead::Nothing => HostAdmission::Refused(layout::refusal_word(
-            basics::REFUSED_RANGES,
-        )),
-    }
-}
-
-// Writes the head of a transition at the front of the caller's bytes, whose store the call left in its place, and gives
-// the word of its answer.
-fn finish(transition: Transition, session: &mut [u8]) -> u32
-    ensures { (result ≡ result_word transition.answer) × (session.new ≡ record_head_written_over_front_if_room transition.phase transition.count session.old) }
-{
-    let phase = transition.phase;
-    layout::write_record_head(phase, transition.count, session);
-    let answer = transition.answer;
-    layout::result_word(answer)
+    let Some(head) = layout::decode_record_head(session) else {
+        return layout::refusal_word(basics::REFUSED_RANGES);
+    };
+    let transition = step(
+        head.phase,
+        head.count,
+        &mut session[HEAD..RECORD_SIZE],
+        command,
+    );
+    layout::write_record_head(transition.phase, transition.count, session);
+    layout::result_word(transition.answer)
 }
 
 // The object of a tag in a store: the tag, then whether it is present, then the room for it.
 fn object_in(bytes: &[u8], tag: u32, value: &mut [u8]) -> u32
     ensures { ReturnsObjectCopied result value.new (object_copied_from_store bytes.now tag value.old) }
 {
-    let found = dictionary::lookup_row(tag).found;
-    let RowFound::At(row) = found else {
+    let Some(row) = dictionary::lookup_row(tag).found else {
         return UNKNOWN;
     };
     if !store::is_present(bytes, row) {
@@ -267,6 +205,6 @@ fn object_in(bytes: &[u8], tag: u32, value: &mut [u8]) -> u32
     if value.len() < v.len() {
         return NEEDED + size;
     }
-    basics::copy(v, value);
+    value[..v.len()].copy_from_slice(v);
     size
 }

@@ -1,10 +1,10 @@
 -- The accepted AFL: the first answer taken comes while the answer to GPO is awaited, and there a command is handed out
 -- exactly where the rules give no reason. So the word of that answer reports whether its AFL is accepted.
 -- Assumes nothing.
+use Rattle.std.specs.Prelude.{Option, Some, None}
 use mathlib.Core.Path.{◌≡◌, refl, sym, ap, subst, ◌∙◌}
 use mathlib.Core.Bool.{Bool, true, false}
 use mathlib.Core.List.{List, map}
-use mathlib.Core.Option.{Option, some, none}
 use Prim.Native.Nat.{ℕ}
 use lib.Dec.{eqb}
 use Rattle.basics.specs.Choice.{if}
@@ -48,12 +48,12 @@ module _ (s : Session) (card buf : List ℕ) (q : s.phase ≡ Phase.Waiting Awai
 -- an answer, and no other call
 afl_of : (s : Session) (c : Call) (st : Step) → is_answer c ≡ true → st ≡ call_step s c → Small st.reply.answer
     → is_refusal st.reply.answer ≡ false → s.phase ≡ Phase.Waiting AwaitedResponse.Gpo
-    → host_afl_accepted_from_gpo_answer (some (host_view_of_call (call_made s c st))) ≡ afl_accepted_from_gpo_answer
-    (some (call_made s c st))
+    → host_afl_accepted_from_gpo_answer (Some (host_view_of_call (call_made s c st))) ≡ afl_accepted_from_gpo_answer
+    (Some (call_made s c st))
 afl_of s (start bytes buf) st a e h t q = no a
 afl_of s (answer card buf) st a e h t q =
     let r = sym (ap (λ (x : Step). is_refusal x.reply.answer) e) ∙ t in
-    ap (λ (b : Bool). if b (afl_in_gpo_response card) none)
+    ap (λ (b : Bool). if b (afl_in_gpo_response card) None)
     (word_command st.reply.answer h ∙ ap (λ (x : Step). is_command x.reply.answer) e
     ∙ command_by_rules s card buf q r)
 afl_of s (link_failed buf) st a e h t q = no a
@@ -71,8 +71,8 @@ read_afl cs = ap host_afl_accepted_from_gpo_answer (read_first_taken ms (play_kn
 
     go : (x : Option CallMade) → first_answer (calls_accepted ms) ≡ x → host_afl_accepted_from_gpo_answer (as_read x)
         ≡ afl_accepted_from_gpo_answer x
-    go none e = refl
-    go (some m) e =
+    go None e = refl
+    go (Some m) e =
         let known = taken_all Known ms (play_known fresh_session cs) in
         let k = first_all (λ x. Known x × (call_refused x ≡ false)) (calls_accepted ms) m known e in
         afl_of m.before m.call m.step (first_answers (calls_accepted ms) m e) k.0.is_step k.0.small

@@ -1,11 +1,11 @@
 -- One call over bytes that hold a session is the session's call: the record of the session that it leaves lies at the
 -- front of the same bytes, and is read back by the next call. A record over a record leaves what one record leaves.
 -- Assumes nothing.
+use Rattle.std.specs.Prelude.{Some}
 use mathlib.Core.Path.{◌≡◌, sym, ap, ◌∙◌}
 use mathlib.Core.Bool.{true}
 use mathlib.Core.Logic.{inl, inr}
 use mathlib.Core.List.{List, ◌++◌}
-use mathlib.Core.Option.{some}
 use Prim.Native.Nat.{ℕ, ◌≤◌}
 use native.Mathlib.Omega.{arith}
 use lib.Dec.{ltb}
@@ -42,7 +42,7 @@ module _ (s : Session) (i : session_record_in_ranges s ≡ true) (l : List ℕ) 
   size = let z = store_size_lem s i in simp length-append (omega arith)
 
   -- it is read back
-  pub record_held : decoded_session (session_written_over_front_if_room s l) ≡ some s
+  pub record_held : decoded_session (session_written_over_front_if_room s l) ≡ Some s
   record_held = ap decoded_session (written s l h) ∙ decode-encode s (drop session_record_size l) (store_size_lem s i)
 
   -- the bytes after it stay, and all are enough as before
@@ -69,7 +69,7 @@ short : (s : Session) (buf : List ℕ) (x : CallEffect) → ltb (length buf) lea
 unfolding step_if_admitted
 short s buf x t = if_yes _ _ t
 
-module _ (l : List ℕ) (s : Session) (e : decoded_session l ≡ some s) where
+module _ (l : List ℕ) (s : Session) (e : decoded_session l ≡ Some s) where
   call_is : (f : Session → List ℕ → Step) (buf : List ℕ)
       → (ltb (length buf) least_buffer ≡ true → f s buf ≡ steps.refused_step s refusal_buffer_too_small buf)
       → perform_host_call_if_admitted f l buf ≡ host_result_of_step l (f s buf)
@@ -88,6 +88,6 @@ module _ (l : List ℕ) (s : Session) (e : decoded_session l ≡ some s) where
   over_session (link_failed buf) = call_is link_failed_step buf (short s buf _)
   over_session (stop buf) = call_is stop_step buf (short s buf _)
 
-pub as_session : (l : List ℕ) (s : Session) (c : Call) → decoded_session l ≡ some s
+pub as_session : (l : List ℕ) (s : Session) (c : Call) → decoded_session l ≡ Some s
     → host_result_of_call l c ≡ host_result_of_step l (call_step s c)
 as_session l s c e = over_session l s e c

@@ -2,9 +2,9 @@
 -- that is the
 -- same.
 -- Assumes nothing.
+use Rattle.std.specs.Prelude.{Some}
 use mathlib.Core.Path.{◌≡◌, refl, sym, ap, ◌∙◌}
 use mathlib.Core.List.{List, map}
-use mathlib.Core.Option.{some}
 use Prim.Native.Nat.{ℕ}
 use native.Mathlib.Omega.{arith}
 use lib.ListN.{length, take, length-map}
@@ -66,7 +66,7 @@ module _ (cs : List Call) where
   number : length (host_commands_handed_out hs) ≡ length (commands_sent ms)
   number = ap length commands_same
 
-  pub words_proper : (l : List ℕ) → decoded_session l ≡ some last → HostCallsAndBytesAfterInPublishedOrder hs l
+  pub words_proper : (l : List ℕ) → decoded_session l ≡ Some last → HostCallsAndBytesAfterInPublishedOrder hs l
   words_proper l e =
       let p = session_proper in
       record {

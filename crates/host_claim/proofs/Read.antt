@@ -3,10 +3,10 @@
 -- command, outcome and refusal apart, and a command's length, since no call hands out more than 261 bytes. Each reading
 -- by induction over the calls.
 -- Assumes nothing.
+use Rattle.std.specs.Prelude.{Option, Some, None}
 use mathlib.Core.Path.{◌≡◌, refl, sym, ap, ap₂, ◌∙◌}
 use mathlib.Core.Bool.{Bool, true, false}
 use mathlib.Core.List.{List, [], ◌∷◌, ◌++◌, map}
-use mathlib.Core.Option.{Option, some, none}
 use Prim.Native.Nat.{ℕ}
 use native.Mathlib.Omega.{arith}
 use lib.Dec.{eqb}
@@ -122,26 +122,26 @@ taken_all P (m ∷ ms) k =
     if_ind (All (λ x. P x × (call_refused x ≡ false))) (call_refused m) _ _ (λ e. r) (λ e. ((k.0, e), r))
 
 -- and of the first answer and the last call among them
-pub first_all : (P : CallMade → Type 0) (ms : List CallMade) (m : CallMade) → All P ms → first_answer ms ≡ some m → P m
+pub first_all : (P : CallMade → Type 0) (ms : List CallMade) (m : CallMade) → All P ms → first_answer ms ≡ Some m → P m
 unfolding first_answer
 first_all P [] m k e = let z : ◌≡◌ {A = ℕ} 0 1 = cc in absurd (omega arith)
 first_all P (x ∷ ms) m k e =
-    if_ind (λ (o : Option CallMade). o ≡ some m → P m) (is_answer x.call) _ _ (λ t q. found q)
+    if_ind (λ (o : Option CallMade). o ≡ Some m → P m) (is_answer x.call) _ _ (λ t q. found q)
     (λ t. first_all P ms m k.1) e
   where
-    found : some x ≡ some m → P m
+    found : Some x ≡ Some m → P m
     found q = let r : x ≡ m = cc in rw r at k.0
 
 -- the first answer is an answer
-pub first_answers : (ms : List CallMade) (m : CallMade) → first_answer ms ≡ some m → is_answer m.call ≡ true
+pub first_answers : (ms : List CallMade) (m : CallMade) → first_answer ms ≡ Some m → is_answer m.call ≡ true
 unfolding first_answer
 first_answers [] m e = let z : ◌≡◌ {A = ℕ} 0 1 = cc in absurd (omega arith)
 first_answers (x ∷ ms) m e =
-    if_ind (λ (o : Option CallMade). o ≡ some m → is_answer m.call ≡ true) (is_answer x.call) _ _
+    if_ind (λ (o : Option CallMade). o ≡ Some m → is_answer m.call ≡ true) (is_answer x.call) _ _
     (λ t q. let r : x ≡ m = cc in ap (λ (y : CallMade). is_answer y.call) (sym r) ∙ t)
     (λ t. first_answers ms m) e
 
-last_all : (P : CallMade → Type 0) (ms : List CallMade) (m : CallMade) → All P ms → last_element ms ≡ some m → P m
+last_all : (P : CallMade → Type 0) (ms : List CallMade) (m : CallMade) → All P ms → last_element ms ≡ Some m → P m
 unfolding last_element
 last_all P [] m k e = let z : ◌≡◌ {A = ℕ} 0 1 = cc in absurd (omega arith)
 last_all P (x ∷ []) m k e = let q : x ≡ m = cc in rw q at k.0
@@ -194,15 +194,15 @@ read_unanswered ms k =
 
 -- the first answer and the last call, if there is one
 abbrev pub as_read : Option CallMade → Option HostCallMade
-as_read none = none
-as_read (some m) = some (host_view_of_call m)
+as_read None = None
+as_read (Some m) = Some (host_view_of_call m)
 
 read_first : (ms : List CallMade) → first_answer_call (map host_view_of_call ms) ≡ as_read (first_answer ms)
 unfolding first_answer_call first_answer
 read_first [] = refl
 read_first (m ∷ ms) =
-    ap (if (is_answer m.call) (some (host_view_of_call m))) (read_first ms)
-    ∙ sym (if_ap as_read (is_answer m.call) (some m) (first_answer ms))
+    ap (if (is_answer m.call) (Some (host_view_of_call m))) (read_first ms)
+    ∙ sym (if_ap as_read (is_answer m.call) (Some m) (first_answer ms))
 
 pub read_first_taken : (ms : List CallMade) → All Known ms
     → first_answer_call (host_calls_not_refused (map host_view_of_call ms)) ≡ as_read (first_answer (calls_accepted ms))
@@ -215,8 +215,8 @@ read-last (x ∷ []) = refl
 read-last (x ∷ y ∷ ms) = read-last (y ∷ ms)
 
 by_kind : (x : Option CallMade) → host_final_command_kind_by_gpo_answer (as_read x) ≡ final_command_kind_by_gpo_answer x
-by_kind none = refl
-by_kind (some m) = refl
+by_kind None = refl
+by_kind (Some m) = refl
 
 pub read_last_kind : (ms : List CallMade) → All Known ms
     → host_final_command_kind_by_gpo_answer (first_answer_call (host_calls_not_refused (map host_view_of_call ms)))
@@ -234,6 +234,6 @@ read_stage ms k = ap host_stage_after_last_accepted_call (ap last_element (read_
   where
     go : (x : Option CallMade) → last_element (calls_accepted ms) ≡ x → host_stage_after_last_accepted_call (as_read x)
         ≡ stage_after_last_accepted_call x
-    go none e = refl
-    go (some m) e = word_stage (call_result m)
+    go None e = refl
+    go (Some m) e = word_stage (call_result m)
         (last_all Known (calls_accepted ms) m (known_of (calls_accepted ms) (taken_all Known ms k)) e).small

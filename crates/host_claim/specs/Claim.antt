@@ -2,8 +2,7 @@
 -- result words, the command buffers and the session's bytes of a host's calls, and that it is that claim of session's
 -- calls.
 -- Assumes nothing.
-use Rattle.std.specs.Prelude.{◌≡◌, true, List, [], ◌∷◌, ◌++◌, map, ◌+◌, ◌≤◌, length, take, drop}
-use Rattle.std.proofs.Math.Option.{some}
+use Rattle.std.specs.Prelude.{◌≡◌, true, List, [], ◌∷◌, ◌++◌, map, ◌+◌, ◌≤◌, length, take, drop, Some}
 use Rattle.basics.specs.Types.{Bytes}
 use Rattle.basics.specs.Choice.{every, one_if}
 use Rattle.session_record.specs.declared.Session.{Session}
@@ -28,7 +27,7 @@ use Rattle.host_claim.specs.Words.{host_stage_after_last_accepted_call}
 pub record HostCallsAndBytesAfterInPublishedOrder (calls_made : List HostCallMade) (bytes_after : Bytes) : Type 0 where
   -- the bytes hold a session
   pub session : Session
-  pub held : decoded_session bytes_after ≡ some session
+  pub held : decoded_session bytes_after ≡ Some session
   -- the N commands handed out are the first N of the published order
   pub order : let first = first_answer_call (host_calls_not_refused calls_made) in
       map command_kind (host_commands_handed_out calls_made)

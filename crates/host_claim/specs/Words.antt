@@ -1,8 +1,7 @@
 -- What a host reads off the result words and the command buffers of its calls (document 01, "What demand 3 counts";
 -- docs/HOST.md has the words). Nothing here reads the session's bytes.
 -- Assumes nothing.
-use Rattle.std.specs.Prelude.{Bool, true, false, not, List, [], ◌∷◌, ◌++◌, take}
-use Rattle.std.proofs.Math.Option.{Option, some, none}
+use Rattle.std.specs.Prelude.{Bool, true, false, not, List, [], ◌∷◌, ◌++◌, take, Option, Some, None}
 use Rattle.basics.specs.Types.{Response, CommandBytes, AflBytes, ResultWord}
 use Rattle.basics.specs.Choice.{when◌then◌else◌, ◌and◌, ◌or◌, ◌=?◌}
 use Rattle.basics.specs.Reason.{refusal_record_out_of_ranges}
@@ -99,9 +98,9 @@ host_unanswered_commands ms = host_commands_with_no_later_answer (host_calls_not
 
 -- the first answer among calls
 unfoldable pub first_answer_call : List HostCallMade → Option HostCallMade
-first_answer_call [] = none
+first_answer_call [] = None
 first_answer_call (m ∷ ms) =
-    when is_answer_call m.call then some m
+    when is_answer_call m.call then Some m
     else first_answer_call ms
 
 -- the card's bytes that a call brings; only an answer brings any
@@ -112,15 +111,15 @@ host_card_bytes (on_session c) = card_bytes c
 -- by the first answer not refused: the AFL that it brings, where its word is that of a command, as it is exactly where
 -- the rules give the answer no reason. That this is the accepted AFL by the rules is `same_afl` of the claim
 abbrev pub host_afl_accepted_from_gpo_answer : Option HostCallMade → Option AflBytes
-host_afl_accepted_from_gpo_answer none = none
-host_afl_accepted_from_gpo_answer (some m) =
+host_afl_accepted_from_gpo_answer None = None
+host_afl_accepted_from_gpo_answer (Some m) =
     when is_command_word m.word then afl_in_gpo_response (host_card_bytes m.call)
-    else none
+    else None
 
 -- by the first answer not refused: the last command, by the AIP that it brings
 abbrev pub host_final_command_kind_by_gpo_answer : Option HostCallMade → CommandKind
-host_final_command_kind_by_gpo_answer none = cryptogram
-host_final_command_kind_by_gpo_answer (some m) = final_command_kind_for_aip (aip_in_gpo_response (host_card_bytes m.call))
+host_final_command_kind_by_gpo_answer None = cryptogram
+host_final_command_kind_by_gpo_answer (Some m) = final_command_kind_for_aip (aip_in_gpo_response (host_card_bytes m.call))
 
 -- ---- the stage of the session
 
@@ -133,5 +132,5 @@ stage_after_accepted_word w =
 
 -- by the last call not refused; it is fresh where there is none
 abbrev pub host_stage_after_last_accepted_call : Option HostCallMade → SessionStage
-host_stage_after_last_accepted_call none = fresh
-host_stage_after_last_accepted_call (some m) = stage_after_accepted_word m.word
+host_stage_after_last_accepted_call None = fresh
+host_stage_after_last_accepted_call (Some m) = stage_after_accepted_word m.word

@@ -5,7 +5,6 @@
 #![tactic(auto)]
 
 ghost use Rattle.std.specs.Prelude.{◌≡◌, List, ℕ};
-ghost use Rattle.std.proofs.Math.Option.{some};
 ghost use Rattle.session_record.specs.declared.Session.{Session};
 ghost use Rattle.session.specs.Calls.{Call, call_step};
 ghost use Rattle.layout.specs.Layout.{decoded_session};
@@ -18,6 +17,6 @@ pub fn host_calls_follow_published_order()
     ensures claim { (before l : List ℕ) (cs : List HostCall) → HostOpened 0 before l
         → HostCallsInOrderAndAsSessionCalls before (play_host_calls l cs) (final_session_bytes l cs) }
     ensures open { (l : List ℕ) → HostOpened (host_step l opening).word l (host_step l opening).session }
-    ensures session { (l : List ℕ) (s : Session) (c : Call) → decoded_session l ≡ some s
+    ensures session { (l : List ℕ) (s : Session) (c : Call) → decoded_session l ≡ Some s
         → host_result_of_call l c ≡ host_result_of_step l (call_step s c) }
 {}

@@ -1,10 +1,10 @@
 -- A call's record is read back as that call: the length from its two bytes, the bytes from the front of the body,
 -- zeros after them.
 -- Assumes nothing.
+use Rattle.std.specs.Prelude.{Some}
 use mathlib.Core.Path.{◌≡◌, refl, ap, ◌∙◌}
 use mathlib.Core.Bool.{true}
 use mathlib.Core.List.{List, [], ◌∷◌}
-use mathlib.Core.Option.{some}
 use Prim.Native.Nat.{ℕ, zero, suc, ◌+◌, ◌-◌, ◌*◌, ◌/◌, ◌%◌, ◌≤◌, ◌<◌}
 use native.Mathlib.Omega.{arith}
 use lib.ListN.{length, take, drop, replicate}
@@ -44,18 +44,18 @@ module _ (k n : ℕ) (v : List ℕ) (f : length v ≤ n) (small : n < 65535) whe
       ∙ ap (every is_zero_byte) (drop-append_seam v (replicate (n - length v) 0)) ∙ zeros (n - length v))
 
 pub start_back : (v : List ℕ) → length v ≤ 1024
-    → call_from_journal_record (journal_call_record (start v journal_command_buffer)) ≡ some (start v journal_command_buffer)
+    → call_from_journal_record (journal_call_record (start v journal_command_buffer)) ≡ Some (start v journal_command_buffer)
 start_back v h =
     kind_start _ refl ∙ if_yes _ _ (fits_read 1 1024 v h (omega arith)) ∙ ap
-    (λ (b : List ℕ). some (start b journal_command_buffer)) (brought_read 1 1024 v h (omega arith))
+    (λ (b : List ℕ). Some (start b journal_command_buffer)) (brought_read 1 1024 v h (omega arith))
 
 pub answer_back : (v : List ℕ) → length v ≤ 258
-    → call_from_journal_record (journal_call_record (answer v journal_command_buffer)) ≡ some (answer v journal_command_buffer)
+    → call_from_journal_record (journal_call_record (answer v journal_command_buffer)) ≡ Some (answer v journal_command_buffer)
 answer_back v h =
     ap (λ (b : List ℕ). call_from_journal_record (2 ∷ b)) (if_yes _ _ (le-leb (length v) 258 h))
     ∙ kind_answer _ refl ∙ if_no _ _
     (long_no (2 ∷ length_then_padded_bytes 258 v) (λ z. let e = length_read 2 258 v h (omega arith) in omega arith))
-    ∙ if_yes _ _ (fits_read 2 258 v h (omega arith)) ∙ ap (λ (b : List ℕ). some (answer b journal_command_buffer))
+    ∙ if_yes _ _ (fits_read 2 258 v h (omega arith)) ∙ ap (λ (b : List ℕ). Some (answer b journal_command_buffer))
     (brought_read 2 258 v h (omega arith))
 
 long_is : is_too_long_answer_record (2 ∷ 0xFF ∷ 0xFF ∷ replicate 258 0) ≡ true
@@ -65,14 +65,14 @@ long_is = both_yes _ _ refl (zeros 258)
 -- one that is too long for a record is read as such a one
 pub long_back : (v : List ℕ) → 258 < length v
     → call_from_journal_record (journal_call_record (answer v journal_command_buffer))
-    ≡ some (answer answer_of259_zero_bytes journal_command_buffer)
+    ≡ Some (answer answer_of259_zero_bytes journal_command_buffer)
 long_back v h =
     ap (λ (b : List ℕ). call_from_journal_record (2 ∷ b)) (if_no _ _ (lt-leb (length v) 258 h)) ∙ kind_answer
     (2 ∷ 0xFF ∷ 0xFF ∷ replicate 258 0) refl ∙ if_yes _ _ long_is
 
 pub link_back : call_from_journal_record (journal_call_record (link_failed journal_command_buffer))
-    ≡ some (link_failed journal_command_buffer)
+    ≡ Some (link_failed journal_command_buffer)
 link_back = kind_link (3 ∷ []) refl
 
-pub stop_back : call_from_journal_record (journal_call_record (stop journal_command_buffer)) ≡ some (stop journal_command_buffer)
+pub stop_back : call_from_journal_record (journal_call_record (stop journal_command_buffer)) ≡ Some (stop journal_command_buffer)
 stop_back = kind_stop (4 ∷ []) refl

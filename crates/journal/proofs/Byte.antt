@@ -1,11 +1,11 @@
 -- One more byte: the byte set after the part that is held is that part with one more byte, so the checker's state takes
 -- the step of `Pushed`.
 -- Assumes nothing.
+use Rattle.std.specs.Prelude.{Option, Some, None}
 use mathlib.Core.Path.{◌≡◌, refl, sym, ap, ◌∙◌}
 use mathlib.Core.Bool.{Bool, true, false}
 use mathlib.Core.Logic.{inl, inr}
 use mathlib.Core.List.{List, [], ◌∷◌, ◌++◌}
-use mathlib.Core.Option.{Option, some, none}
 use Prim.Native.Nat.{ℕ, zero, suc, ◌+◌, ◌≤◌, ◌<◌}
 use native.Mathlib.Omega.{arith}
 use native.Mathlib.Numerals.{add-one}
@@ -93,8 +93,8 @@ due_back e = take-append_seam e.due _
 judged_state_lem : (s : JournalCheckState) (n : ℕ) (o : Option ExpectedNext)
     → state (check_state_after_record s o).conforming (expected_next_in_state (check_state_after_record s o)) n []
     ≡ judged_state (expected_next_in_state s) n o
-judged_state_lem s n none = refl
-judged_state_lem s n (some e) = ap (λ (d : List ℕ). state true (expected_next_of_session_and_due_reply e.session d) n []) (due_back e)
+judged_state_lem s n None = refl
+judged_state_lem s n (Some e) = ap (λ (d : List ℕ). state true (expected_next_of_session_and_due_reply e.session d) n []) (due_back e)
 
 -- within the bounds
 pub record Fine (c : JournalChecker) : Type 0 where

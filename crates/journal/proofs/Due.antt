@@ -1,16 +1,18 @@
 -- The record that is expected after a call. A command is at the front of a zero buffer, so the whole buffer is the
 -- command with zeros after it.
 -- Assumes nothing.
+use Rattle.std.specs.Prelude.{Option, Some, None}
 use mathlib.Core.Path.{◌≡◌, refl, sym, ap, ◌∙◌}
 use mathlib.Core.Bool.{true}
 use mathlib.Core.List.{List, [], ◌∷◌, ◌++◌}
-use mathlib.Core.Option.{Option, some, none}
 use Prim.Native.Nat.{ℕ, zero, suc, ◌-◌, ◌<◌}
 use native.Mathlib.Omega.{arith}
 use lib.ListN.{length, take, drop, replicate}
 use lib.Seq.{take-append_seam}
+use lib.Dec.{eqb}
+use lib.Pointwise.{pointwise}
 use Rattle.basics.specs.Alike.{bytes_equal}
-use Rattle.basics.specs.Choice.{if}
+use Rattle.basics.specs.Choice.{if, both}
 use Rattle.session_record.specs.declared.Session.{Session}
 use Rattle.session_record.specs.declared.Reply.{Reply}
 use Rattle.session.specs.Steps.{Step, ReturnsStep}
@@ -19,7 +21,7 @@ use Rattle.journal.specs.declared.JournalCheckState.{JournalCheckState}
 use Rattle.journal.specs.Record.{length_in_two_bytes, zero_padded, most_command_bytes_in_journal_record}
 use Rattle.journal.specs.Record.{journal_command_buffer, journal_reply_record}
 use Rattle.journal.specs.Verdict.{ExpectedNext, expected_next_of_session_and_due_reply, expect_reply_unless_empty, judge_record_by}
-use Rattle.journal.specs.Inner.{reply_record_with_whole_buffer, check_state_of, check_state_after_record}
+use Rattle.journal.specs.Inner.{reply_record_with_whole_buffer, check_state_after_record}
 use Rattle.journal.proofs.Walk.{reply_expected_after}
 
 -- ---- zeros
@@ -65,22 +67,19 @@ did_due {s} {st} {q} {buf} y c d h =
 -- ---- where a reply is expected
 
 pub reply_due : (s : Session) (d r : List ℕ) → 0 < length d
-    → judge_record_by s d r ≡ if (bytes_equal r d) (some (expected_next_of_session_and_due_reply s [])) none
+    → judge_record_by s d r ≡ if (bytes_equal r d) (Some (expected_next_of_session_and_due_reply s [])) None
 reply_due s [] r h = absurd (omega arith)
 reply_due s (b ∷ d) r h = refl
+
+-- the code's test of two slices
+pub same_bytes : (s t : List ℕ) → pointwise eqb s t ≡ bytes_equal s t
+unfolding bytes_equal both
+same_bytes [] [] = refl
+same_bytes [] (b ∷ t) = refl
+same_bytes (a ∷ s) [] = refl
+same_bytes (a ∷ s) (b ∷ t) = grind (arith, same_bytes s t)
 
 -- ---- what the code builds
 
 abbrev standing : Session → List ℕ → ℕ → JournalCheckState
 standing s d n = record { session = s; due = d; size = n; conforming = true }
-
--- a command's record is filled whole
-pub command_whole : (s : Session) (x y : ℕ) (v b : List ℕ) → v ≡ b → length b ≡ 261
-    → record { session = s; due = 5 ∷ x ∷ y ∷ (v ++ []); size = 264; conforming = true }
-    ≡ check_state_of (expected_next_of_session_and_due_reply s (5 ∷ x ∷ y ∷ b))
-command_whole s x y v b e l =
-    let z : 0 ≡ 264 - length (5 ∷ x ∷ y ∷ b) = let g = l in omega arith in
-    let n : 264 ≡ length (5 ∷ x ∷ y ∷ b) = let g = l in omega arith in
-    ap (λ (w : List ℕ). standing s (5 ∷ x ∷ y ∷ (w ++ [])) 264) e
-    ∙ ap (λ (m : ℕ). standing s (5 ∷ x ∷ y ∷ (b ++ replicate m 0)) 264) z ∙ ap
-    (standing s (check_state_of (expected_next_of_session_and_due_reply s (5 ∷ x ∷ y ∷ b))).due) n

@@ -1,10 +1,10 @@
 -- The verdict says what it should, and nothing else has that verdict. All bytes part into conforming records and what
 -- follows them (`split`); conforming records are those that calls write (`Written`, `ExactCalls`).
 -- Assumes nothing.
+use Rattle.std.specs.Prelude.{Option, Some, None}
 use mathlib.Core.Path.{◌≡◌, refl, sym, ap, subst, ◌∙◌}
 use mathlib.Core.Logic.{◌↔◌, inl, inr}
 use mathlib.Core.List.{List, [], ◌∷◌, ◌++◌, append-nil, append_assoc}
-use mathlib.Core.Option.{Option, some, none}
 use Prim.Native.Nat.{ℕ, zero, suc, ◌+◌, ◌≤◌, ◌<◌}
 use native.Mathlib.Omega.{arith}
 use lib.Dec.{eqb, ltb}
@@ -35,7 +35,7 @@ joined_snoc [] r = append-nil r
 joined_snoc (x ∷ rs) r = ap (λ (l : List ℕ). x ++ l) (joined_snoc rs r) ∙ sym (append_assoc x (journal_of_records rs) r)
 
 walks_snoc : {e u t : ExpectedNext} {rs : List (List ℕ)} (r : List ℕ) → Walks e rs u → 0 < length r
-    → length r ≡ journal_record_size (get_or r 0 0) → judge_record u r ≡ some t
+    → length r ≡ journal_record_size (get_or r 0 0) → judge_record u r ≡ Some t
     → Walks e (rs ++ (r ∷ [])) t
 walks_snoc r Walks.done h z j = Walks.next h z j Walks.done
 walks_snoc r (Walks.next h' z' j' w) h z j = Walks.next h' z' j' (walks_snoc r w h z j)
@@ -47,7 +47,7 @@ last_some (x ∷ rs) r (Walks.next h z j w) = last_some rs r w
 
 -- what is expected after records is one thing
 last_judged : {e u : ExpectedNext} {rs : List (List ℕ)} (r : List ℕ) (t : ExpectedNext) → Walks e rs u
-    → Walks e (rs ++ (r ∷ [])) t → judge_record u r ≡ some t
+    → Walks e (rs ++ (r ∷ [])) t → judge_record u r ≡ Some t
 last_judged r t Walks.done (Walks.next h z j Walks.done) = j
 last_judged r t (Walks.next {t = m} {rs = rs} h z j w) (Walks.next {t = m'} h' z' j' v) =
     last_judged r t w (subst (λ (x : ExpectedNext). Walks x (rs ++ (r ∷ [])) t) (same_some (sym j' ∙ j)) v)
@@ -61,7 +61,7 @@ data Stops (u : ExpectedNext) (n : ℕ) : List ℕ → JournalVerdict → Type 0
       → Stops u n rest (JournalVerdict.Mismatch (n + 1))
   short : {rest : List ℕ} → length rest < first_record_size rest → Stops u n rest (JournalVerdict.Truncated (n + 1))
   mismatch : {rest : List ℕ} → 0 < first_record_size rest → first_record_size rest ≤ length rest
-      → judge_record u (take (first_record_size rest) rest) ≡ none
+      → judge_record u (take (first_record_size rest) rest) ≡ None
       → Stops u n rest (JournalVerdict.Mismatch (n + 1))
 
 record Split (e : ExpectedNext) (n : ℕ) (s : List ℕ) (v : JournalVerdict) : Type 0 where
@@ -87,7 +87,7 @@ stops_at e n s v x =
     }
 
 goes_on : (e t : ExpectedNext) (n : ℕ) (r more : List ℕ) (v : JournalVerdict) → 0 < length r
-    → length r ≡ journal_record_size (get_or r 0 0) → judge_record e r ≡ some t
+    → length r ≡ journal_record_size (get_or r 0 0) → judge_record e r ≡ Some t
     → Split t (n + 1) more v → Split e n (r ++ more) v
 unfolding journal_of_records
 goes_on e t n r more v h z j x =
@@ -107,8 +107,8 @@ by_judged : (e : ExpectedNext) (n b : ℕ) (s : List ℕ) → 0 < journal_record
     (verdict_from t (n + 1) (drop (journal_record_size b) (b ∷ s))))
     → (o : Option ExpectedNext) → judge_record e (take (journal_record_size b) (b ∷ s)) ≡ o
     → Split e n (b ∷ s) (verdict_continues (λ t. verdict_from t (n + 1) (drop (journal_record_size b) (b ∷ s))) (n + 1) o)
-by_judged e n b s h k ih none j = stops_at e n (b ∷ s) _ (Stops.mismatch h k j)
-by_judged e n b s h k ih (some t) j =
+by_judged e n b s h k ih None j = stops_at e n (b ∷ s) _ (Stops.mismatch h k j)
+by_judged e n b s h k ih (Some t) j =
     let l : length (take (journal_record_size b) (b ∷ s)) ≡ journal_record_size b = length-take-le (journal_record_size b)
     (b ∷ s) k in
     let f : get_or (take (journal_record_size b) (b ∷ s)) 0 0 ≡ b = get_or-take (journal_record_size b) (b ∷ s) 0 0 h in
@@ -208,12 +208,12 @@ by_number f n m c = let e : 0 + n + 1 ≡ m = omega arith in ap f e
 -- a whole record that no conforming kernel writes there is judged to be none
 wrong_judged : (rs : List (List ℕ)) (u : ExpectedNext) (r : List ℕ) → Walks expected_at_start rs u → 0 < length r
     → length r ≡ journal_record_size (get_or r 0 0) → AllEntriesBelow256 (journal_of_records rs ++ r)
-    → (AreConformingRecords (rs ++ (r ∷ [])) → ⊥) → judge_record u r ≡ none
+    → (AreConformingRecords (rs ++ (r ∷ [])) → ⊥) → judge_record u r ≡ None
 wrong_judged rs u r w h z g f = go (judge_record u r) refl
   where
-    go : (o : Option ExpectedNext) → judge_record u r ≡ o → o ≡ none
-    go none j = refl
-    go (some t) j =
+    go : (o : Option ExpectedNext) → judge_record u r ≡ o → o ≡ None
+    go None j = refl
+    go (Some t) j =
         absurd (f (walks_right (walks_snoc r w h z j) (subst AllEntriesBelow256 (sym (joined_snoc rs r)) g)))
 
 wrong_mismatch : (rs : List (List ℕ)) (rest : List ℕ) (u : ExpectedNext) (n : ℕ) → Walks expected_at_start rs u

@@ -1,11 +1,11 @@
 -- A whole record of bytes that stands for a call is what that call is written as: the length's two bytes come back, and
 -- what is after the bytes that it counts is as many zeros.
 -- Assumes nothing.
+use Rattle.std.specs.Prelude.{Option, Some, None}
 use mathlib.Core.Path.{◌≡◌, refl, sym, ap, ap₂, subst, ◌∙◌}
 use mathlib.Core.Bool.{true}
 use mathlib.Core.Logic.{◌⊎◌, inl, inr}
 use mathlib.Core.List.{List, [], ◌∷◌, ◌++◌}
-use mathlib.Core.Option.{Option, some, none}
 use Prim.Native.Nat.{ℕ, zero, suc, ◌+◌, ◌-◌, ◌*◌, ◌≤◌, ◌<◌}
 use native.Mathlib.Omega.{arith}
 use lib.ListN.{length, get_or, take, drop, replicate, length-drop, length-replicate, take-append-drop, get_or-append}
@@ -95,16 +95,16 @@ module _ (n a b : ℕ) (body : List ℕ) (high : a < 256) (low : b < 256) (whole
 
 -- ---- each kind
 
-pub same_some : {A : Type 0} {a b : A} → some a ≡ some b → a ≡ b
+pub same_some : {A : Type 0} {a b : A} → Some a ≡ Some b → a ≡ b
 same_some e = cc
 
-pub nothing : {A P : Type 0} {a : A} → none ≡ some a → P
+pub nothing : {A P : Type 0} {a : A} → None ≡ Some a → P
 nothing e = let z : ◌≡◌ {A = ℕ} 0 1 = cc in absurd (omega arith)
 
 abbrev Is : List ℕ → Call → Option Call → Type 0
-Is r c o = o ≡ some c → journal_call_record c ≡ r
+Is r c o = o ≡ Some c → journal_call_record c ≡ r
 
-found : (r : List ℕ) (c d : Call) → journal_call_record d ≡ r → Is r c (some d)
+found : (r : List ℕ) (c d : Call) → journal_call_record d ≡ r → Is r c (Some d)
 found r c d e q = subst (λ (x : Call). journal_call_record x ≡ r) (same_some q) e
 
 start_is : (r : List ℕ) (c : Call) → AllEntriesBelow256 r → length r ≡ 1027 → get_or r 0 0 ≡ 1
@@ -160,7 +160,7 @@ size_alone k (inl e) = ap journal_record_size e
 size_alone k (inr e) = ap journal_record_size e
 
 pub call_is : (r : List ℕ) (c : Call) → AllEntriesBelow256 r → length r ≡ journal_record_size (get_or r 0 0)
-    → call_from_journal_record r ≡ some c → journal_call_record c ≡ r
+    → call_from_journal_record r ≡ Some c → journal_call_record c ≡ r
 unfolding call_from_journal_record
 call_is r c g l =
     if_ind (Is r c) _ _ _ (λ e. let k = eqb-true (get_or r 0 0) 1 e in start_is r c g (l ∙ size_start (get_or r 0 0) k) k)
@@ -175,12 +175,12 @@ call_is r c g l =
 -- ---- and the call is of bytes
 
 abbrev Brings : Call → Option Call → Type 0
-Brings c o = o ≡ some c → CallBytesAllBelow256 c
+Brings c o = o ≡ Some c → CallBytesAllBelow256 c
 
-brings : (c d : Call) → CallBytesAllBelow256 d → Brings c (some d)
+brings : (c d : Call) → CallBytesAllBelow256 d → Brings c (Some d)
 brings c d g q = subst CallBytesAllBelow256 (same_some q) g
 
-pub call_bytes : (r : List ℕ) (c : Call) → AllEntriesBelow256 r → call_from_journal_record r ≡ some c
+pub call_bytes : (r : List ℕ) (c : Call) → AllEntriesBelow256 r → call_from_journal_record r ≡ Some c
     → CallBytesAllBelow256 c
 unfolding call_from_journal_record
 call_bytes r c g =

@@ -1,10 +1,10 @@
 -- Conforming records of bytes are written by calls: two records at a time, the call that the first stands for is
 -- written as it (`ExactCall`), and the second is its reply.
 -- Assumes nothing.
+use Rattle.std.specs.Prelude.{Option, Some, None}
 use mathlib.Core.Path.{◌≡◌, refl, sym, ap, ap₂, subst, ◌∙◌}
 use mathlib.Core.Bool.{Bool, true, false, not}
 use mathlib.Core.List.{List, [], ◌∷◌, ◌++◌}
-use mathlib.Core.Option.{Option, some, none}
 use Prim.Native.Nat.{ℕ, suc, ◌<◌}
 use native.Mathlib.Omega.{arith}
 use lib.ListN.{length, take}
@@ -44,7 +44,7 @@ record Answered (st : Step) (t : ExpectedNext) : Type 0 where
   there : 0 < length t.due
 
 replied_by : {s : Session} {buf : List ℕ} {st : Step} (t : ExpectedNext) → Came s buf st
-    → reply_expected_after st ≡ some t → Answered st t
+    → reply_expected_after st ≡ Some t → Answered st t
 replied_by t (Came.refused n) e = nothing e
 replied_by t (Came.ended y b o n) e =
     let d = same_some e in
@@ -54,10 +54,10 @@ replied_by t (Came.sent b p c l) e =
     record { taken = refl; due = sym d; there = omega (arith, ap (λ (x : ExpectedNext). length x.due) d) }
 
 taken_by_lem : (s : Session) (r : List ℕ) (t : ExpectedNext) (o : Option Call)
-    → ((c : Call) → o ≡ some c → (journal_call_record c ≡ r) × CallBytesAllBelow256 c) → judge_call s o ≡ some t
+    → ((c : Call) → o ≡ Some c → (journal_call_record c ≡ r) × CallBytesAllBelow256 c) → judge_call s o ≡ Some t
     → Taken s r t
-taken_by_lem s r t none f e = nothing e
-taken_by_lem s r t (some c) f e =
+taken_by_lem s r t None f e = nothing e
+taken_by_lem s r t (Some c) f e =
     let w = replied_by t (call_came s c) e in
     record { call = c; written = (f c refl).0; bytes = (f c refl).1; taken = w.taken; due = w.due; there = w.there }
 
@@ -67,11 +67,11 @@ record Replied (e : ExpectedNext) (r : List ℕ) (t : ExpectedNext) : Type 0 whe
   reply : e.due ≡ r
   then : t ≡ expected_next_of_session_and_due_reply e.session []
 
-replied_is : (s : Session) (d r : List ℕ) (t : ExpectedNext) → 0 < length d → judge_record_by s d r ≡ some t
+replied_is : (s : Session) (d r : List ℕ) (t : ExpectedNext) → 0 < length d → judge_record_by s d r ≡ Some t
     → Replied (expected_next_of_session_and_due_reply s d) r t
 replied_is s [] r t h = absurd (omega arith)
 replied_is s (b ∷ d) r t h =
-    if_ind (λ (o : Option ExpectedNext). o ≡ some t → Replied (expected_next_of_session_and_due_reply s (b ∷ d)) r t) (bytes_equal r (b ∷ d)) _ _
+    if_ind (λ (o : Option ExpectedNext). o ≡ Some t → Replied (expected_next_of_session_and_due_reply s (b ∷ d)) r t) (bytes_equal r (b ∷ d)) _ _
     (λ w e. record { reply = sym (alike_eq r (b ∷ d) w); then = sym (same_some e) }) (λ w e. nothing e)
 
 -- ---- one more call before it

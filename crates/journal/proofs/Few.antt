@@ -1,8 +1,8 @@
 -- No accepted journal has more than 262 records: the count is kept from record to record (`Kept`).
 -- Assumes nothing.
+use Rattle.std.specs.Prelude.{Option, Some, None}
 use mathlib.Core.Path.{◌≡◌, refl, sym, ◌∙◌}
 use mathlib.Core.List.{List, [], ◌∷◌}
-use mathlib.Core.Option.{Option, some, none}
 use Prim.Native.Nat.{ℕ, ◌+◌, ◌≤◌, ◌<◌}
 use native.Mathlib.Omega.{arith}
 use lib.Dec.{eqb, ltb}
@@ -27,10 +27,10 @@ not_cut n m q = let z : ◌≡◌ {A = ℕ} 0 1 = cc in absurd (omega arith)
 
 -- after a record that was judged
 few_behind : (f : ExpectedNext → JournalVerdict) (n m : ℕ) (o : Option ExpectedNext)
-    → ((t : ExpectedNext) → o ≡ some t → f t ≡ JournalVerdict.Accepted m → m ≤ 262)
+    → ((t : ExpectedNext) → o ≡ Some t → f t ≡ JournalVerdict.Accepted m → m ≤ 262)
     → verdict_continues f n o ≡ JournalVerdict.Accepted m → m ≤ 262
-few_behind f n m none g q = not_mismatch n m q
-few_behind f n m (some t) g q = g t refl q
+few_behind f n m None g q = not_mismatch n m q
+few_behind f n m (Some t) g q = g t refl q
 
 abbrev Few : List ℕ → Type 0
 Few s = (e : ExpectedNext) (n m : ℕ) → Kept e n → verdict_from e n s ≡ JournalVerdict.Accepted m → m ≤ 262

@@ -1,11 +1,11 @@
 -- What a checker says that was fed the bytes s: each byte more keeps what its state says (`Pushed`, `Byte`), so at the
 -- end it says the verdict over s. The laws that `feed` and `finish` cite.
 -- Assumes nothing.
+use Rattle.std.specs.Prelude.{Option, Some, None}
 use mathlib.Core.Path.{◌≡◌, refl, sym, ap, subst, ◌∙◌}
 use mathlib.Core.Bool.{Bool, true, false, not}
 use mathlib.Core.Logic.{inl, inr}
 use mathlib.Core.List.{List, [], ◌∷◌, ◌++◌, append_assoc, append-nil}
-use mathlib.Core.Option.{Option, some, none}
 use Prim.Native.Nat.{ℕ, ◌+◌, ◌≤◌, ◌<◌}
 use native.Mathlib.Omega.{arith}
 use native.Mathlib.Numerals.{add-one}
@@ -92,8 +92,8 @@ length_kept c b l =
 
 exact_kept : (s : JournalCheckState) (o : Option ExpectedNext) → s.size ≡ length (expected_next_in_state s).due
     → (check_state_after_record s o).size ≡ length (expected_next_in_state (check_state_after_record s o)).due
-exact_kept s none e = e
-exact_kept s (some t) e = ap length (sym (due_back t))
+exact_kept s None e = e
+exact_kept s (Some t) e = ap length (sym (due_back t))
 
 size_kept : (c : JournalChecker) (b : ℕ) → c.standing.size ≡ length (expected_next_in_state c.standing).due
     → (checker_after_byte c b).standing.size ≡ length (expected_next_in_state (checker_after_byte c b).standing).due

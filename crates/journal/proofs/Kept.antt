@@ -2,10 +2,10 @@
 -- hands out a command or ends the session. So a journal that is conforming so far has at most 262 records. What is
 -- expected is a whole record of at most 264 bytes.
 -- Assumes nothing.
+use Rattle.std.specs.Prelude.{Option, Some, None}
 use mathlib.Core.Path.{◌≡◌, refl, sym, ap, subst, ◌∙◌}
 use mathlib.Core.Bool.{Bool, true, false}
 use mathlib.Core.List.{List, [], ◌∷◌, ◌++◌}
-use mathlib.Core.Option.{Option, some, none}
 use Prim.Native.Nat.{ℕ, ◌+◌, ◌-◌, ◌*◌, ◌≤◌, ◌<◌}
 use native.Mathlib.Omega.{arith}
 use lib.Dec.{eqb}
@@ -121,13 +121,13 @@ not_ended s c (Phase.Ended x) q r = no (sym r ∙ ended_refuses s c x q)
 
 -- ---- a record's call is made with the caller's buffer
 
-same_some : {A : Type 0} {a b : A} → some a ≡ some b → a ≡ b
+same_some : {A : Type 0} {a b : A} → Some a ≡ Some b → a ≡ b
 same_some e = cc
 
-pub nothing : {A P : Type 0} {t : A} → none ≡ some t → P
+pub nothing : {A P : Type 0} {t : A} → None ≡ Some t → P
 nothing e = let z : ◌≡◌ {A = ℕ} 0 1 = cc in absurd (omega arith)
 
-lent_call : (r : List ℕ) (c : Call) → call_from_journal_record r ≡ some c → buffer_of c ≡ journal_command_buffer
+lent_call : (r : List ℕ) (c : Call) → call_from_journal_record r ≡ Some c → buffer_of c ≡ journal_command_buffer
 unfolding call_from_journal_record
 lent_call r c =
     if_ind Lent (eqb (get_or r 0 0) 1) _ _
@@ -141,9 +141,9 @@ lent_call r c =
     (λ v. if_ind Lent (eqb (get_or r 0 0) 4) _ _ (λ u. made _ refl) (λ u e. nothing e))))
   where
     Lent : Option Call → Type 0
-    Lent o = o ≡ some c → buffer_of c ≡ journal_command_buffer
+    Lent o = o ≡ Some c → buffer_of c ≡ journal_command_buffer
 
-    made : (d : Call) → buffer_of d ≡ journal_command_buffer → Lent (some d)
+    made : (d : Call) → buffer_of d ≡ journal_command_buffer → Lent (Some d)
     made d b e = ap buffer_of (sym (same_some e)) ∙ b
 
 -- ---- one more record
@@ -162,7 +162,7 @@ command_size k v h =
 came_kept : {s : Session} {buf : List ℕ} {st : Step} (n : ℕ) (t : ExpectedNext) → Came s buf st → length buf ≤ 261
     → session_record_in_ranges st.reply.session ≡ true
     → (is_refusal st.reply.answer ≡ false → is_ended s.phase ≡ false)
-    → n + 0 ≤ 2 * (s.count + one_if (is_ended s.phase)) → reply_expected_after st ≡ some t → Kept t (n + 1)
+    → n + 0 ≤ 2 * (s.count + one_if (is_ended s.phase)) → reply_expected_after st ≡ Some t → Kept t (n + 1)
 unfolding journal_record_size if
 came_kept n t (Came.refused k) m i f h e = nothing e
 came_kept n t (Came.ended y b o k) m i f h e =
@@ -176,19 +176,19 @@ came_kept n t (Came.sent b p c l) m i f h e =
     (record { ranges = i; few = omega arith; fits = omega arith; whole = λ y. z })
 
 called_kept : (s : Session) (o : Option Call) (n : ℕ) (t : ExpectedNext)
-    → ((c : Call) → o ≡ some c → buffer_of c ≡ journal_command_buffer) → Kept (expected_next_of_session_and_due_reply s []) n
-    → judge_call s o ≡ some t → Kept t (n + 1)
-called_kept s none n t b k e = nothing e
-called_kept s (some c) n t b k e =
+    → ((c : Call) → o ≡ Some c → buffer_of c ≡ journal_command_buffer) → Kept (expected_next_of_session_and_due_reply s []) n
+    → judge_call s o ≡ Some t → Kept t (n + 1)
+called_kept s None n t b k e = nothing e
+called_kept s (Some c) n t b k e =
     came_kept n t (call_came s c) (let l = ap length (b c refl) in omega arith) (call_keeps s c k.ranges)
     (not_ended s c s.phase refl) k.few e
 
 pub judged_kept : (s : Session) (d r : List ℕ) (n : ℕ) (t : ExpectedNext) → Kept (expected_next_of_session_and_due_reply s d) n
-    → judge_record_by s d r ≡ some t → Kept t (n + 1)
+    → judge_record_by s d r ≡ Some t → Kept t (n + 1)
 judged_kept s [] r n t k e = called_kept s (call_from_journal_record r) n t (lent_call r) k e
 judged_kept s (b ∷ d) r n t k e =
-    if_ind (λ (o : Option ExpectedNext). o ≡ some t → Kept t (n + 1)) (bytes_equal r (b ∷ d)) (some (expected_next_of_session_and_due_reply s []))
-    none
+    if_ind (λ (o : Option ExpectedNext). o ≡ Some t → Kept t (n + 1)) (bytes_equal r (b ∷ d)) (Some (expected_next_of_session_and_due_reply s []))
+    None
     (λ w e. subst (λ (x : ExpectedNext). Kept x (n + 1)) (same_some e)
     (record {
       ranges = k.ranges;

@@ -1,11 +1,11 @@
 -- One more byte keeps what a state reports. While the record is not whole nothing is said of it; a whole one is at the
 -- front of what is left (`Walk`), and the state after it says the same of the bytes after it.
 -- Assumes nothing.
+use Rattle.std.specs.Prelude.{Option, Some, None}
 use mathlib.Core.Path.{◌≡◌, refl, sym, ap, ◌∙◌}
 use mathlib.Core.Bool.{Bool, true, false}
 use mathlib.Core.Logic.{◌⊎◌, inl, inr}
 use mathlib.Core.List.{List, [], ◌∷◌, ◌++◌, append_assoc, append-nil}
-use mathlib.Core.Option.{Option, some, none}
 use Prim.Native.Nat.{ℕ, suc, ◌+◌, ◌-◌, ◌≤◌, ◌<◌}
 use native.Mathlib.Omega.{arith}
 use lib.Dec.{ltb}
@@ -39,8 +39,8 @@ state r e n p = record { conforming = r; due = e; number = n; part = p }
 
 -- after a record that was judged where e was expected
 abbrev pub judged_state : ExpectedNext → ℕ → Option ExpectedNext → State
-judged_state e n none = state false e n []
-judged_state e n (some t) = state true t n []
+judged_state e n None = state false e n []
+judged_state e n (Some t) = state true t n []
 
 unfoldable pub whole_state : ExpectedNext → ℕ → List ℕ → State
 whole_state e n l = if (ltb (length l) (first_record_size l)) (state true e n l)
@@ -111,7 +111,7 @@ behind e n l more h w =
 -- what is expected after it
 behind_due : (k : ℕ) (e t : ExpectedNext) (l more : List ℕ) → 0 < length l
     → ((first_record_size l ≡ 0 → ⊥) → length l ≡ first_record_size l)
-    → judge_record e (take (first_record_size l) l) ≡ some t → reply_due_after k t more ≡ reply_due_after (suc k) e (l ++ more)
+    → judge_record e (take (first_record_size l) l) ≡ Some t → reply_due_after k t more ≡ reply_due_after (suc k) e (l ++ more)
 behind_due k e t l more h w j =
     elim (equal_or_not (first_record_size l) 0) [
       | inl z ↦ nothing (sym (nothing_judged e) ∙ ap (λ (m : ℕ). judge_record e (take m l)) (sym z) ∙ j)
@@ -148,7 +148,7 @@ module _ (s : List ℕ) (b : ℕ) where
           ≡ o
           → KeepsAt (judged_state e (n + 1) o) (s ++ (b ∷ []))
       unfolding reply_due_after
-      judged_keeps none j =
+      judged_keeps None j =
           record {
             said = λ more. ap (verdict_continues (λ t. verdict_from t (n + 1) more) (n + 1)) (sym j) ∙ behind e n
                 (p ++ (b ∷ [])) more there (just_whole p b k.part w) ∙ said_more more;
@@ -159,7 +159,7 @@ module _ (s : List ℕ) (b : ℕ) where
             fits = k.fits;
             few = omega (arith, few_records_lem e n (k.kept refl));
           }
-      judged_keeps (some t) j =
+      judged_keeps (Some t) j =
           let g = judged_kept e.session e.due (take (first_record_size (p ++ (b ∷ []))) (p ++ (b ∷ []))) n t
           (k.kept refl) j in
           record {

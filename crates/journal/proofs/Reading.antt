@@ -1,9 +1,9 @@
 -- A whole record against the call that it stands for: one law for each way out of the code.
 -- Assumes nothing.
+use Rattle.std.specs.Prelude.{Some, None}
 use mathlib.Core.Path.{◌≡◌, sym, ap, ◌∙◌}
 use mathlib.Core.Bool.{true, false}
 use mathlib.Core.List.{List}
-use mathlib.Core.Option.{some, none}
 use Prim.Native.Nat.{ℕ, ◌+◌, ◌-◌, ◌≤◌, ◌<◌}
 use native.Mathlib.Omega.{arith}
 use lib.ListN.{length, get_or, take, drop}
@@ -70,7 +70,7 @@ brought_is r k e = let g : 3 + k - 3 ≡ journal_record_length_field r = let h =
 
 module _ (s : Session) (r : List ℕ) (x y : JournalCheckState) where
   pub start_none : journal_length_and_zero_padding_valid most_start_bytes_in_journal_record r ≡ false
-      → x ≡ check_state_after_record y none → x ≡ check_state_after_record y (judge_call s (start_call_from_record r))
+      → x ≡ check_state_after_record y None → x ≡ check_state_after_record y (judge_call s (start_call_from_record r))
   start_none f h = stands_as y (ap (judge_call s) (sym (if_no _ _ f))) h
 
   pub start_due : (k : ℕ) (q : Reply) (buf : List ℕ) → journal_length_and_zero_padding_valid most_start_bytes_in_journal_record r
@@ -89,7 +89,7 @@ module _ (s : Session) (r : List ℕ) (x y : JournalCheckState) where
       (did_due y (answer_came s answer_of259_zero_bytes journal_command_buffer) d h)
 
   pub answer_none : is_too_long_answer_record r ≡ false → journal_length_and_zero_padding_valid most_answer_bytes_in_journal_record r
-      ≡ false → x ≡ check_state_after_record y none → x ≡ check_state_after_record y (judge_call s (answer_call_from_record r))
+      ≡ false → x ≡ check_state_after_record y None → x ≡ check_state_after_record y (judge_call s (answer_call_from_record r))
   answer_none g f h = stands_as y (ap (judge_call s) (sym (if_no _ _ g ∙ if_no _ _ f))) h
 
   pub answer_due : (k : ℕ) (q : Reply) (buf : List ℕ) → is_too_long_answer_record r ≡ false
@@ -120,20 +120,20 @@ module _ (r : List ℕ) where
   unfolding call_from_journal_record
   kind_answer e = if_no _ _ (ne_eqb (get_or r 0 0) 1 (λ z. omega arith)) ∙ if_yes _ _ (eq-eqb (get_or r 0 0) 2 e)
 
-  pub kind_link : get_or r 0 0 ≡ 3 → call_from_journal_record r ≡ some (link_failed journal_command_buffer)
+  pub kind_link : get_or r 0 0 ≡ 3 → call_from_journal_record r ≡ Some (link_failed journal_command_buffer)
   unfolding call_from_journal_record
   kind_link e =
       if_no _ _ (ne_eqb (get_or r 0 0) 1 (λ z. omega arith)) ∙ if_no _ _ (ne_eqb (get_or r 0 0) 2 (λ z. omega arith))
       ∙ if_yes _ _ (eq-eqb (get_or r 0 0) 3 e)
 
-  pub kind_stop : get_or r 0 0 ≡ 4 → call_from_journal_record r ≡ some (stop journal_command_buffer)
+  pub kind_stop : get_or r 0 0 ≡ 4 → call_from_journal_record r ≡ Some (stop journal_command_buffer)
   unfolding call_from_journal_record
   kind_stop e =
       if_no _ _ (ne_eqb (get_or r 0 0) 1 (λ z. omega arith)) ∙ if_no _ _ (ne_eqb (get_or r 0 0) 2 (λ z. omega arith))
       ∙ if_no _ _ (ne_eqb (get_or r 0 0) 3 (λ z. omega arith)) ∙ if_yes _ _ (eq-eqb (get_or r 0 0) 4 e)
 
   pub kind_none : (get_or r 0 0 ≡ 1 → ⊥) → (get_or r 0 0 ≡ 2 → ⊥) → (get_or r 0 0 ≡ 3 → ⊥) → (get_or r 0 0 ≡ 4 → ⊥)
-      → call_from_journal_record r ≡ none
+      → call_from_journal_record r ≡ None
   unfolding call_from_journal_record
   kind_none a b c d =
       if_no _ _ (ne_eqb (get_or r 0 0) 1 a) ∙ if_no _ _ (ne_eqb (get_or r 0 0) 2 b)

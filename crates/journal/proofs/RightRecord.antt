@@ -2,11 +2,11 @@
 -- continues the records before it. By induction over the records; the reply itself is whole, so it is judged as a
 -- record, and only by being the same is one judged conforming.
 -- Assumes nothing.
+use Rattle.std.specs.Prelude.{Option, Some, None}
 use mathlib.Core.Path.{◌≡◌, refl, sym, ap, subst, ◌∙◌}
 use mathlib.Core.Bool.{false}
 use mathlib.Core.Logic.{inl, inr}
 use mathlib.Core.List.{List, [], ◌∷◌, ◌++◌, append_assoc, append-nil}
-use mathlib.Core.Option.{Option, some, none}
 use Prim.Native.Nat.{ℕ, zero, suc, ◌+◌, ◌-◌, ◌%◌, ◌≤◌, ◌<◌}
 use native.Mathlib.Omega.{arith}
 use lib.Dec.{ltb}
@@ -38,7 +38,7 @@ data Way (e : ExpectedNext) (n : ℕ) (s : List ℕ) : Type 0 where
   is_mismatch : verdict_from e n s ≡ JournalVerdict.Mismatch (n + 1) → Way e n s
   is_cut : verdict_from e n s ≡ JournalVerdict.Truncated (n + 1) → Way e n s
   goes : (t : ExpectedNext) (l rest : List ℕ) → s ≡ l ++ rest → 0 < length l → length l ≡ first_record_size l
-      → judge_record e l ≡ some t
+      → judge_record e l ≡ Some t
       → verdict_from e n s ≡ verdict_from t (n + 1) rest → Way e n s
 
 module _ (e : ExpectedNext) (n b : ℕ) (s : List ℕ) (z : journal_record_size b ≡ 0 → ⊥)
@@ -47,10 +47,10 @@ module _ (e : ExpectedNext) (n b : ℕ) (s : List ℕ) (z : journal_record_size 
   long = length-take-le (journal_record_size b) (b ∷ s) (ltb-false (length (b ∷ s)) (journal_record_size b) w)
 
   whole_way : (o : Option ExpectedNext) → judge_record e (take (journal_record_size b) (b ∷ s)) ≡ o → Way e n (b ∷ s)
-  whole_way none j =
+  whole_way None j =
       is_mismatch (unroll e n (b ∷ s) ∙ if_no _ _ (ne_eqb (journal_record_size b) 0 z) ∙ if_no _ _ w ∙ ap
       (verdict_continues (λ t. verdict_from t (n + 1) (drop (journal_record_size b) (b ∷ s))) (n + 1)) j)
-  whole_way (some t) j =
+  whole_way (Some t) j =
       goes t (take (journal_record_size b) (b ∷ s)) (drop (journal_record_size b) (b ∷ s))
       (sym (take-append-drop (journal_record_size b) (b ∷ s)))
       (some_bytes (journal_record_size b) z long)
@@ -78,7 +78,7 @@ way e n (b ∷ s) = elim (equal_or_not (journal_record_size b) 0) [
 
 -- what is after a conforming record is judged the same wherever it stands
 behind : (e t : ExpectedNext) (n : ℕ) (l v : List ℕ) → 0 < length l → length l ≡ first_record_size l
-    → judge_record e l ≡ some t
+    → judge_record e l ≡ Some t
     → verdict_from e n (l ++ v) ≡ verdict_from t (n + 1) v
 behind e t n l v h z j = whole e n l v h z ∙ ap (verdict_continues (λ t. verdict_from t (n + 1) v) (n + 1)) j
 
@@ -146,9 +146,9 @@ module _ (s : Session) (d : List ℕ) (h : 0 < length d) (z : length d ≡ first
       ∙ behind (expected_next_of_session_and_due_reply s d) (expected_next_of_session_and_due_reply s []) n d [] h z (reply_due s d d h ∙ if_yes _ _ (alike_refl d)) ∙ ends
       (expected_next_of_session_and_due_reply s []) (n + 1)
 
-  same_record_lem : (l : List ℕ) (t : ExpectedNext) → judge_record_by s d l ≡ some t → l ≡ d
+  same_record_lem : (l : List ℕ) (t : ExpectedNext) → judge_record_by s d l ≡ Some t → l ≡ d
   same_record_lem l t j =
-      if_ind (λ (o : Option ExpectedNext). o ≡ some t → l ≡ d) (bytes_equal l d) (some (expected_next_of_session_and_due_reply s [])) none
+      if_ind (λ (o : Option ExpectedNext). o ≡ Some t → l ≡ d) (bytes_equal l d) (Some (expected_next_of_session_and_due_reply s [])) None
       (λ w q. alike_eq l d w) (λ w q. nothing q)
       (sym (reply_due s d l h) ∙ j)
 
@@ -189,7 +189,7 @@ only_now s e n k h =
 
 -- after a conforming record
 only_behind : (e t : ExpectedNext) (n m : ℕ) (s l rest d : List ℕ) → s ≡ l ++ rest → 0 < length l
-    → length l ≡ first_record_size l → judge_record e l ≡ some t
+    → length l ≡ first_record_size l → judge_record e l ≡ Some t
     → OnlyConformingRecord (verdict_from t (n + 1)) m rest d → OnlyConformingRecord (verdict_from e n) m s d
 only_behind e t n m s l rest d x h z j o =
     record {
@@ -240,23 +240,23 @@ wanted_only s n q h =
 
 -- ---- a reply is expected at the records of even number
 
-replied_due : (s : Session) (d : List ℕ) (t : ExpectedNext) → expect_reply_unless_empty s d ≡ some t → due_one t.due ≡ 1
+replied_due : (s : Session) (d : List ℕ) (t : ExpectedNext) → expect_reply_unless_empty s d ≡ Some t → due_one t.due ≡ 1
 replied_due s [] t q = nothing q
 replied_due s (b ∷ d) t q = let w : expected_next_of_session_and_due_reply s (b ∷ d) ≡ t = cc in ap (λ (u : ExpectedNext). due_one u.due)
     (sym w)
 
-called_due : (s : Session) (c : Option Call) (t : ExpectedNext) → judge_call s c ≡ some t → due_one t.due ≡ 1
-called_due s none t q = nothing q
-called_due s (some c) t q = replied_due (call_step s c).reply.session
+called_due : (s : Session) (c : Option Call) (t : ExpectedNext) → judge_call s c ≡ Some t → due_one t.due ≡ 1
+called_due s None t q = nothing q
+called_due s (Some c) t q = replied_due (call_step s c).reply.session
     (journal_reply_record (call_step s c).reply.answer (call_step s c).buffer) t q
 
 -- a call and its reply take turns
-turns : (s : Session) (d l : List ℕ) (t : ExpectedNext) → judge_record_by s d l ≡ some t → due_one d + due_one t.due ≡ 1
+turns : (s : Session) (d l : List ℕ) (t : ExpectedNext) → judge_record_by s d l ≡ Some t → due_one d + due_one t.due ≡ 1
 turns s [] l t q = let w = called_due s (call_from_journal_record l) t q in omega (arith, w)
 turns s (b ∷ d) l t q =
     let w : due_one t.due ≡ 0 =
-    if_ind (λ (o : Option ExpectedNext). o ≡ some t → due_one t.due ≡ 0) (bytes_equal l (b ∷ d))
-    (some (expected_next_of_session_and_due_reply s [])) none
+    if_ind (λ (o : Option ExpectedNext). o ≡ Some t → due_one t.due ≡ 0) (bytes_equal l (b ∷ d))
+    (Some (expected_next_of_session_and_due_reply s [])) None
     (λ x e. let z : expected_next_of_session_and_due_reply s [] ≡ t = cc in ap (λ (u : ExpectedNext). due_one u.due) (sym z))
     (λ x e. nothing e) q in
     omega (arith, w)

@@ -1,10 +1,10 @@
 -- The laws of the verdict over bytes. Each record has a byte at least, so the bound of the recursion does not matter
 -- (`unroll`); then one law for each thing that can be at the front.
 -- Assumes nothing.
+use Rattle.std.specs.Prelude.{Option, Some, None}
 use mathlib.Core.Path.{◌≡◌, refl, sym, ap, ◌∙◌}
 use mathlib.Core.Logic.{inl, inr}
 use mathlib.Core.List.{List, [], ◌∷◌, ◌++◌}
-use mathlib.Core.Option.{Option, some, none}
 use Prim.Native.Nat.{ℕ, suc, ◌+◌, ◌<◌}
 use native.Mathlib.Omega.{arith}
 use lib.Dec.{eqb, ltb}
@@ -41,8 +41,8 @@ reply_expected_after st = expect_reply_unless_empty st.reply.session
 
 goes_same : (f g : ExpectedNext → JournalVerdict) (n : ℕ) (o : Option ExpectedNext) → ((e : ExpectedNext) → f e ≡ g e)
     → verdict_continues f n o ≡ verdict_continues g n o
-goes_same f g n none h = refl
-goes_same f g n (some e) h = h e
+goes_same f g n None h = refl
+goes_same f g n (Some e) h = h e
 
 next_same : (k k' : List ℕ → VerdictContinuation) (e : ExpectedNext) (n : ℕ) (s : List ℕ)
     → ((v : List ℕ) (t : ExpectedNext) (m : ℕ) → length v < length s → k v t m ≡ k' v t m)
@@ -109,10 +109,10 @@ due_whole m e (b ∷ s) more h z =
 
 -- ---- no bytes are no record
 
-none_judged : (s : Session) (d : List ℕ) → judge_record_by s d [] ≡ none
+none_judged : (s : Session) (d : List ℕ) → judge_record_by s d [] ≡ None
 unfolding call_from_journal_record bytes_equal if
 none_judged s [] = refl
 none_judged s (b ∷ d) = refl
 
-pub nothing_judged : (e : ExpectedNext) → judge_record e [] ≡ none
+pub nothing_judged : (e : ExpectedNext) → judge_record e [] ≡ None
 nothing_judged e = none_judged e.session e.due

@@ -1,10 +1,10 @@
 -- What calls write is accepted, however many of the records were written: record by record, what follows the records is
 -- expected next, and the verdict of all bytes is the verdict of those after.
 -- Assumes nothing.
+use Rattle.std.specs.Prelude.{Some}
 use mathlib.Core.Path.{◌≡◌, refl, sym, ap, subst, ◌∙◌}
 use mathlib.Core.Bool.{true, false}
 use mathlib.Core.List.{List, [], ◌∷◌, ◌++◌, append-nil, append_assoc}
-use mathlib.Core.Option.{some}
 use Prim.Native.Nat.{ℕ, zero, suc, ◌+◌, ◌≤◌, ◌<◌}
 use native.Mathlib.Omega.{arith}
 use lib.ListN.{length, get_or, take}
@@ -31,7 +31,7 @@ use Rattle.journal.proofs.WrittenCall.{read, call_judged, due_there, due_sized, 
 pub data Walks : ExpectedNext → List (List ℕ) → ExpectedNext → Type 0 where
   done : {e : ExpectedNext} → Walks e [] e
   next : {e t u : ExpectedNext} {r : List ℕ} {rs : List (List ℕ)} → 0 < length r
-      → length r ≡ journal_record_size (get_or r 0 0) → judge_record e r ≡ some t → Walks t rs u
+      → length r ≡ journal_record_size (get_or r 0 0) → judge_record e r ≡ Some t → Walks t rs u
       → Walks e (r ∷ rs) u
 
 pub record Walked (e : ExpectedNext) (rs : List (List ℕ)) : Type 0 where

@@ -2,11 +2,11 @@
 -- answer too long for a record is read as another such one (`answer_long`), the buffer as zeros (`WrittenBuffer`), and
 -- a start too long for a record is refused.
 -- Assumes nothing.
+use Rattle.std.specs.Prelude.{Some}
 use mathlib.Core.Path.{◌≡◌, refl, sym, ap, ap₂, ◌∙◌}
 use mathlib.Core.Bool.{true, false}
 use mathlib.Core.Logic.{inl, inr}
 use mathlib.Core.List.{List, [], ◌∷◌}
-use mathlib.Core.Option.{some}
 use Prim.Native.Nat.{ℕ, ◌+◌, ◌-◌, ◌≤◌, ◌<◌}
 use native.Mathlib.Omega.{arith}
 use lib.ListN.{length, get_or, replicate, length-append, length-replicate}
@@ -57,7 +57,7 @@ module _ (s : Session) (v buf : List ℕ) (h : 1024 < length v) where
 
 pub record Read (s : Session) (c : Call) : Type 0 where
   pub call : Call
-  pub back : call_from_journal_record (journal_call_record c) ≡ some call
+  pub back : call_from_journal_record (journal_call_record c) ≡ Some call
   pub came : Came s journal_command_buffer (call_step s call)
   pub reply : (call_step s c).reply ≡ (call_step s call).reply
   pub due : due_by (call_step s c) ≡ due_by (call_step s call)
@@ -167,7 +167,7 @@ module _ {s : Session} where
   reply_there (Came.sent b p c l) r = omega arith
 
   pub reply_some : {st : Step} → Came s journal_command_buffer st → is_refusal st.reply.answer ≡ false
-      → reply_expected_after st ≡ some (expected_next_of_session_and_due_reply st.reply.session (due_by st))
+      → reply_expected_after st ≡ Some (expected_next_of_session_and_due_reply st.reply.session (due_by st))
   reply_some (Came.refused n) r = no (sym r)
   reply_some (Came.ended y b o n) r = refl
   reply_some (Came.sent b p c l) r = refl
@@ -188,10 +188,10 @@ module _ (s : Session) (c : Call) (r : is_refusal (call_step s c).reply.answer �
   answered = sym (ap (λ (q : Reply). is_refusal q.answer) (read s c r).reply) ∙ r
 
   pub call_judged : judge_record (expected_next_of_session_and_due_reply s []) (journal_call_record c)
-      ≡ some (expected_next_of_session_and_due_reply (call_step s c).reply.session (due_by (call_step s c)))
+      ≡ Some (expected_next_of_session_and_due_reply (call_step s c).reply.session (due_by (call_step s c)))
   call_judged =
       ap (judge_call s) (read s c r).back ∙ reply_some (read s c r).came answered
-      ∙ ap₂ (λ (q : Reply) (d : List ℕ). some (expected_next_of_session_and_due_reply q.session d)) (sym (read s c r).reply)
+      ∙ ap₂ (λ (q : Reply) (d : List ℕ). Some (expected_next_of_session_and_due_reply q.session d)) (sym (read s c r).reply)
       (sym (read s c r).due)
 
   pub due_there : 0 < length (due_by (call_step s c))
@@ -201,6 +201,6 @@ module _ (s : Session) (c : Call) (r : is_refusal (call_step s c).reply.answer �
   due_sized = rw (read s c r).due (reply_sized (read s c r).came answered)
 
   pub due_judged : judge_record (expected_next_of_session_and_due_reply (call_step s c).reply.session (due_by (call_step s c)))
-      (due_by (call_step s c)) ≡ some (expected_next_of_session_and_due_reply (call_step s c).reply.session [])
+      (due_by (call_step s c)) ≡ Some (expected_next_of_session_and_due_reply (call_step s c).reply.session [])
   due_judged = reply_due (call_step s c).reply.session (due_by (call_step s c)) (due_by (call_step s c)) due_there ∙ if_yes
       _ _ (alike_refl (due_by (call_step s c)))

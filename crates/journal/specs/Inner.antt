@@ -2,8 +2,8 @@
 -- journal ends. It follows the code, and a reader of the rules can skip it: a checker that was fed the bytes s, in
 -- whatever parts (`CheckerWasFed`), says `journal_verdict_of` and `expected_reply_at_first_mismatch` of them.
 -- Assumes nothing.
+use Rattle.std.specs.Prelude.{Option, Some, None}
 use Rattle.std.specs.Prelude.{◌≡◌, Bool, true, false, not, [], ◌∷◌, ◌++◌, ◌+◌, length, take, drop, set, replicate}
-use Rattle.std.proofs.Math.Option.{Option, some, none}
 use Rattle.basics.specs.Types.{Bytes, JournalBytes, Buffer, Byte, Count}
 use Rattle.basics.specs.Choice.{when◌then◌else◌, ◌and◌, ◌or◌, ◌≤?◌, ◌<?◌, ◌=?◌}
 use Rattle.session_record.specs.declared.CallResult.{CallResult}
@@ -44,8 +44,8 @@ check_state_of e =
 
 -- after a record that was judged; after a mismatching one only its conformance changes
 abbrev pub check_state_after_record : JournalCheckState → Option ExpectedNext → JournalCheckState
-check_state_after_record s none = record { session = s.session; due = s.due; size = s.size; conforming = false }
-check_state_after_record s (some e) = check_state_of e
+check_state_after_record s None = record { session = s.session; due = s.due; size = s.size; conforming = false }
+check_state_after_record s (Some e) = check_state_of e
 
 -- ---- the checker after some bytes
 

@@ -1,8 +1,8 @@
 -- The records of a session journal (document 02, Item 1): how long each kind is, what a call and its reply are written
 -- as, and the call that a record is read as.
 -- Assumes nothing.
+use Rattle.std.specs.Prelude.{Option, Some, None}
 use Rattle.std.specs.Prelude.{Bool, List, [], ◌∷◌, ◌++◌, ◌+◌, ◌-◌, ◌*◌, ◌/◌, ◌%◌, length, get_or, take, drop, replicate}
-use Rattle.std.proofs.Math.Option.{Option, some, none}
 use Rattle.basics.specs.Types.{Bytes, Response, Buffer, JournalBytes, Byte, Length}
 use Rattle.basics.specs.Choice.{when◌then◌else◌, ◌and◌, ◌≤?◌, ◌=?◌, every}
 use Rattle.store.specs.Held.{is_zero_byte}
@@ -118,21 +118,21 @@ answer_of259_zero_bytes = replicate (most_answer_bytes_in_journal_record + 1) 0
 abbrev pub start_call_from_record : Bytes → Option Call
 start_call_from_record r =
     when journal_length_and_zero_padding_valid most_start_bytes_in_journal_record r
-    then some (start (journal_record_data r) journal_command_buffer)
-    else none
+    then Some (start (journal_record_data r) journal_command_buffer)
+    else None
 
 abbrev pub answer_call_from_record : Bytes → Option Call
 answer_call_from_record r =
-    when is_too_long_answer_record r then some (answer answer_of259_zero_bytes journal_command_buffer)
+    when is_too_long_answer_record r then Some (answer answer_of259_zero_bytes journal_command_buffer)
     else when journal_length_and_zero_padding_valid most_answer_bytes_in_journal_record r
-    then some (answer (journal_record_data r) journal_command_buffer)
-    else none
+    then Some (answer (journal_record_data r) journal_command_buffer)
+    else None
 
 -- the call that a whole record stands for, if it stands for one
 unfoldable pub call_from_journal_record : Bytes → Option Call
 call_from_journal_record r =
     when get_or r 0 0 =? 1 then start_call_from_record r
     else when get_or r 0 0 =? 2 then answer_call_from_record r
-    else when get_or r 0 0 =? 3 then some (link_failed journal_command_buffer)
-    else when get_or r 0 0 =? 4 then some (stop journal_command_buffer)
-    else none
+    else when get_or r 0 0 =? 3 then Some (link_failed journal_command_buffer)
+    else when get_or r 0 0 =? 4 then Some (stop journal_command_buffer)
+    else None

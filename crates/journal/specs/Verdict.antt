@@ -1,8 +1,7 @@
 -- What a journal's bytes are judged to be (document 02, Item 1): accepted, or the number of the first record that
 -- differs from what document 01 gives or is truncated. Records count from 1.
 -- Assumes nothing.
-use Rattle.std.specs.Prelude.{[], ◌∷◌, zero, suc, ◌+◌, ◌-◌, length, get_or, take, drop}
-use Rattle.std.proofs.Math.Option.{Option, some, none}
+use Rattle.std.specs.Prelude.{[], ◌∷◌, zero, suc, ◌+◌, ◌-◌, length, get_or, take, drop, Option, Some, None}
 use Rattle.basics.specs.Types.{Bytes, JournalBytes, Length, Count}
 use Rattle.basics.specs.Choice.{when◌then◌else◌, ◌<?◌, ◌=?◌}
 use Rattle.basics.specs.Alike.{bytes_equal}
@@ -32,13 +31,13 @@ expected_at_start = expected_next_of_session_and_due_reply fresh_session []
 
 -- the reply of a call that is taken is expected; a refused call has none, and is itself a mismatch
 abbrev pub expect_reply_unless_empty : Session → Bytes → Option ExpectedNext
-expect_reply_unless_empty s [] = none
-expect_reply_unless_empty s (b ∷ d) = some (expected_next_of_session_and_due_reply s (b ∷ d))
+expect_reply_unless_empty s [] = None
+expect_reply_unless_empty s (b ∷ d) = Some (expected_next_of_session_and_due_reply s (b ∷ d))
 
 -- a record that stands for no call is a mismatch
 abbrev pub judge_call : Session → Option Call → Option ExpectedNext
-judge_call s none = none
-judge_call s (some c) =
+judge_call s None = None
+judge_call s (Some c) =
     let st = call_step s c in expect_reply_unless_empty st.reply.session
     (journal_reply_record st.reply.answer st.buffer)
 
@@ -46,8 +45,8 @@ judge_call s (some c) =
 abbrev pub judge_record_by : Session → Bytes → Bytes → Option ExpectedNext
 judge_record_by s [] r = judge_call s (call_from_journal_record r)
 judge_record_by s (b ∷ d) r =
-    when bytes_equal r (b ∷ d) then some (expected_next_of_session_and_due_reply s [])
-    else none
+    when bytes_equal r (b ∷ d) then Some (expected_next_of_session_and_due_reply s [])
+    else None
 
 abbrev pub judge_record : ExpectedNext → Bytes → Option ExpectedNext
 judge_record e r = judge_record_by e.session e.due r
@@ -60,8 +59,8 @@ VerdictContinuation = ExpectedNext → Count → JournalVerdict
 
 -- what k says of what is expected after a conforming record; `wrong` where the record is a mismatch
 abbrev pub if_conforming : {A : Type 0} → A → (ExpectedNext → A) → Option ExpectedNext → A
-if_conforming wrong k none = wrong
-if_conforming wrong k (some e) = k e
+if_conforming wrong k None = wrong
+if_conforming wrong k (Some e) = k e
 
 -- after n conforming records: the end is accepted; an unknown kind is a mismatch, even as the last byte; a record with
 -- fewer bytes than its kind has is truncated, whatever it holds; a whole one is judged, and k judges what follows it

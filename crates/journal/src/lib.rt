@@ -8,6 +8,7 @@
 pub mod writer;
 
 // The kinds of records.
+// Kept: numbers, as the writer puts them in records; a kind read is matched once by its size and once by its call.
 pub const KIND_START: u8 = 1;
 
 pub const KIND_ANSWER: u8 = 2;
@@ -40,7 +41,6 @@ pub const OUTCOME_RECORD: usize = 3;
 const MOST_RECORDS: usize = 1000;
 
 ghost use Rattle.std.specs.Prelude.{◌≡◌, List, [], ◌∷◌, ◌++◌, ℕ, ◌+◌, ◌≤◌, ◌<◌, length, get_or, take};
-ghost use Rattle.std.proofs.Math.Option.{some, none};
 ghost use Rattle.basics.specs.Choice.{every};
 ghost use Rattle.store.specs.Held.{is_zero_byte};
 ghost use Rattle.session_record.specs.Numbers.{outcome_number};
@@ -56,7 +56,8 @@ use session_record::{CallResult, OutcomeParameters, Reply, Session};
 
 // What a journal is: accepted, with the number of its records; or the number of the first record that differs from what
 // the rules give, or of the one that is truncated. Records count from 1.
-#[derive(Clone, Copy)]
+// Kept: three outcomes of equal rank, each with a number; `VerdictMatchesRest` has one clause for each.
+#[derive(Clone, Copy, PartialEq, Eq)]
 pub enum JournalVerdict {
     Accepted(usize),
     Mismatch(usize),
@@ -65,6 +66,8 @@ pub enum JournalVerdict {
 
 // The session so far, and the reply's record that comes next, of size 0 where a call comes next; no longer conforming
 // once a record was a mismatch, with what was expected there.
+// Kept: buffers with a size beside them, here and below: `feed` promises its result for every checker, also for one whose
+// size is past its buffer, and a type that rules those out would narrow it.
 #[derive(Clone, Copy)]
 pub struct JournalCheckState {
     pub session: Session,
@@ -95,25 +98,15 @@ pub struct ExpectedReplyRecord {
 pub fn journal_record_size(kind: u8) -> usize
     ensures { result ≡ journal_record_size kind }
 {
-    if kind == KIND_START {
-        return START_RECORD;
+    match kind {
+        KIND_START => START_RECORD,
+        KIND_ANSWER => ANSWER_RECORD,
+        KIND_LINK_FAILED => 1,
+        KIND_STOP => 1,
+        KIND_COMMAND => COMMAND_RECORD,
+        KIND_OUTCOME => OUTCOME_RECORD,
+        _ => 0,
     }
-    if kind == KIND_ANSWER {
-        return ANSWER_RECORD;
-    }
-    if kind == KIND_LINK_FAILED {
-        return 1;
-    }
-    if kind == KIND_STOP {
-        return 1;
-    }
-    if kind == KIND_COMMAND {
-        return COMMAND_RECORD;
-    }
-    if kind == KIND_OUTCOME {
-        return OUTCOME_RECORD;
-    }
-    0
 }
 
 // A checker that nothing was fed to.
@@ -121,10 +114,8 @@ pub fn begin() -> JournalChecker
     ensures checker { result ≡ new_checker }
     ensures follows { CheckerWasFed result [] }
 {
-    let session = session_record::fresh_session();
-    let standing = waiting(session);
     JournalChecker {
-        standing,
+        standing: waiting(session_record::fresh_session()),
         held: [0u8; START_RECORD],
         length: 0,
         records: 0,
@@ -136,15 +127,12 @@ pub fn feed(checker: JournalChecker, part: &[u8]) -> JournalChecker
     ensures checker { result ≡ checker_after_bytes checker part.now }
     ensures follows { (s : List ℕ) → CheckerWasFed checker s → CheckerWasFed result (s ++ part.now) }
 {
-    let standing = checker.standing;
-    if !standing.conforming {
+    if !checker.standing.conforming {
         return checker;
     }
     let mut next = checker;
-    let mut i = 0;
-    while i < part.len() {
-        next = push(next, part[i]);
-        i += 1;
+    for &byte in part {
+        next = push(next, byte);
     }
     next
 }
@@ -158,8 +146,7 @@ pub fn finish(checker: JournalChecker) -> JournalVerdict
     ensures written { ConformingJournalsAccepted }
     ensures few { AcceptedHasAtMost262Records }
 {
-    let standing = checker.standing;
-    if !standing.conforming {
+    if !checker.standing.conforming {
         return JournalVerdict::Mismatch(checker.records);
     }
     if checker.length == 0 {
@@ -197,16 +184,11 @@ fn push(checker: JournalChecker, byte: u8) -> JournalChecker
 {
     let standing = checker.standing;
     let length = checker.length;
-    if !standing.conforming {
-        return checker;
-    }
-    if START_RECORD <= length {
-        return checker;
-    }
-    if COMMAND_RECORD < standing.size {
-        return checker;
-    }
-    if MOST_RECORDS <= checker.records {
+    if !standing.conforming
+        || START_RECORD <= length
+        || COMMAND_RECORD < standing.size
+        || MOST_RECORDS <= checker.records
+    {
         return checker;
     }
     let mut held = checker.held;
@@ -214,15 +196,13 @@ fn push(checker: JournalChecker, byte: u8) -> JournalChecker
     let size = journal_record_size(held[0]);
     if length + 1 < size {
         return JournalChecker {
-            standing,
             held,
             length: length + 1,
-            records: checker.records,
+            ..checker
         };
     }
-    let judged = judge(standing, &held[..size]);
     JournalChecker {
-        standing: judged,
+        standing: judge(standing, &held[..size]),
         held,
         length: 0,
         records: checker.records + 1,
@@ -234,14 +214,11 @@ fn judge(standing: JournalCheckState, whole: &[u8]) -> JournalCheckState
     requires { (length whole.now ≡ journal_record_size (get_or whole.now 0 0)) × (standing.size ≤ 264) }
     ensures { result ≡ check_state_after_record standing (judge_record (expected_next_in_state standing) whole.now) }
 {
-    let session = standing.session;
-    let size = standing.size;
-    if size == 0 {
+    if standing.size == 0 {
         return called(standing, whole);
     }
-    let due = standing.due;
-    if basics::bytes_equal(whole, &due[..size]) {
-        return waiting(session);
+    if whole == &standing.due[..standing.size] {
+        return waiting(standing.session);
     }
     wrong(standing)
 }
@@ -260,15 +237,11 @@ fn waiting(session: Session) -> JournalCheckState
 
 // A record was a mismatch; what was expected there stays.
 fn wrong(standing: JournalCheckState) -> JournalCheckState
-    ensures { result ≡ check_state_after_record standing none }
+    ensures { result ≡ check_state_after_record standing None }
 {
-    let session = standing.session;
-    let due = standing.due;
     JournalCheckState {
-        session,
-        due,
-        size: standing.size,
         conforming: false,
+        ..standing
     }
 }
 
@@ -277,20 +250,13 @@ fn called(standing: JournalCheckState, whole: &[u8]) -> JournalCheckState
     requires { length whole.now ≡ journal_record_size (get_or whole.now 0 0) }
     ensures { result ≡ check_state_after_record standing (called_of standing.session (call_from_journal_record whole.now)) }
 {
-    let kind = basics::byte_at(whole, 0);
-    if kind == KIND_START {
-        return started(standing, whole);
+    match basics::byte_at(whole, 0) {
+        KIND_START => started(standing, whole),
+        KIND_ANSWER => answered(standing, whole),
+        KIND_LINK_FAILED => link_failed(standing),
+        KIND_STOP => stopped(standing),
+        _ => wrong(standing),
     }
-    if kind == KIND_ANSWER {
-        return answered(standing, whole);
-    }
-    if kind == KIND_LINK_FAILED {
-        return link_failed(standing);
-    }
-    if kind == KIND_STOP {
-        return stopped(standing);
-    }
-    wrong(standing)
 }
 
 // A start.
@@ -298,13 +264,12 @@ fn started(standing: JournalCheckState, whole: &[u8]) -> JournalCheckState
     requires { length whole.now ≡ 1027 }
     ensures { result ≡ check_state_after_record standing (called_of standing.session (start_call_from_record whole.now)) }
 {
-    let session = standing.session;
     if !fits(whole, MOST_START) {
         return wrong(standing);
     }
     let end = 3 + length_in(whole);
     let mut buffer = [0u8; MOST_COMMAND];
-    let reply = session::start(session, &whole[3..end], &mut buffer);
+    let reply = session::start(standing.session, &whole[3..end], &mut buffer);
     due_of(standing, reply, buffer)
 }
 
@@ -313,38 +278,35 @@ fn answered(standing: JournalCheckState, whole: &[u8]) -> JournalCheckState
     requires { length whole.now ≡ 261 }
     ensures { result ≡ check_state_after_record standing (called_of standing.session (answer_call_from_record whole.now)) }
 {
-    let session = standing.session;
     let mut buffer = [0u8; MOST_COMMAND];
     if is_long(whole) {
         let long = [0u8; MOST_ANSWER + 1];
-        let reply = session::answer(session, &long, &mut buffer);
+        let reply = session::answer(standing.session, &long, &mut buffer);
         return due_of(standing, reply, buffer);
     }
     if !fits(whole, MOST_ANSWER) {
         return wrong(standing);
     }
     let end = 3 + length_in(whole);
-    let reply = session::answer(session, &whole[3..end], &mut buffer);
+    let reply = session::answer(standing.session, &whole[3..end], &mut buffer);
     due_of(standing, reply, buffer)
 }
 
 // The link failed.
 fn link_failed(standing: JournalCheckState) -> JournalCheckState
-    ensures { result ≡ check_state_after_record standing (called_of standing.session (some (link_failed_call journal_command_buffer))) }
+    ensures { result ≡ check_state_after_record standing (called_of standing.session (Some (link_failed_call journal_command_buffer))) }
 {
-    let session = standing.session;
     let mut buffer = [0u8; MOST_COMMAND];
-    let reply = session::link_failed(session, &mut buffer);
+    let reply = session::link_failed(standing.session, &mut buffer);
     due_of(standing, reply, buffer)
 }
 
 // A stop.
 fn stopped(standing: JournalCheckState) -> JournalCheckState
-    ensures { result ≡ check_state_after_record standing (called_of standing.session (some (stop_call journal_command_buffer))) }
+    ensures { result ≡ check_state_after_record standing (called_of standing.session (Some (stop_call journal_command_buffer))) }
 {
-    let session = standing.session;
     let mut buffer = [0u8; MOST_COMMAND];
-    let reply = session::stop(session, &mut buffer);
+    let reply = session::stop(standing.session, &mut buffer);
     due_of(standing, reply, buffer)
 }
 
@@ -354,11 +316,7 @@ fn fits(whole: &[u8], most: usize) -> bool
     ensures { result ≡ fits_in most whole.now }
 {
     let n = length_in(whole);
-    if most < n {
-        return false;
-    }
-    let end = 3 + n;
-    is_zero(&whole[end..])
+    n <= most && is_zero(&whole[3 + n..])
 }
 
 // Length FF FF and a zero body.
@@ -366,33 +324,22 @@ fn is_long(whole: &[u8]) -> bool
     requires { 3 ≤ length whole.now }
     ensures { result ≡ is_too_long_answer_record whole.now }
 {
-    if length_in(whole) != 65535 {
-        return false;
-    }
-    is_zero(&whole[3..])
+    length_in(whole) == 0xFFFF && is_zero(&whole[3..])
 }
 
 // The two length bytes of a record.
 fn length_in(whole: &[u8]) -> usize
     ensures { (result ≡ journal_record_length_field whole.now) × (result < 65536) }
 {
-    let high = basics::widen(basics::byte_at(whole, 1));
-    let low = basics::widen(basics::byte_at(whole, 2));
-    high * 256 + low
+    let field = [basics::byte_at(whole, 1), basics::byte_at(whole, 2)];
+    usize::from(u16::from_be_bytes(field))
 }
 
 // Every byte is zero.
 fn is_zero(v: &[u8]) -> bool
     ensures { result ≡ every is_zero_byte v.now }
 {
-    let mut i = 0;
-    while i < v.len() {
-        if v[i] != 0 {
-            return false;
-        }
-        i += 1;
-    }
-    true
+    v.iter().all(|byte| *byte == 0)
 }
 
 // What is expected after a call that returned this with this buffer.
@@ -403,11 +350,9 @@ fn due_of(
 ) -> JournalCheckState
     ensures { result ≡ check_state_after_record standing (replied_of reply.session (reply_record_with_whole_buffer reply.answer buffer)) }
 {
-    let session = reply.session;
-    let answer = reply.answer;
-    match answer {
-        CallResult::Command(issued) => command_due(session, issued.size, buffer),
-        CallResult::Outcome(end) => outcome_due(session, end),
+    match reply.answer {
+        CallResult::Command(issued) => command_due(reply.session, issued.size, buffer),
+        CallResult::Outcome(end) => outcome_due(reply.session, end),
         CallResult::Refused(_) => wrong(standing),
     }
 }
@@ -417,10 +362,10 @@ fn command_due(session: Session, size: usize, buffer: [u8; MOST_COMMAND]) -> Jou
     ensures { result ≡ check_state_of (expected_next_of_session_and_due_reply session (5 ∷ (length_in_two_bytes size ++ buffer))) }
 {
     let mut due = [0u8; COMMAND_RECORD];
-    due[0] = 5;
+    due[0] = KIND_COMMAND;
     due[1] = (size / 256 % 256) as u8;
     due[2] = (size % 256) as u8;
-    basics::copy(&buffer, &mut due[3..]);
+    due[3..].copy_from_slice(&buffer);
     JournalCheckState {
         session,
         due,
@@ -433,15 +378,14 @@ fn command_due(session: Session, size: usize, buffer: [u8; MOST_COMMAND]) -> Jou
 fn outcome_due(session: Session, end: OutcomeParameters) -> JournalCheckState
     ensures { result ≡ check_state_of (expected_next_of_session_and_due_reply session (6 ∷ outcome_number end.outcome ∷ end.reason ∷ [])) }
 {
-    let outcome = end.outcome;
     let mut due = [0u8; COMMAND_RECORD];
-    due[0] = 6;
-    due[1] = session_record::outcome_number(outcome);
+    due[0] = KIND_OUTCOME;
+    due[1] = session_record::outcome_number(end.outcome);
     due[2] = end.reason;
     JournalCheckState {
         session,
         due,
-        size: 3,
+        size: OUTCOME_RECORD,
         conforming: true,
     }
 }

@@ -20,10 +20,9 @@ pub fn start_record(bytes: &[u8]) -> [u8; START_RECORD]
     ensures { result ≡ start_record_or_zeros bytes.now }
 {
     let mut out = [0u8; START_RECORD];
-    if MOST_START < bytes.len() {
-        return out;
+    if bytes.len() <= MOST_START {
+        fill(KIND_START, bytes, &mut out);
     }
-    fill(KIND_START, bytes, &mut out);
     out
 }
 
@@ -61,13 +60,9 @@ pub fn command_record(size: usize, buffer: &[u8]) -> [u8; COMMAND_RECORD]
     ensures { result ≡ command_record_or_zeros size buffer.now }
 {
     let mut out = [0u8; COMMAND_RECORD];
-    if MOST_COMMAND < size {
-        return out;
+    if size <= MOST_COMMAND && size <= buffer.len() {
+        fill(KIND_COMMAND, &buffer[..size], &mut out);
     }
-    if buffer.len() < size {
-        return out;
-    }
-    fill(KIND_COMMAND, &buffer[..size], &mut out);
     out
 }
 
@@ -75,10 +70,9 @@ pub fn command_record(size: usize, buffer: &[u8]) -> [u8; COMMAND_RECORD]
 pub fn outcome_record(end: OutcomeParameters) -> [u8; OUTCOME_RECORD]
     ensures { result ≡ journal_reply_record (CallResult.Outcome end) [] }
 {
-    let outcome = end.outcome;
     [
         KIND_OUTCOME,
-        session_record::outcome_number(outcome),
+        session_record::outcome_number(end.outcome),
         end.reason,
     ]
 }
@@ -92,5 +86,5 @@ fn fill(kind: u8, bytes: &[u8], out: &mut [u8])
     out[0] = kind;
     out[1] = (n / 256 % 256) as u8;
     out[2] = (n % 256) as u8;
-    basics::copy(bytes, &mut out[3..]);
+    out[3..3 + n].copy_from_slice(bytes);
 }

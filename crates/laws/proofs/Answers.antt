@@ -1,11 +1,11 @@
 -- Whole answers. A record's answer gives what its contents give (`whole`), and every answer that is accepted is one
 -- (`accepted_whole`), so the law on contents is the law on answers.
 -- Assumes nothing.
+use Rattle.std.specs.Prelude.{Some, None, Option}
 use mathlib.Core.Path.{◌≡◌, refl, sym, ap, subst, ◌∙◌}
 use mathlib.Core.Bool.{true, false}
 use mathlib.Core.Logic.{inl, inr}
 use mathlib.Core.List.{List}
-use mathlib.Core.Option.{Option, some, none}
 use Prim.Native.Nat.{ℕ, suc, ◌+◌, ◌≤◌}
 use native.Mathlib.Omega.{arith}
 use lib.ListN.{length}
@@ -14,8 +14,6 @@ use Rattle.basics.specs.Choice.{if}
 use Rattle.basics.proofs.Laws.{if_yes, if_no, bool_cases, both_yes, both_left, both_right}
 use Rattle.basics.proofs.Order.{equal_or_not}
 use Rattle.tlv.specs.declared.TlvHeader.{TlvHeader}
-use Rattle.tlv.specs.declared.ObjectFront.{ObjectFront}
-use Rattle.tlv.specs.declared.ObjectFront.TheVariants.{Object, Broken}
 use Rattle.tlv.specs.Tag.{tag_first_byte, is_template}
 use Rattle.tlv.specs.Object.{header_of, header_value}
 use Rattle.tlv.specs.Tree.{Forest, object_count, parse_tree}
@@ -39,7 +37,7 @@ pub record Outer (s : List ℕ) : Type 0 where
   pub size : response_length_is2_to258 s ≡ true
   pub status : is_status9000 s ≡ true
   pub header : TlvHeader
-  pub front : header_of (without_status_bytes s) ≡ Object header
+  pub front : header_of (without_status_bytes s) ≡ Some header
   pub tag : header.tag ≡ 0x70
   pub end : header.start + header.len ≡ length (without_status_bytes s)
 
@@ -50,13 +48,13 @@ outer_of s e = go (header_of (without_status_bytes s)) refl
     good : is_status9000 s ≡ true
     good = both_left _ _ (both_right _ _ e)
 
-    go : (x : ObjectFront) → header_of (without_status_bytes s) ≡ x → Outer s
-    go Broken p =
+    go : (x : Option TlvHeader) → header_of (without_status_bytes s) ≡ x → Outer s
+    go None p =
         let q : false ≡ true = ap (is_template70_and_nothing_more (without_status_bytes s)) (sym p) ∙ both_right _ _
         (both_right _ _ e) in
         let z : ◌≡◌ {A = ℕ} 0 1 = cc in
         absurd (omega arith)
-    go (Object h) p =
+    go (Some h) p =
         let q = ap (is_template70_and_nothing_more (without_status_bytes s)) (sym p) ∙ both_right _ _ (both_right _ _ e) in
         record {
           size = both_left _ _ e;
@@ -88,8 +86,8 @@ is_template_lem = refl
 -- a file's number plays no part
 any_sfi : (f g : Sfi) (b : List ℕ) (x : Option Forest) → read_parsed_body (Record f) b (template_body 0x70 x)
     ≡ read_parsed_body (Record g) b (template_body 0x70 x)
-any_sfi f g b none = refl
-any_sfi f g b (some t) =
+any_sfi f g b None = refl
+any_sfi f g b (Some t) =
     ap (read_body_items (Record f) b (1 + object_count t)) (template_right (Record f) 0x70 t refl)
     ∙ sym (ap (read_body_items (Record g) b (1 + object_count t)) (template_right (Record g) 0x70 t refl))
 
@@ -125,8 +123,8 @@ given p q = absurd (omega arith)
 
 module _ (f : Sfi) (b : List ℕ) where
   other_tag : (t : ℕ) (x : Option Forest) → (t ≡ 0x70 → ⊥) → (read_parsed_body (Record f) b (template_body t x)).reason ≡ 2
-  other_tag t none ne = refl
-  other_tag t (some g) ne = ap (λ y. (read_body_items (Record f) b (1 + object_count g) y).reason)
+  other_tag t None ne = refl
+  other_tag t (Some g) ne = ap (λ y. (read_body_items (Record f) b (1 + object_count g) y).reason)
       (template_wrong (Record f) t g ne)
 
   malformed : (s : List ℕ) {x : Option ResponseBody} → parse_response_body s ≡ x → (read_parsed_body (Record f) b x).reason
@@ -135,7 +133,7 @@ module _ (f : Sfi) (b : List ℕ) where
 
   module _ (s : List ℕ) (l : response_length_is2_to258 s ≡ true) (g : is_status9000 s ≡ true)
       (a : (read_body (Record f) b (without_status_bytes s)).reason ≡ 0) where
-    by_tag : (h : TlvHeader) → header_of (without_status_bytes s) ≡ Object h
+    by_tag : (h : TlvHeader) → header_of (without_status_bytes s) ≡ Some h
         → h.start + h.len ≡ length (without_status_bytes s) → Outer s
     by_tag h p e = elim (equal_or_not h.tag 0x70) [
       | inl t ↦ record { size = l; status = g; header = h; front = p; tag = t; end = e }
@@ -149,9 +147,9 @@ module _ (f : Sfi) (b : List ℕ) where
       ]
     ]
 
-    by_front : (x : ObjectFront) → header_of (without_status_bytes s) ≡ x → Outer s
-    by_front Broken p = given (malformed (without_status_bytes s) (body_broken (without_status_bytes s) p) refl) a
-    by_front (Object h) p = elim (equal_or_not (h.start + h.len) (length (without_status_bytes s))) [
+    by_front : (x : Option TlvHeader) → header_of (without_status_bytes s) ≡ x → Outer s
+    by_front None p = given (malformed (without_status_bytes s) (body_broken (without_status_bytes s) p) refl) a
+    by_front (Some h) p = elim (equal_or_not (h.start + h.len) (length (without_status_bytes s))) [
       | inl e ↦ by_tag h p e
       | inr e ↦ given (malformed (without_status_bytes s) (body_behind (without_status_bytes s) h p e) refl) a
     ]

@@ -2,11 +2,11 @@
 -- proofs/Taking's two lists meet in one store; joined contents parse to the joined tree, whose objects are those of the
 -- one after those of the other.
 -- Assumes nothing.
+use Rattle.std.specs.Prelude.{Option, Some, None}
 use mathlib.Core.Path.{◌≡◌, refl, sym, ap, subst, ◌∙◌}
 use mathlib.Core.Bool.{true}
 use mathlib.Core.Logic.{inl, inr}
 use mathlib.Core.List.{List, [], ◌∷◌, ◌++◌, append_assoc}
-use mathlib.Core.Option.{Option, some, none}
 use Prim.Native.Nat.{ℕ, ◌+◌}
 use native.Mathlib.Omega.{arith}
 use lib.ListN.{length}
@@ -62,13 +62,13 @@ items_join a (node t f r) g = ap (λ (l : List PrimitiveItem). primitive_items t
 
 record Read (b c d : List ℕ) : Type 0 where
   tree : Forest
-  parsed : record_contents_tree c ≡ some tree
+  parsed : record_contents_tree c ≡ Some tree
   run : Run in_record_response b (primitive_items 0x70 tree) d
 
 abbrev a_record : Awaited
 a_record = Record (record { number = 1 })
 
-by_tree : (b c : List ℕ) (f : Forest) → record_contents_tree c ≡ some f → read_record_contents c b ≡ reading_if_all_allowed b
+by_tree : (b c : List ℕ) (f : Forest) → record_contents_tree c ≡ Some f → read_record_contents c b ≡ reading_if_all_allowed b
     (1 + object_count f) (store_all_items in_record_response (storing_state true b) (primitive_items 0x70 f))
 by_tree b c f p =
     ap (λ (x : Option Forest). read_parsed_body a_record b (template_body 0x70 x)) p
@@ -88,11 +88,11 @@ accepted_read : (b c : List ℕ) → length b ≡ store_size → ReadingAccepted
 accepted_read b c l a = go (record_contents_tree c) refl
   where
     go : (x : Option Forest) → record_contents_tree c ≡ x → Read b c (read_record_contents c b).store
-    go none p =
+    go None p =
         let e : ◌≡◌ {A = ℕ} 2 0 =
         sym (ap (λ (x : Option Forest). (read_parsed_body a_record b (template_body 0x70 x)).reason) p) ∙ a in
         absurd (omega arith)
-    go (some f) p =
+    go (Some f) p =
         elim (bool_cases (store_all_items in_record_response (storing_state true b) (primitive_items 0x70 f)).good) [
           | inl g ↦
               let w = store_all_items in_record_response (storing_state true b) (primitive_items 0x70 f) in

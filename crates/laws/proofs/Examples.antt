@@ -1,10 +1,10 @@
 -- Instances of the laws, computed with the stores that they come to; and for each law a case that lacks its hypothesis,
 -- where it is false.
 -- Assumes nothing.
+use Rattle.std.specs.Prelude.{Option, Some, None}
 use mathlib.Core.Path.{◌≡◌, refl}
 use mathlib.Core.Bool.{true, false}
 use mathlib.Core.List.{List, [], ◌∷◌, ◌++◌, map}
-use mathlib.Core.Option.{some, none}
 use Prim.Native.Nat.{ℕ}
 use lib.ListN.{replicate}
 use Rattle.basics.specs.Recursion.{recurse_with_fuel_from_length, recurse_with_fuel}
@@ -15,8 +15,6 @@ use Rattle.tlv.specs.Length.{length_at, length_after81}
 use Rattle.tlv.specs.Object.{header_of}
 use Rattle.tlv.specs.Tree.{object_count, next_in_template, prepend_leaf, prepend_node, parse_tree}
 use Rattle.tlv.specs.Encoding.{tag_bytes, length_bytes}
-use Rattle.dictionary.specs.declared.RowFound.{RowFound}
-use Rattle.dictionary.specs.declared.RowFound.TheVariants.{At, Unknown}
 use Rattle.dictionary.specs.Rows.{dictionary_rows, store_size, row_found_shifted, find_row, form_b, form_n, form_cn}
 use Rattle.dictionary.specs.Form.{is_numeric, digits_match_form, length_and_digits_fit_row}
 use Rattle.store.specs.Place.{row_offset, row_place_bytes, value_in_place, row_value, put_row}
@@ -38,9 +36,9 @@ abbrev empty : List ℕ
 empty = replicate store_size 0
 
 -- the store with a value in the row of a tag
-abbrev put_found : List ℕ → List ℕ → RowFound → List ℕ
-put_found b v Unknown = b
-put_found b v (At k) = put_row dictionary_rows b k v
+abbrev put_found : List ℕ → List ℕ → Option ℕ → List ℕ
+put_found b v None = b
+put_found b v (Some k) = put_row dictionary_rows b k v
 
 abbrev with : List ℕ → ℕ → List ℕ → List ℕ
 with b t v = put_found b v (find_row dictionary_rows t)
@@ -53,7 +51,7 @@ amounts = with (with empty 0x9F02 (0 ∷ 0 ∷ 0 ∷ 0 ∷ 0x12 ∷ 0x34 ∷ [])
 -- 9F0202 and 9505: each alone, and joined
 amount_joined : map (dol_filled dictionary_rows amounts) ((0x9F ∷ 0x02 ∷ 2 ∷ []) ∷ (0x95 ∷ 5 ∷ [])
     ∷ (0x9F ∷ 0x02 ∷ 2 ∷ 0x95 ∷ 5 ∷ []) ∷ [])
-    ≡ some (0x12 ∷ 0x34 ∷ []) ∷ some (0x80 ∷ 0 ∷ 0 ∷ 0x80 ∷ 0 ∷ []) ∷ some (0x12 ∷ 0x34 ∷ 0x80 ∷ 0 ∷ 0 ∷ 0x80 ∷ 0 ∷ [])
+    ≡ Some (0x12 ∷ 0x34 ∷ []) ∷ Some (0x80 ∷ 0 ∷ 0 ∷ 0x80 ∷ 0 ∷ []) ∷ Some (0x12 ∷ 0x34 ∷ 0x80 ∷ 0 ∷ 0 ∷ 0x80 ∷ 0 ∷ [])
     ∷ []
 unfolding dol_data_if_parsed dol_data dol_entry_bytes truncated_to_length padding_byte padded_to_length fitted_to_length dol_entries
     recurse_with_fuel_from_length recurse_with_fuel dol_entries_step dol_entry_at dol_entry_with_length prepend_dol_entry tag_at tag_size
@@ -65,7 +63,7 @@ amount_joined = refl
 -- 5A03 and 5A01: padded in the one, truncated in the other
 number_joined : map (dol_filled dictionary_rows (with empty 0x5A (0x12 ∷ 0x34 ∷ [])))
     ((0x5A ∷ 3 ∷ []) ∷ (0x5A ∷ 1 ∷ []) ∷ (0x5A ∷ 3 ∷ 0x5A ∷ 1 ∷ []) ∷ [])
-    ≡ some (0x12 ∷ 0x34 ∷ 0xFF ∷ []) ∷ some (0x12 ∷ []) ∷ some (0x12 ∷ 0x34 ∷ 0xFF ∷ 0x12 ∷ []) ∷ []
+    ≡ Some (0x12 ∷ 0x34 ∷ 0xFF ∷ []) ∷ Some (0x12 ∷ []) ∷ Some (0x12 ∷ 0x34 ∷ 0xFF ∷ 0x12 ∷ []) ∷ []
 unfolding dol_data_if_parsed dol_data dol_entry_bytes truncated_to_length padding_byte padded_to_length fitted_to_length dol_entries
     recurse_with_fuel_from_length recurse_with_fuel dol_entries_step dol_entry_at dol_entry_with_length prepend_dol_entry tag_at tag_size
     tag_first_byte is_template append_big_endian_bytes if dictionary_rows row_found_shifted find_row row_offset row_place_bytes
@@ -74,7 +72,7 @@ number_joined = refl
 
 -- a first list that is not whole: 9F is broken and 0202 fills to zeros, but joined they request 9F02
 first_broken : map (dol_filled dictionary_rows amounts) ((0x9F ∷ []) ∷ (0x02 ∷ 2 ∷ []) ∷ (0x9F ∷ 0x02 ∷ 2 ∷ []) ∷ [])
-    ≡ none ∷ some (0 ∷ 0 ∷ []) ∷ some (0x12 ∷ 0x34 ∷ []) ∷ []
+    ≡ None ∷ Some (0 ∷ 0 ∷ []) ∷ Some (0x12 ∷ 0x34 ∷ []) ∷ []
 unfolding dol_data_if_parsed dol_data dol_entry_bytes truncated_to_length padding_byte padded_to_length fitted_to_length dol_entries
     recurse_with_fuel_from_length recurse_with_fuel dol_entries_step dol_entry_at dol_entry_with_length prepend_dol_entry tag_at tag_size
     tag_size_from_second_byte

@@ -1,6 +1,9 @@
 -- How many bytes of contents a record's answer holds. Up to 253 the shortest encoding is an answer of at most 258 bytes
 -- (`room`); no answer holds more, since a length over 127 takes two bytes at least (`most_held`).
 -- Assumes nothing.
+use Rattle.std.specs.Prelude.{Option, Some, None}
+use Rattle.tlv.specs.declared.TlvHeader.{TlvHeader}
+use Rattle.tlv.specs.declared.TlvLength.{TlvLength}
 use mathlib.Core.Path.{◌≡◌, refl, sym, ap, ◌∙◌}
 use mathlib.Core.Bool.{true}
 use mathlib.Core.List.{List, [], ◌∷◌, ◌++◌, append-nil}
@@ -15,12 +18,6 @@ use Rattle.basics.specs.Choice.{if, both}
 use Rattle.basics.proofs.Laws.{if_ind, both_yes, both_right}
 use Rattle.basics.proofs.Order.{le-or-gt}
 use Rattle.tlv.specs.declared.Tag.{Tag}
-use Rattle.tlv.specs.declared.TagFront.{TagFront}
-use Rattle.tlv.specs.declared.TagFront.TheVariants.{Tagged, Untagged}
-use Rattle.tlv.specs.declared.LengthFront.{LengthFront}
-use Rattle.tlv.specs.declared.LengthFront.TheVariants.{Sized, Unsized}
-use Rattle.tlv.specs.declared.ObjectFront.{ObjectFront}
-use Rattle.tlv.specs.declared.ObjectFront.TheVariants.{Object, Broken}
 use Rattle.tlv.specs.Tag.{tag_size, tag_at}
 use Rattle.tlv.specs.Length.{length_after81, length_after82, length_at}
 use Rattle.tlv.specs.Object.{tlv_header, header_with_length, header_with_tag, header_of, header_value}
@@ -112,9 +109,9 @@ module _ (c : List ℕ) (h : length c ≤ 253) where
 -- ---- no answer holds more
 
 -- a length that is in one byte is below 128
-abbrev Low : LengthFront → Type 0
-Low Unsized = Unit {0}
-Low (Sized e) = e.size ≤ 1 → e.len < 0x80
+abbrev Low : Option TlvLength → Type 0
+Low None = Unit {0}
+Low (Some e) = e.size ≤ 1 → e.len < 0x80
 
 in_two : (s : List ℕ) → Low (length_after81 s)
 unfolding length_after81
@@ -135,21 +132,21 @@ low (a ∷ s) =
     (λ _. if_ind Low _ _ _ (λ _. in_two s) (λ _. if_ind Low _ _ _ (λ _. in_three s) (λ _. tt)))
 
 -- so a value that starts at place 2 has fewer than 128 bytes
-abbrev LowFront : ObjectFront → Type 0
-LowFront Broken = Unit {0}
-LowFront (Object h) = h.start ≤ 2 → h.len < 0x80
+abbrev LowFront : Option TlvHeader → Type 0
+LowFront None = Unit {0}
+LowFront (Some h) = h.start ≤ 2 → h.len < 0x80
 
-low_length : (s : List ℕ) (t : Tag) (x : LengthFront) → 1 ≤ t.size → Low x → LowFront (header_with_length s t x)
-low_length s t Unsized h l = tt
-low_length s t (Sized e) h l = if_ind LowFront _ _ _ (λ _ m. l (omega arith)) (λ _. tt)
+low_length : (s : List ℕ) (t : Tag) (x : Option TlvLength) → 1 ≤ t.size → Low x → LowFront (header_with_length s t x)
+low_length s t None h l = tt
+low_length s t (Some e) h l = if_ind LowFront _ _ _ (λ _ m. l (omega arith)) (λ _. tt)
 
 low_front : (s : List ℕ) → LowFront (header_of s)
 unfolding header_of
 low_front s = go (tag_at s) refl
   where
-    go : (x : TagFront) → tag_at s ≡ x → LowFront (header_with_tag s x)
-    go Untagged p = tt
-    go (Tagged t) p = low_length s t (length_at (drop t.size s)) (tag_fits s t p).some (low (drop t.size s))
+    go : (x : Option Tag) → tag_at s ≡ x → LowFront (header_with_tag s x)
+    go None p = tt
+    go (Some t) p = low_length s t (length_at (drop t.size s)) (tag_fits s t p).some (low (drop t.size s))
 
 most : (s : List ℕ) → response_length_is2_to258 s ≡ true → length (without_status_bytes s) ≤ 256
 unfolding response_length_is2_to258

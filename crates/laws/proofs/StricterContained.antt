@@ -1,5 +1,6 @@
 -- Containment by a test that is computed, correct in both directions: none of the forty bits is missing.
 -- Assumes nothing.
+use Rattle.std.specs.Prelude.{Option, Some, None}
 use mathlib.Core.Path.{◌≡◌, refl, sym, ap}
 use mathlib.Core.Bool.{Bool, true, false, not}
 use mathlib.Core.List.{List}
@@ -8,8 +9,6 @@ use native.Mathlib.Omega.{arith}
 use Rattle.basics.specs.Choice.{both, ◌and◌}
 use Rattle.analysis.specs.Bits.{has_bit_counted_from_zero_at_byte1b8}
 use Rattle.analysis.specs.Choice.{lowest_bit_from_start_within_count, is_some_bit}
-use Rattle.analysis.specs.declared.choice.LowestBit.{LowestBit}
-use Rattle.analysis.specs.declared.choice.LowestBit.TheVariants.{Bit, NoBit}
 use Rattle.analysis.proofs.Lowest.{lowest_none, none_passes}
 use Rattle.laws.specs.Stricter.{FortyBitsWithin}
 
@@ -22,9 +21,9 @@ contained s t = not (is_some_bit (lowest_bit_from_start_within_count (missing s 
 
 -- ---- a test that passes
 
-none_of : (l : LowestBit) → not (is_some_bit l) ≡ true → l ≡ NoBit
-none_of (Bit i) e = let z : ◌≡◌ {A = ℕ} 0 1 = cc in absurd (omega arith)
-none_of NoBit e = refl
+none_of : (l : Option ℕ) → not (is_some_bit l) ≡ true → l ≡ None
+none_of (Some i) e = let z : ◌≡◌ {A = ℕ} 0 1 = cc in absurd (omega arith)
+none_of None e = refl
 
 not_missing : (a b : Bool) → a and not b ≡ false → a ≡ true → b ≡ true
 unfolding both

@@ -2,6 +2,7 @@
 -- that holds a bit gives a choice that ranks no higher than the one without. Where the codes alone have grown, the TVR
 -- that is found is the same.
 -- Assumes nothing.
+use Rattle.std.specs.Prelude.{Some}
 use mathlib.Core.Path.{◌≡◌, refl, sym, ap, subst, ◌∙◌}
 use mathlib.Core.Bool.{Bool, true, false, not}
 use mathlib.Core.List.{List}
@@ -24,7 +25,6 @@ use Rattle.analysis.specs.Action.{terminal_type, card_and_kernel_support_on_devi
 use Rattle.analysis.specs.Action.{restrictions_tvr_byte2, tvr_before_cvm, cvm_conditions_in, cvm_result_in, tvr_with_cvm}
 use Rattle.analysis.specs.Action.{findings_of, action_codes_of, choice_for_tvr}
 use Rattle.analysis.specs.declared.choice.ActionCodes.{ActionCodes}
-use Rattle.analysis.specs.declared.choice.LowestBit.TheVariants.{Bit}
 use Rattle.analysis.specs.declared.choice.OnlineCapability.{OnlineCapability}
 use Rattle.analysis.specs.declared.choice.OnlineCapability.TheVariants.{OnlineOnly, OnlineCapable, OfflineOnly}
 use Rattle.analysis.specs.declared.choice.OnlineCapability.TheVariants.{Unlisted}
@@ -48,14 +48,14 @@ unfolding lowest_bit_from_start_within_count
 some_still f g zero i h e = e
 some_still f g (suc n) i h e =
     elim (bool_cases (g i)) [
-      | inl t ↦ ap is_some_bit (if_yes (Bit i) (lowest_bit_from_start_within_count g (suc i) n) t)
+      | inl t ↦ ap is_some_bit (if_yes (Some i) (lowest_bit_from_start_within_count g (suc i) n) t)
       | inr t ↦
-          ap is_some_bit (if_no (Bit i) (lowest_bit_from_start_within_count g (suc i) n) t)
+          ap is_some_bit (if_no (Some i) (lowest_bit_from_start_within_count g (suc i) n) t)
           ∙ elim (bool_cases (f i)) [
             | inl u ↦ apart (sym t ∙ h i (omega arith) u)
             | inr u ↦
                 some_still f g n (suc i) (λ m l. h m (omega arith))
-                (sym (ap is_some_bit (if_no (Bit i) (lowest_bit_from_start_within_count f (suc i) n) u)) ∙ e)
+                (sym (ap is_some_bit (if_no (Some i) (lowest_bit_from_start_within_count f (suc i) n) u)) ∙ e)
           ]
     ]
 

@@ -1,6 +1,7 @@
 -- A store made of objects that are put one by one into the empty one: what it holds under each tag, by the laws of the
 -- store and with no byte of it computed. A value that is put changes no other tag's.
 -- Assumes nothing.
+use Rattle.std.specs.Prelude.{Option, Some, None}
 use mathlib.Core.Path.{◌≡◌, refl, sym, ap, subst, ◌∙◌}
 use mathlib.Core.Bool.{Bool, true, false}
 use mathlib.Core.List.{List, [], ◌∷◌}
@@ -12,8 +13,6 @@ use Rattle.basics.specs.Choice.{if, ◌and◌, ◌≤?◌, ◌=?◌}
 use Rattle.basics.proofs.Laws.{if_yes, if_no, bool_cases, both_left, both_right}
 use Rattle.dictionary.specs.Named.{row_number_found_or_zero, row_number_of_tag_or_zero}
 use Rattle.dictionary.specs.Rows.{dictionary_rows, row_in, row_at, find_row, store_size}
-use Rattle.dictionary.specs.declared.RowFound.{RowFound}
-use Rattle.dictionary.specs.declared.RowFound.TheVariants.{At, Unknown}
 use Rattle.dictionary.proofs.Find.{found}
 use Rattle.dictionary.proofs.Lent.{row-found}
 use Rattle.store.specs.Place.{StoredValue, absent, present, put_row, row_value, object_value}
@@ -23,7 +22,7 @@ use Rattle.laws.proofs.StricterLaws.{apart}
 
 -- ---- one value put
 
-module _ (b : List ℕ) (t k : ℕ) (v : List ℕ) (at : find_row dictionary_rows t ≡ At k) (f : Fits dictionary_rows b k v)
+module _ (b : List ℕ) (t k : ℕ) (v : List ℕ) (at : find_row dictionary_rows t ≡ Some k) (f : Fits dictionary_rows b k v)
   where
     -- its own tag has it
     pub put_own : object_value (put_row dictionary_rows b k v) t ≡ present v
@@ -33,11 +32,11 @@ module _ (b : List ℕ) (t k : ℕ) (v : List ℕ) (at : find_row dictionary_row
     pub put_kept : (u : ℕ) → (u ≡ t → ⊥) → object_value b u ≡ object_value (put_row dictionary_rows b k v) u
     put_kept u ne = go (find_row dictionary_rows u) refl
       where
-        go : (x : RowFound) → find_row dictionary_rows u ≡ x → object_value b u ≡ object_value (put_row dictionary_rows b k v)
+        go : (x : Option ℕ) → find_row dictionary_rows u ≡ x → object_value b u ≡ object_value (put_row dictionary_rows b k v)
             u
-        go Unknown e = unknown_absent dictionary_rows b u e ∙ sym
+        go None e = unknown_absent dictionary_rows b u e ∙ sym
             (unknown_absent dictionary_rows (put_row dictionary_rows b k v) u e)
-        go (At j) e =
+        go (Some j) e =
             by_row dictionary_rows b u j e
             ∙ sym
             (put_other dictionary_rows b k v f j
@@ -58,9 +57,9 @@ store_of [] = replicate store_size 0
 store_of ((t, v) ∷ more) = put_row dictionary_rows (store_of more) (row_number_of_tag_or_zero t) v
 
 -- each tag is known, and its row has room for the value
-abbrev pub room_at : ℕ → RowFound → Bool
-room_at n Unknown = false
-room_at n (At k) = n ≤? (row_at k).greatest
+abbrev pub room_at : ℕ → Option ℕ → Bool
+room_at n None = false
+room_at n (Some k) = n ≤? (row_at k).greatest
 
 unfoldable pub have_room : List (ℕ × List ℕ) → Bool
 have_room [] = true
@@ -69,7 +68,7 @@ have_room ((t, v) ∷ more) = room_at (length v) (find_row dictionary_rows t) an
 -- ---- what their store holds
 
 record Room (b : List ℕ) (t : ℕ) (v : List ℕ) : Type 0 where
-  at : find_row dictionary_rows t ≡ At (row_number_of_tag_or_zero t)
+  at : find_row dictionary_rows t ≡ Some (row_number_of_tag_or_zero t)
   fits : Fits dictionary_rows b (row_number_of_tag_or_zero t) v
 
 room : (b : List ℕ) (t : ℕ) (v : List ℕ) → length b ≡ store_size → room_at (length v) (find_row dictionary_rows t) ≡ true
@@ -77,12 +76,12 @@ room : (b : List ℕ) (t : ℕ) (v : List ℕ) → length b ≡ store_size → r
 unfolding row_number_of_tag_or_zero
 room b t v l h = go (find_row dictionary_rows t) refl h
   where
-    go : (x : RowFound) → find_row dictionary_rows t ≡ x → room_at (length v) x ≡ true → Room b t v
-    go Unknown e g = apart g
-    go (At k) e g =
-        let at : find_row dictionary_rows t ≡ At (row_number_found_or_zero (find_row dictionary_rows t)) =
-        e ∙ ap (λ (x : RowFound). At (row_number_found_or_zero x)) (sym e) in
-        let g2 = subst (λ (x : RowFound). room_at (length v) x ≡ true) (sym e ∙ at) g in
+    go : (x : Option ℕ) → find_row dictionary_rows t ≡ x → room_at (length v) x ≡ true → Room b t v
+    go None e g = apart g
+    go (Some k) e g =
+        let at : find_row dictionary_rows t ≡ Some (row_number_found_or_zero (find_row dictionary_rows t)) =
+        e ∙ ap (λ (x : Option ℕ). Some (row_number_found_or_zero x)) (sym e) in
+        let g2 = subst (λ (x : Option ℕ). room_at (length v) x ≡ true) (sym e ∙ at) g in
         record {
           at = at;
           fits = fits_row b (row_number_found_or_zero (find_row dictionary_rows t)) v l (row-found t at)
@@ -100,9 +99,9 @@ length_of ((t, v) ∷ more) h =
 empty_holds : (u : ℕ) → object_value (replicate store_size 0) u ≡ absent
 empty_holds u = go (find_row dictionary_rows u) refl
   where
-    go : (x : RowFound) → find_row dictionary_rows u ≡ x → object_value (replicate store_size 0) u ≡ absent
-    go Unknown e = unknown_absent dictionary_rows (replicate store_size 0) u e
-    go (At k) e =
+    go : (x : Option ℕ) → find_row dictionary_rows u ≡ x → object_value (replicate store_size 0) u ≡ absent
+    go None e = unknown_absent dictionary_rows (replicate store_size 0) u e
+    go (Some k) e =
         by_row dictionary_rows (replicate store_size 0) u k e
         ∙ subst (λ (n : ℕ). row_value dictionary_rows (replicate n 0) k ≡ absent) rows_size
         (empty_holds_nothing dictionary_rows k)

@@ -3,6 +3,7 @@
 -- commute, so two objects do (`swap`), one object and a list (`past_list`), and two lists (`past_lists`). Nothing here
 -- examines a row of the table.
 -- Assumes nothing.
+use Rattle.std.specs.Prelude.{Option, Some, None}
 use mathlib.Core.Path.{◌≡◌, refl, sym, ap, ap₂, subst, ◌∙◌}
 use mathlib.Core.Bool.{Bool, true, false, not}
 use mathlib.Core.Logic.{inl, inr}
@@ -14,8 +15,6 @@ use lib.ListN.{length}
 use Rattle.basics.specs.Choice.{if, both}
 use Rattle.basics.proofs.Laws.{if_yes, if_no, bool_cases}
 use Rattle.tlv.specs.Tag.{is_private}
-use Rattle.dictionary.specs.declared.RowFound.{RowFound}
-use Rattle.dictionary.specs.declared.RowFound.TheVariants.{At, Unknown}
 use Rattle.dictionary.specs.Rows.{dictionary_rows, row_at, find_row, row_count, store_size}
 use Rattle.dictionary.proofs.Find.{found}
 use Rattle.dictionary.proofs.Fit.{fits_length}
@@ -47,7 +46,7 @@ module _ (answer : ℕ) where
   effect : (i : PrimitiveItem) → Effect i
   effect i = go (find_row dictionary_rows i.tag) refl
     where
-      known : (k : ℕ) → find_row dictionary_rows i.tag ≡ At k → Effect i
+      known : (k : ℕ) → find_row dictionary_rows i.tag ≡ Some k → Effect i
       known k e = elim (bool_cases (both (is_private i.tag) (not (card_may_set (row_at k))))) [
         | inl s ↦ skipped (λ b. item_skipped answer b i (find_row dictionary_rows i.tag) refl k e s)
         | inr s ↦ elim (bool_cases (row_allows_value_from_card answer (row_at k) i.around i.value)) [
@@ -70,9 +69,9 @@ module _ (answer : ℕ) where
         ]
       ]
 
-      go : (x : RowFound) → find_row dictionary_rows i.tag ≡ x → Effect i
-      go Unknown e = skipped (λ b. item_unknown answer b i (find_row dictionary_rows i.tag) refl e)
-      go (At k) e = known k e
+      go : (x : Option ℕ) → find_row dictionary_rows i.tag ≡ x → Effect i
+      go None e = skipped (λ b. item_unknown answer b i (find_row dictionary_rows i.tag) refl e)
+      go (Some k) e = known k e
 
   -- a store of its size, and an object that it takes
   pub record Takes (b : List ℕ) (i : PrimitiveItem) (c : List ℕ) : Type 0 where

@@ -1,14 +1,13 @@
 -- DOLs and values (document 02, Item 12): what the laws say of one list and of one value.
 -- Assumes nothing.
-use Rattle.std.specs.Prelude.{◌≡◌, List, ℕ}
-use Rattle.std.proofs.Math.Option.{some}
+use Rattle.std.specs.Prelude.{◌≡◌, List, ℕ, Some}
 use Rattle.basics.specs.Types.{StoreBytes, DolBytes, Value, Bytes, Length}
 use Rattle.dictionary.specs.Rows.{Row}
 use Rattle.dol.specs.Filling.{padded_to_length, fitted_to_length, dol_filled}
 
 -- the bytes s are a well-formed DOL, and v is its filling from a store; how long v is plays no part
 abbrev pub FillsDol : List Row → StoreBytes → DolBytes → Bytes → Type 0
-FillsDol table store s v = dol_filled table store s ≡ some v
+FillsDol table store s v = dol_filled table store s ≡ Some v
 
 -- a value v brought to m bytes and then to n is v brought to n at once: as padding alone, and as filling does it, which
 -- truncates a value that is too long

@@ -1,13 +1,11 @@
 -- Two records read one after the other, in either order (document 02, Item 12; document 01, "Reading an answer"): the
 -- contents of a record's template by themselves, and whole record answers.
 -- Assumes nothing.
-use Rattle.std.specs.Prelude.{◌≡◌, Bool, true, false, [], ◌∷◌, ◌++◌, ◌+◌, ◌-◌, ◌≤◌, length, take}
-use Rattle.std.proofs.Math.Option.{Option, some, none}
+use Rattle.tlv.specs.declared.TlvHeader.{TlvHeader}
+use Rattle.std.specs.Prelude.{◌≡◌, Bool, true, false, [], ◌∷◌, ◌++◌, ◌+◌, ◌-◌, ◌≤◌, length, take, Option, Some, None}
 use Rattle.basics.specs.Types.{Bytes, StoreBytes, Response, Tag}
 use Rattle.basics.specs.Choice.{◌and◌, ◌or◌, ◌=?◌}
 use Rattle.basics.specs.Reason.{reason_none}
-use Rattle.tlv.specs.declared.ObjectFront.{ObjectFront}
-use Rattle.tlv.specs.declared.ObjectFront.TheVariants.{Object, Broken}
 use Rattle.tlv.specs.Object.{header_of, header_value}
 use Rattle.tlv.specs.Tree.{Forest, end, leaf, node, parse_tree}
 use Rattle.tlv.specs.Encoding.{object_bytes}
@@ -26,8 +24,8 @@ tree_has_primitive_tag tag (node t f r) = tree_has_primitive_tag tag f or tree_h
 
 -- the same of what bytes parse to; malformed bytes bring nothing
 abbrev pub parsed_tree_has_primitive_tag : Tag → Option Forest → Bool
-parsed_tree_has_primitive_tag tag none = false
-parsed_tree_has_primitive_tag tag (some f) = tree_has_primitive_tag tag f
+parsed_tree_has_primitive_tag tag None = false
+parsed_tree_has_primitive_tag tag (Some f) = tree_has_primitive_tag tag f
 
 -- the tree of a record's contents: inside its template three of the four levels are left
 abbrev pub record_contents_tree : Bytes → Option Forest
@@ -85,18 +83,18 @@ abbrev pub without_status_bytes : Response → Bytes
 without_status_bytes s = take (length s - 2) s
 
 -- the value of the object at the front; none where no object is present
-abbrev pub contents_in : Bytes → ObjectFront → Bytes
-contents_in s Broken = []
-contents_in s (Object h) = header_value s h
+abbrev pub contents_in : Bytes → Option TlvHeader → Bytes
+contents_in s None = []
+contents_in s (Some h) = header_value s h
 
 -- the contents of an answer's outer object
 unfoldable pub outer_object_contents : Response → Bytes
 outer_object_contents s = contents_in (without_status_bytes s) (header_of (without_status_bytes s))
 
 -- the object at the front is a template 70, and all there is
-abbrev pub is_template70_and_nothing_more : Bytes → ObjectFront → Bool
-is_template70_and_nothing_more s Broken = false
-is_template70_and_nothing_more s (Object h) = h.tag =? 0x70 and h.start + h.len =? length s
+abbrev pub is_template70_and_nothing_more : Bytes → Option TlvHeader → Bool
+is_template70_and_nothing_more s None = false
+is_template70_and_nothing_more s (Some h) = h.tag =? 0x70 and h.start + h.len =? length s
 
 -- a whole record answer: 2 to 258 bytes, the last two 90 00, and before them one template 70
 unfoldable pub is_successful_record_answer_in70 : Response → Bool

@@ -7,6 +7,7 @@ ghost use Rattle.laws.specs.Stricter.{AddedBitsNeverRaiseChoice, IacAppearingOrL
 use analysis::choice::Choice;
 
 // The rank of a choice: decline, then online, then offline.
+#[tactic(auto, using(crate::proofs::StricterLaws::ranked, crate::proofs::StricterLaws::never_loosens, crate::proofs::StricterLaws::absent_codes))]
 pub fn choice_rank(choice: Choice) -> u8
     ensures rank { result ≡ choice_rank choice }
     ensures ordered { DeclineBelowOnlineBelowOffline }

@@ -1,11 +1,11 @@
 -- The layout is strict: what is encoded is read back, what was read is encoded as the bytes it was read from, and a
 -- word reports its kind.
 -- Assumes nothing.
+use Rattle.std.specs.Prelude.{Some, None, Option}
 use mathlib.Core.Path.{◌≡◌, refl, sym, ap, ap₂, ◌∙◌}
 use mathlib.Core.Bool.{true, false}
 use mathlib.Core.List.{List, [], ◌∷◌, ◌++◌, append_assoc}
 use mathlib.Core.Logic.{inl, inr}
-use mathlib.Core.Option.{Option, some, none}
 use Prim.Native.Nat.{ℕ, ◌≤◌, ◌<◌}
 use native.Mathlib.Omega.{arith}
 use lib.Dec.{eqb}
@@ -32,7 +32,6 @@ use Rattle.session_record.specs.Numbers.{outcome_number}
 use Rattle.session_record.specs.Session.{store_bytes, session_of, ending_of}
 use Rattle.layout.specs.declared.PhaseFields.{PhaseFields}
 use Rattle.layout.specs.declared.SessionRecordHead.{SessionRecordHead}
-use Rattle.layout.specs.declared.DecodedRecordHead.{DecodedRecordHead}
 use Rattle.layout.specs.Layout.{layout_version, record_head_size, session_record_size, phase_fields}
 use Rattle.layout.specs.Layout.{phase_fields_of_awaited, phase_fields_of, big_endian_bytes, record_head_bytes}
 use Rattle.layout.specs.Layout.{encoded_session}
@@ -103,16 +102,16 @@ abbrev pub own_head : Bytes → Bytes
 own_head l = record_head_bytes (phase_fields_of (phase_in_head l)) (command_count_in_head l)
 
 module _ (l : List ℕ) where
-  pub decoded_short : length l < session_record_size → decoded_session l ≡ none
+  pub decoded_short : length l < session_record_size → decoded_session l ≡ None
   unfolding decoded_session has_at_least_record_length_and_canonical_head
   decoded_short h = if_no _ _ (both_no_left _ _ (lt-leb session_record_size (length l) h))
 
-  pub decoded_head : bytes_equal (own_head l) (take record_head_size l) ≡ false → decoded_session l ≡ none
+  pub decoded_head : bytes_equal (own_head l) (take record_head_size l) ≡ false → decoded_session l ≡ None
   unfolding decoded_session has_at_least_record_length_and_canonical_head
   decoded_head e = if_no _ _ (both_no_right _ _ e)
 
   pub decoded_some : session_record_size ≤ length l → bytes_equal (own_head l) (take record_head_size l) ≡ true
-      → decoded_session l ≡ some (session_in l)
+      → decoded_session l ≡ Some (session_in l)
   unfolding decoded_session has_at_least_record_length_and_canonical_head
   decoded_some h e = if_yes _ _ (both_yes _ _ (le-leb session_record_size (length l) h) e)
 
@@ -127,7 +126,7 @@ other_version (v ∷ t) e =
       | inr n ↦ n
     ])
 
-pub decoded_version : (l : List ℕ) → eqb (get_or l 0 0) layout_version ≡ false → decoded_session l ≡ none
+pub decoded_version : (l : List ℕ) → eqb (get_or l 0 0) layout_version ≡ false → decoded_session l ≡ None
 decoded_version l e = decoded_head l (other_version l e)
 
 -- ---- the two laws
@@ -139,7 +138,7 @@ code_back c n rest = ap (phase_fields c.number c.datum c.reason c.cvm) (bytes_nu
 
 -- a record at the front of any bytes is read back; a session's store always has its size
 pub decode-encode : (s : Session) (rest : List ℕ) → length (store_bytes s) ≡ store_size
-    → decoded_session (encoded_session s ++ rest) ≡ some s
+    → decoded_session (encoded_session s ++ rest) ≡ Some s
 unfolding encoded_session big_endian_bytes
 decode-encode s rest z =
     let c = phase_fields_of s.phase in
@@ -148,7 +147,7 @@ decode-encode s rest z =
     decoded_some (encoded_session s ++ rest) (simp length-append (omega arith))
     (ap (λ (x : Phase). bytes_equal (record_head_bytes (phase_fields_of x) s.count) (record_head_bytes c s.count)) p ∙
     alike_refl (record_head_bytes c s.count))
-    ∙ (λ i. some (session_of (p i) s.count (take_at (store_bytes s) rest store_size z i)))
+    ∙ (λ i. Some (session_of (p i) s.count (take_at (store_bytes s) rest store_size z i)))
 
 -- what the test of a record reports of bytes
 record Known (l : List ℕ) : Type 0 where
@@ -175,57 +174,63 @@ encode_known l k =
 
 -- ---- what is said of bytes, as callers take it apart
 
-pub held_none : (x : Option Session) → decoded_record_head x ≡ DecodedRecordHead.Nothing → x ≡ none
-held_none none e = refl
-held_none (some s) e = let z : ◌≡◌ {A = ℕ} 0 1 = cc in absurd (omega arith)
+pub held_none : (x : Option Session) → decoded_record_head x ≡ None → x ≡ None
+held_none None e = refl
+held_none (Some s) e = let z : ◌≡◌ {A = ℕ} 0 1 = cc in absurd (omega arith)
 
 -- bytes that hold a record are enough, and hold the session of their head and store
-pub held_some : (l : List ℕ) (h : SessionRecordHead) → decoded_record_head (decoded_session l) ≡ DecodedRecordHead.Record h
-    → (session_record_size ≤ length l) × (decoded_session l ≡ some (session_in l))
+pub held_some : (l : List ℕ) (h : SessionRecordHead) → decoded_record_head (decoded_session l) ≡ Some h
+    → (session_record_size ≤ length l) × (decoded_session l ≡ Some (session_in l))
 unfolding decoded_session
 held_some l h e = elim (bool_cases (has_at_least_record_length_and_canonical_head l)) [
   | inl t ↦ ((known l t).enough, if_yes _ _ t)
   | inr t ↦
-      let f : DecodedRecordHead.Nothing ≡ DecodedRecordHead.Record h = sym (ap decoded_record_head (if_no _ _ t)) ∙ e in
+      let f : None ≡ Some h = sym (ap decoded_record_head (if_no _ _ t)) ∙ e in
       let z : ◌≡◌ {A = ℕ} 0 1 = cc in
       absurd (omega arith)
 ]
 
 -- the store of the session that bytes hold is theirs after the head
-pub held_store : (l : List ℕ) (s : Session) → decoded_session l ≡ some s → (session_record_size ≤ length l)
+pub held_store : (l : List ℕ) (s : Session) → decoded_session l ≡ Some s → (session_record_size ≤ length l)
     × (store_bytes s ≡ take store_size (drop record_head_size l))
 held_store l s e =
     let h = held_some l (record { phase = s.phase; count = s.count }) (ap decoded_record_head e) in
-    let f : some s ≡ some (session_in l) = sym e ∙ h.1 in
+    let f : Some s ≡ Some (session_in l) = sym e ∙ h.1 in
     let g : s ≡ session_in l = cc in
     (h.0, ap store_bytes g)
 
 -- the session that was read is the one of the head that is said and the store that is left
 pub was_record : (x : Option Session) (h : SessionRecordHead) (b c : List ℕ)
-    → decoded_record_head x ≡ DecodedRecordHead.Record h → c ≡ decoded_store_or_unchanged x b
-    → x ≡ some (session_of h.phase h.count c)
-was_record none h b c e f = let z : ◌≡◌ {A = ℕ} 0 1 = cc in absurd (omega arith)
-was_record (some s) h b c e f =
+    → decoded_record_head x ≡ Some h → c ≡ decoded_store_or_unchanged x b
+    → x ≡ Some (session_of h.phase h.count c)
+was_record None h b c e f = let z : ◌≡◌ {A = ℕ} 0 1 = cc in absurd (omega arith)
+was_record (Some s) h b c e f =
     let g : record { phase = s.phase; count = s.count } ≡ h = cc in
-    λ i. some (session_of (g i).phase (g i).count (sym f i))
+    λ i. Some (session_of (g i).phase (g i).count (sym f i))
+
+-- bytes that hold a record hold the session of its head and of the store after it
+pub held_session : (l : List ℕ) (h : SessionRecordHead) → decoded_record_head (decoded_session l) ≡ Some h
+    → decoded_session l ≡ Some (session_of h.phase h.count (take store_size (drop record_head_size l)))
+held_session l h e = was_record (decoded_session l) h [] _ e
+    (sym (ap (λ (x : Option Session). decoded_store_or_unchanged x []) (held_some l h e).1))
 
 -- a session that was read is encoded as the bytes it was read from
-pub encode-decode : (l : List ℕ) (s : Session) → decoded_session l ≡ some s
+pub encode-decode : (l : List ℕ) (s : Session) → decoded_session l ≡ Some s
     → encoded_session s ++ drop session_record_size l ≡ l
 unfolding decoded_session
 encode-decode l s e = elim (bool_cases (has_at_least_record_length_and_canonical_head l)) [
   | inl t ↦
-      let f : some (session_in l) ≡ some s = sym (if_yes _ _ t) ∙ e in
+      let f : Some (session_in l) ≡ Some s = sym (if_yes _ _ t) ∙ e in
       let g : session_in l ≡ s = cc in
       ap (λ (x : Session). encoded_session x ++ drop session_record_size l) (sym g) ∙ encode_known l (known l t)
   | inr t ↦
-      let f : none ≡ some s = sym (if_no _ _ t) ∙ e in
+      let f : None ≡ Some s = sym (if_no _ _ t) ∙ e in
       let z : ◌≡◌ {A = ℕ} 0 1 = cc in
       absurd (omega arith)
 ]
 
 -- so writing it back changes nothing
-pub written_back : (l : List ℕ) (s : Session) → decoded_session l ≡ some s → session_written_over_front_if_room s l ≡ l
+pub written_back : (l : List ℕ) (s : Session) → decoded_session l ≡ Some s → session_written_over_front_if_room s l ≡ l
 unfolding session_written_over_front_if_room
 written_back l s e = if_ind (λ (x : List ℕ). x ≡ l) _ _ _ (λ t. encode-decode l s e) (λ t. refl)
 

@@ -1,16 +1,15 @@
--- The lists of `encode_record`, `write_record_head` and `decode_record`: a head and a store after it put in their
--- places, and the
--- store copied out again.
+-- The lists of `encode_record`, `write_record_head` and `decode_record_head`: a head and a store after it put in their
+-- places, and heads compared.
 -- Assumes nothing.
+use mathlib.Core.Bool.{Bool, true, false, not}
 use mathlib.Core.Path.{◌≡◌, refl, sym, ap, ◌∙◌}
-use mathlib.Core.List.{List, [], ◌∷◌, ◌++◌, append-nil}
-use Prim.Native.Nat.{ℕ, ◌+◌, ◌*◌, ◌≤◌, ◌<◌}
+use mathlib.Core.List.{List, ◌++◌}
+use Prim.Native.Nat.{ℕ, ◌≤◌, ◌<◌}
 use native.Mathlib.Omega.{arith}
-use lib.ListN.{length, get_or, take, drop, length-take, length-drop, drop_of_length-le}
-use lib.Seq.{take_all, drop_at, drop-drop, length-take-le}
+use lib.ListN.{length, take, drop, length-take, length-drop}
+use lib.Seq.{drop_at, drop-drop, length-take-le}
 use borrow.Author.Tests.{le-leb, lt-leb, leb-true}
 use borrow.Rule.Slice.PartMut.{put_mid, same_len_mid}
-use Rattle.basics.specs.Number.{append_big_endian_bytes, big_endian_number}
 use Rattle.basics.proofs.Laws.{if_yes, if_no, if_ind}
 use Rattle.dictionary.specs.Rows.{store_size}
 use Rattle.session_record.specs.declared.Phase.{Phase}
@@ -66,30 +65,6 @@ module _ (l b : List ℕ) (p : Phase) (n : ℕ) (h : session_record_size ≤ len
       (length-take-le record_head_size l (omega arith)))
       ∙ record_is
 
--- the store of a list that is long enough, copied over another
-pub take_store : (l z m : List ℕ) → session_record_size ≤ length l → length z ≡ store_size
-    → m ≡ take (length (take store_size (drop record_head_size l))) (take store_size (drop record_head_size l))
-    ++ drop (length (take store_size (drop record_head_size l))) z
-    → m ≡ take store_size (drop record_head_size l)
-take_store l z m h n f =
-    let e : store_size ≡ length (take store_size (drop record_head_size l)) = simp (length-take, length-drop) (omega arith)
-    in
-    let g : drop store_size z ≡ [] = drop_of_length-le z {i = store_size} (omega arith) in
-    f ∙ rw (← e, g) (rw (take_all store_size (take store_size (drop record_head_size l)) (omega arith)) (append-nil _))
-
--- eight bytes as a number, by its two halves
-pub by_halves : (s : List ℕ) {high low : ℕ} → length s ≡ 8
-    → high ≡ ((get_or s 0 0 * 256 + get_or s 1 0) * 256 + get_or s 2 0) * 256 + get_or s 3 0
-    → low ≡ ((get_or s 4 0 * 256 + get_or s 5 0) * 256 + get_or s 6 0) * 256 + get_or s 7 0
-    → high * 0x100000000 + low ≡ big_endian_number s
-unfolding append_big_endian_bytes
-by_halves [] z h l = absurd (omega arith)
-by_halves (_ ∷ []) z h l = absurd (omega arith)
-by_halves (_ ∷ _ ∷ []) z h l = absurd (omega arith)
-by_halves (_ ∷ _ ∷ _ ∷ []) z h l = absurd (omega arith)
-by_halves (_ ∷ _ ∷ _ ∷ _ ∷ []) z h l = absurd (omega arith)
-by_halves (_ ∷ _ ∷ _ ∷ _ ∷ _ ∷ []) z h l = absurd (omega arith)
-by_halves (_ ∷ _ ∷ _ ∷ _ ∷ _ ∷ _ ∷ []) z h l = absurd (omega arith)
-by_halves (_ ∷ _ ∷ _ ∷ _ ∷ _ ∷ _ ∷ _ ∷ []) z h l = absurd (omega arith)
-by_halves (_ ∷ _ ∷ _ ∷ _ ∷ _ ∷ _ ∷ _ ∷ _ ∷ []) z h l = omega arith
-by_halves (_ ∷ _ ∷ _ ∷ _ ∷ _ ∷ _ ∷ _ ∷ _ ∷ _ ∷ _) z h l = absurd (omega arith)
+pub not_back : (a b : Bool) → not a ≡ b → a ≡ not b
+not_back true b e = ap not e
+not_back false b e = ap not e

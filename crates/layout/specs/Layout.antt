@@ -1,8 +1,9 @@
 -- The session record as bytes (docs/HOST.md has the table by offset): a head of fourteen bytes, and after it the store
 -- as it is. Bytes hold a record only where their head is that of a phase, byte for byte.
 -- Assumes nothing.
+use Rattle.std.specs.Prelude.{Option, Some, None}
+use Rattle.layout.specs.declared.SessionRecordHead.{SessionRecordHead}
 use Rattle.std.specs.Prelude.{◌≡◌, Bool, List, [], ◌∷◌, ◌++◌, ℕ, zero, suc, ◌+◌, ◌/◌, ◌%◌, length, get_or, take, drop}
-use Rattle.std.proofs.Math.Option.{Option, some, none}
 use Rattle.basics.specs.Alike.{bytes_equal}
 use Rattle.basics.specs.Choice.{when◌then◌else◌, ◌and◌, ◌≤?◌, ◌=?◌}
 use Rattle.basics.specs.Front.{written_over_front}
@@ -21,7 +22,6 @@ use Rattle.session_record.specs.declared.Session.{Session}
 use Rattle.session_record.specs.Numbers.{outcome_number}
 use Rattle.session_record.specs.Session.{store_bytes, session_of, ending_of}
 use Rattle.layout.specs.declared.PhaseFields.{PhaseFields}
-use Rattle.layout.specs.declared.DecodedRecordHead.{DecodedRecordHead}
 
 -- the layout's version, the first byte of every record
 abbrev pub layout_version : Byte
@@ -136,8 +136,8 @@ has_at_least_record_length_and_canonical_head l =
 unfoldable pub decoded_session : Bytes → Option Session
 decoded_session l =
     when has_at_least_record_length_and_canonical_head l
-    then some (session_of (phase_in_head l) (command_count_in_head l) (take store_size (drop record_head_size l)))
-    else none
+    then Some (session_of (phase_in_head l) (command_count_in_head l) (take store_size (drop record_head_size l)))
+    else None
 
 -- what holds of the two, proved in proofs/Laws:
 --   decode-encode    the record at the front of any bytes is read back as it was
@@ -152,17 +152,17 @@ pub record SessionRecordWrittenIfRoom (written : Session) (bytes_before : Bytes)
   pub bytes : bytes_after ≡ session_written_over_front_if_room written bytes_before
 
 -- what is reported of the bytes: the session's phase and count, or that there is no record
-abbrev pub decoded_record_head : Option Session → DecodedRecordHead
-decoded_record_head none = DecodedRecordHead.Nothing
-decoded_record_head (some s) = DecodedRecordHead.Record (record { phase = s.phase; count = s.count })
+abbrev pub decoded_record_head : Option Session → Option SessionRecordHead
+decoded_record_head None = None
+decoded_record_head (Some s) = Some (record { phase = s.phase; count = s.count })
 
 -- the caller's store: the session's, or as it was where there is no record
 abbrev pub decoded_store_or_unchanged : Option Session → StoreBytes → StoreBytes
-decoded_store_or_unchanged none b = b
-decoded_store_or_unchanged (some s) b = store_bytes s
+decoded_store_or_unchanged None b = b
+decoded_store_or_unchanged (Some s) b = store_bytes s
 
 -- what reading the bytes l reports, and what it leaves in the caller's store
-pub record DecodesSessionRecord (result : DecodedRecordHead) (record_bytes : Bytes)
+pub record DecodesSessionRecord (result : Option SessionRecordHead) (record_bytes : Bytes)
     (store_before store_after : StoreBytes) : Type 0 where
   pub held : result ≡ decoded_record_head (decoded_session record_bytes)
   pub store : store_after ≡ decoded_store_or_unchanged (decoded_session record_bytes) store_before

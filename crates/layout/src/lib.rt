@@ -11,7 +11,7 @@ ghost use Rattle.std.specs.Prelude.{◌≡◌, ◌+◌, ◌*◌, ◌≤◌, ◌<
 ghost use Rattle.basics.specs.Number.{big_endian_number as number_of};
 ghost use Rattle.dictionary.specs.Rows.{store_size};
 ghost use Rattle.session_record.specs.Session.{session_of};
-ghost use Rattle.layout.specs.Layout.{layout_version, session_record_size, phase_fields_of_awaited, phase_fields_of, record_head_bytes, record_head_written_over_front_if_room};
+ghost use Rattle.layout.specs.Layout.{layout_version, session_record_size, big_endian_bytes, phase_fields_of_awaited, phase_fields_of, record_head_bytes, record_head_written_over_front_if_room};
 ghost use Rattle.layout.specs.Layout.{choice_of_p1, cvm_of_number, outcome_of_number, awaited_of_phase_fields, phase_of_phase_fields, phase_fields_in};
 ghost use Rattle.layout.specs.Layout.{decoded_session, decoded_record_head, SessionRecordWrittenIfRoom, DecodesSessionRecord};
 ghost use Rattle.layout.specs.Word.{command_word, outcome_word, refusal_word, result_word};
@@ -37,6 +37,8 @@ const LIMIT: usize = 6;
 pub const RECORD_SIZE: usize = HEAD + SIZE;
 
 // The phases by number.
+// Kept: numbers, as byte 1 of a record may be any: `phase_fields_in` of specs/Layout reads it, and what is none of these
+// is no record.
 const ON_FRESH: u8 = 0;
 
 const ON_GPO: u8 = 1;
@@ -59,18 +61,20 @@ pub struct PhaseFields {
     pub limit: u64,
 }
 
+// The fields of a phase that holds nothing.
+const NOTHING_HELD: PhaseFields = PhaseFields {
+    number: ON_FRESH,
+    datum: 0,
+    reason: 0,
+    cvm: 0,
+    limit: 0,
+};
+
 // The phase and the count that a record's head has.
 #[derive(Clone, Copy)]
 pub struct SessionRecordHead {
     pub phase: Phase,
     pub count: u8,
-}
-
-// What bytes hold: a record, or nothing.
-#[derive(Clone, Copy)]
-pub enum DecodedRecordHead {
-    Record(SessionRecordHead),
-    Nothing,
 }
 
 // A command's length in a word: what a word can tell apart from an outcome.
@@ -99,14 +103,13 @@ pub fn layout_version() -> u8
 
 // Writes the record of these parts at the front of the bytes, and reports whether there were enough.
 pub fn encode_record(phase: Phase, count: u8, store: &[u8; SIZE], bytes: &mut [u8]) -> bool
-    requires { length store.now ≡ store_size }
     ensures { SessionRecordWrittenIfRoom (session_of phase count store.now) bytes.old result bytes.new }
 {
     if bytes.len() < RECORD_SIZE {
         return false;
     }
     write_record_head(phase, count, bytes);
-    basics::copy(&store[..], &mut bytes[HEAD..RECORD_SIZE]);
+    bytes[HEAD..RECORD_SIZE].copy_from_slice(&store[..]);
     true
 }
 
@@ -117,38 +120,32 @@ pub fn write_record_head(phase: Phase, count: u8, bytes: &mut [u8])
     if bytes.len() < RECORD_SIZE {
         return;
     }
-    let head = head_of(code_of(phase), count);
-    basics::copy(&head, &mut bytes[0..HEAD]);
+    bytes[..HEAD].copy_from_slice(&head_of(code_of(phase), count));
 }
 
 // Takes apart the record at the front of the bytes: its store goes into the caller's.
-pub fn decode_record(bytes: &[u8], store: &mut [u8; SIZE]) -> DecodedRecordHead
-    requires { length store.old ≡ store_size }
-    ensures read { DecodesSessionRecord result bytes.now store.old store.new }
-    ensures sized { length store.new ≡ store_size }
+pub fn decode_record(bytes: &[u8], store: &mut [u8; SIZE]) -> Option<SessionRecordHead>
+    ensures { DecodesSessionRecord result bytes.now store.old store.new }
 {
-    let held = decode_record_head(bytes);
-    let DecodedRecordHead::Record(_) = held else {
-        return held;
-    };
-    basics::copy(&bytes[HEAD..RECORD_SIZE], store);
-    held
+    let head = decode_record_head(bytes)?;
+    store.copy_from_slice(&bytes[HEAD..RECORD_SIZE]);
+    Some(head)
 }
 
 // What the head at the front of the bytes reports.
-pub fn decode_record_head(bytes: &[u8]) -> DecodedRecordHead
+pub fn decode_record_head(bytes: &[u8]) -> Option<SessionRecordHead>
     ensures { result ≡ decoded_record_head (decoded_session bytes.now) }
 {
     if bytes.len() < RECORD_SIZE {
-        return DecodedRecordHead::Nothing;
+        return None;
     }
     let phase = phase_of(code_in(bytes));
     let count = bytes[4];
     let own = head_of(code_of(phase), count);
-    if !basics::bytes_equal(&own, &bytes[0..HEAD]) {
-        return DecodedRecordHead::Nothing;
+    if own[..] != bytes[..HEAD] {
+        return None;
     }
-    DecodedRecordHead::Record(SessionRecordHead { phase, count })
+    Some(SessionRecordHead { phase, count })
 }
 
 // A call's answer as a word: the command's length, or an outcome with its reason, or a refusal's number.
@@ -166,29 +163,24 @@ pub fn result_word(answer: CallResult) -> u32
 pub fn refusal_word(number: u8) -> u32
     ensures { result ≡ refusal_word number }
 {
-    REFUSAL + basics::widen32(number)
+    REFUSAL + u32::from(number)
 }
 
 // A command by its length; no call hands out one that is truncated here.
 fn command_word(issued: CommandLength) -> u32
     ensures { result ≡ command_word issued.size }
 {
-    let size = issued.size;
-    if MOST_LENGTH < size {
-        return MOST_LENGTH as u32;
-    }
-    size as u32
+    issued.size.min(MOST_LENGTH) as u32
 }
 
 // An outcome with its reason and the CVM.
 fn outcome_word(end: OutcomeParameters) -> u32
     ensures { result ≡ outcome_word end }
 {
-    let outcome = end.outcome;
-    basics::widen32(end.cvm) * CVM
+    u32::from(end.cvm) * CVM
         + OUTCOME
-        + basics::widen32(session_record::outcome_number(outcome)) * 256
-        + basics::widen32(end.reason)
+        + u32::from(session_record::outcome_number(end.outcome)) * 256
+        + u32::from(end.reason)
 }
 
 // The code that enough bytes have in their head.
@@ -196,13 +188,12 @@ fn code_in(bytes: &[u8]) -> PhaseFields
     requires { session_record_size ≤ length bytes.now }
     ensures { result ≡ phase_fields_in bytes.now }
 {
-    let limit = limit_from(limit_in(bytes));
     PhaseFields {
         number: bytes[1],
         datum: bytes[2],
         reason: bytes[3],
         cvm: bytes[5],
-        limit,
+        limit: amount_at(bytes, LIMIT),
     }
 }
 
@@ -211,24 +202,14 @@ fn code_of(phase: Phase) -> PhaseFields
     ensures { result ≡ phase_fields_of phase }
 {
     match phase {
-        Phase::Fresh => PhaseFields {
-            number: ON_FRESH,
-            datum: 0,
-            reason: 0,
-            cvm: 0,
-            limit: 0,
-        },
+        Phase::Fresh => NOTHING_HELD,
         Phase::Waiting(awaited) => code_of_awaited(awaited),
-        Phase::Ended(end) => {
-            let outcome = end.outcome;
-            PhaseFields {
-                number: ON_ENDED,
-                datum: session_record::outcome_number(outcome),
-                reason: end.reason,
-                cvm: 0,
-                limit: 0,
-            }
-        }
+        Phase::Ended(end) => PhaseFields {
+            number: ON_ENDED,
+            datum: session_record::outcome_number(end.outcome),
+            reason: end.reason,
+            ..NOTHING_HELD
+        },
     }
 }
 
@@ -239,35 +220,25 @@ fn code_of_awaited(awaited: AwaitedResponse) -> PhaseFields
     match awaited {
         AwaitedResponse::Gpo => PhaseFields {
             number: ON_GPO,
-            datum: 0,
-            reason: 0,
-            cvm: 0,
-            limit: 0,
+            ..NOTHING_HELD
         },
         AwaitedResponse::Record(place) => PhaseFields {
             number: ON_RECORD,
             datum: place.number,
-            reason: 0,
-            cvm: 0,
             limit: place.limit,
+            ..NOTHING_HELD
         },
-        AwaitedResponse::Cryptogram(asked) => {
-            let choice = asked.choice;
-            let cvm = asked.cvm;
-            PhaseFields {
-                number: ON_CRYPTOGRAM,
-                datum: analysis::choice::generate_ac_p1(choice),
-                reason: 0,
-                cvm: analysis::cvm::cvm_number(cvm),
-                limit: asked.limit,
-            }
-        }
+        AwaitedResponse::Cryptogram(asked) => PhaseFields {
+            number: ON_CRYPTOGRAM,
+            datum: analysis::choice::generate_ac_p1(asked.choice),
+            cvm: analysis::cvm::cvm_number(asked.cvm),
+            limit: asked.limit,
+            ..NOTHING_HELD
+        },
         AwaitedResponse::Checksum(checksum) => PhaseFields {
             number: ON_CHECKSUM,
-            datum: 0,
-            reason: 0,
-            cvm: 0,
             limit: checksum.limit,
+            ..NOTHING_HELD
         },
     }
 }
@@ -276,106 +247,81 @@ fn code_of_awaited(awaited: AwaitedResponse) -> PhaseFields
 fn head_of(code: PhaseFields, count: u8) -> [u8; HEAD]
     ensures { result ≡ record_head_bytes code count }
 {
-    let limit = code.limit;
-    [
+    let mut head = [0u8; HEAD];
+    head[..LIMIT].copy_from_slice(&[
         VERSION,
         code.number,
         code.datum,
         code.reason,
         count,
         code.cvm,
-        (limit / 0x100000000000000) as u8,
-        (limit / 0x1000000000000 % 256) as u8,
-        (limit / 0x10000000000 % 256) as u8,
-        (limit / 0x100000000 % 256) as u8,
-        (limit / 0x1000000 % 256) as u8,
-        (limit / 0x10000 % 256) as u8,
-        (limit / 0x100 % 256) as u8,
-        (limit % 256) as u8,
-    ]
+    ]);
+    head[LIMIT..].copy_from_slice(&amount_bytes(code.limit));
+    head
 }
 
-// The eight bytes that enough bytes have for the limit.
-fn limit_in(bytes: &[u8]) -> [u8; 8]
-    requires { session_record_size ≤ length bytes.now }
-    ensures { result ≡ take 8 (drop 6 bytes.now) }
+// An amount as eight bytes, high byte first.
+pub fn amount_bytes(amount: u64) -> [u8; 8]
+    ensures { result ≡ big_endian_bytes 8 amount }
 {
-    let mut limit = [0u8; 8];
-    basics::copy(&bytes[LIMIT..HEAD], &mut limit);
-    limit
+    amount.to_be_bytes()
 }
 
-// The limit of eight bytes, high byte first.
-fn limit_from(bytes: [u8; 8]) -> u64
-    ensures { result ≡ number_of bytes }
+// The amount that eight bytes have from a place on, high byte first.
+pub fn amount_at(bytes: &[u8], at: usize) -> u64
+    requires { at + 8 ≤ length bytes.now }
+    ensures { result ≡ number_of (take 8 (drop at bytes.now)) }
 {
-    let high = four(bytes[0], bytes[1], bytes[2], bytes[3]);
-    let low = four(bytes[4], bytes[5], bytes[6], bytes[7]);
-    high * 0x100000000 + low
-}
-
-// Four bytes as a number, high byte first.
-fn four(a: u8, b: u8, c: u8, d: u8) -> u64
-    ensures { (result ≡ ((a * 256 + b) * 256 + c) * 256 + d) × (result < 0x100000000) }
-{
-    let n = basics::widen32(a) * 0x1000000
-        + basics::widen32(b) * 0x10000
-        + basics::widen32(c) * 0x100
-        + basics::widen32(d);
-    n as u64
+    let mut amount = [0u8; 8];
+    amount.copy_from_slice(&bytes[at..at + 8]);
+    u64::from_be_bytes(amount)
 }
 
 // The phase that a code denotes, the nearest one where no phase has that code.
 fn phase_of(code: PhaseFields) -> Phase
     ensures { result ≡ phase_of_phase_fields code }
 {
-    let number = code.number;
-    if number == ON_FRESH {
-        return Phase::Fresh;
-    }
-    if number == ON_ENDED {
-        return Phase::Ended(Ending {
+    match code.number {
+        ON_FRESH => Phase::Fresh,
+        ON_ENDED => Phase::Ended(Ending {
             outcome: outcome_from(code.datum),
             reason: code.reason,
-        });
+        }),
+        _ => Phase::Waiting(awaited_of(code)),
     }
-    Phase::Waiting(awaited_of(code))
 }
 
 // The awaited response that a code denotes, the last one where none has that code.
 fn awaited_of(code: PhaseFields) -> AwaitedResponse
     ensures { result ≡ awaited_of_phase_fields code }
 {
-    let number = code.number;
     let limit = code.limit;
-    if number == ON_GPO {
-        return AwaitedResponse::Gpo;
-    }
-    if number == ON_RECORD {
-        return AwaitedResponse::Record(AwaitedRecord {
+    match code.number {
+        ON_GPO => AwaitedResponse::Gpo,
+        ON_RECORD => AwaitedResponse::Record(AwaitedRecord {
             number: code.datum,
             limit,
-        });
+        }),
+        ON_CRYPTOGRAM => AwaitedResponse::Cryptogram(RequestedCryptogram {
+            choice: choice_from(code.datum),
+            cvm: cvm_from(code.cvm),
+            limit,
+        }),
+        _ => AwaitedResponse::Checksum(AwaitedChecksum { limit }),
     }
-    if number == ON_CRYPTOGRAM {
-        let choice = choice_from(code.datum);
-        let cvm = cvm_from(code.cvm);
-        return AwaitedResponse::Cryptogram(RequestedCryptogram { choice, cvm, limit });
-    }
-    AwaitedResponse::Checksum(AwaitedChecksum { limit })
 }
+
+// Kept: a choice, a CVM and an outcome are types of other crates, so a `From<u8>` of them cannot stand here.
 
 // The choice that P1 of the command requests; a decline where no choice has that P1.
 fn choice_from(p1: u8) -> Choice
     ensures { result ≡ choice_of_p1 p1 }
 {
-    if p1 == 0x40 {
-        return Choice::Offline;
+    match p1 {
+        0x40 => Choice::Offline,
+        0x80 => Choice::Online,
+        _ => Choice::Decline,
     }
-    if p1 == 0x80 {
-        return Choice::Online;
-    }
-    Choice::Decline
 }
 
 // The CVM of a number; the last one where no CVM has that number.

@@ -1,14 +1,18 @@
 -- Nibbles of bytes: one read, one written, all packed again; and the first nibble of a kind. Each by the list from its
 -- front, two nibbles a byte.
 -- Assumes nothing.
-use mathlib.Core.Path.{◌≡◌, refl, sym, ap, ap₂, ◌∙◌}
+use mathlib.Core.Path.{◌≡◌, refl, sym, ap, ap₂, subst, ◌∙◌}
 use mathlib.Core.List.{List, [], ◌∷◌}
-use Prim.Native.Nat.{ℕ, zero, suc, ◌+◌, ◌*◌, ◌/◌, ◌%◌, ◌≤◌, ◌<◌}
+use Prim.Native.Nat.{ℕ, zero, suc, ◌+◌, ◌-◌, ◌*◌, ◌/◌, ◌%◌, ◌≤◌, ◌<◌}
 use native.Mathlib.Omega.{arith}
+use native.Mathlib.Nat.{add-zero}
 use native.Mathlib.Numerals.{add-one}
 use lib.ListN.{length, get_or, drop, set, drop_of_length-le}
 use lib.Seq.{drop-cons}
 use borrow.Author.Tests.{eq-eqb, ne_eqb}
+use Rattle.std.specs.Prelude.{Option, Some, None, MatchOption, max, unwrap_or}
+use mathlib.Core.Logic.{inl, inr}
+use Rattle.basics.proofs.Order.{le-or-gt}
 use Rattle.basics.specs.Number.{nibbles}
 use Rattle.basics.proofs.Laws.{if_yes, if_no}
 use Rattle.mag_stripe.specs.Track.{nibbles_before, packed_nibbles}
@@ -17,6 +21,8 @@ pub length_nibbles : (t : List ℕ) → length (nibbles t) ≡ length t * 2
 unfolding nibbles
 length_nibbles [] = refl
 length_nibbles (b ∷ t) = let e = length_nibbles t in omega arith
+
+pub ruleset lengths = (length_nibbles)
 
 pub packed_nibbles_lem : (t : List ℕ) → packed_nibbles (nibbles t) ≡ t
 unfolding nibbles packed_nibbles
@@ -88,3 +94,31 @@ module _ (x : ℕ) (s : List ℕ) (i : ℕ) where
   pub before_end : length s ≤ i → nibbles_before x (drop i s) ≡ 0
   unfolding nibbles_before
   before_end h = rw (drop_of_length-le s h)
+
+-- nibbles that are not x
+skipped : (x : ℕ) (s : List ℕ) (n from : ℕ) → from + n ≤ length s → ((k : ℕ) → from ≤ k → k < from + n → get_or s k 0 ≡ x → ⊥)
+    → from + nibbles_before x (drop from s) ≡ from + n + nibbles_before x (drop (from + n) s)
+skipped x s zero from b h = rw add-zero
+skipped x s (suc n) from b h =
+    let e : from + 1 + n ≡ from + suc n = omega arith in
+    before_next x s from (omega arith) (h from (omega arith) (omega arith))
+    ∙ subst (λ (j : ℕ). from + 1 + nibbles_before x (drop (from + 1) s) ≡ j + nibbles_before x (drop j s)) e
+    (skipped x s n (from + 1) (omega arith) (λ k u v. h k (omega arith) (omega arith)))
+
+-- the first x from a place on, as `find` gives it
+pub first_found : (x from end : ℕ) (s : List ℕ) (r : Option ℕ) → length s ≡ end
+    → MatchOption r ((k : ℕ) → from ≤ k → k < end → get_or s k 0 ≡ x → ⊥)
+    (λ i. (from ≤ i) × (i < end) × (get_or s i 0 ≡ x) × ((k : ℕ) → from ≤ k → k < i → get_or s k 0 ≡ x → ⊥))
+    → unwrap_or r (max from end) ≡ from + nibbles_before x (drop from s)
+first_found x from end s None e h =
+    elim (le-or-gt from end) [
+      | inl g ↦
+          let j : from + (end - from) ≡ end = omega arith in
+          let z = skipped x s (end - from) from (omega arith) (λ k u v. h k u (omega arith)) in
+          omega (arith, rw j at z, before_end x s end (omega arith))
+      | inr g ↦ omega (arith, before_end x s from (omega arith))
+    ]
+first_found x from end s (Some i) e h =
+    let j : from + (i - from) ≡ i = omega arith in
+    let z = skipped x s (i - from) from (omega arith) (λ k u v. h.3 k u (omega arith)) in
+    omega (arith, rw j at z, before_here x s i (omega arith) h.2)

@@ -1,16 +1,16 @@
 -- The discretionary data by two searches, their bounds, and each way out of the test of a track.
 -- Assumes nothing.
-use mathlib.Core.Path.{◌≡◌, sym, ap, ◌∙◌}
-use mathlib.Core.Bool.{Bool, true, false}
+use mathlib.Core.Path.{◌≡◌, ap}
+use mathlib.Core.Bool.{Bool, true}
 use mathlib.Core.List.{List, [], ◌∷◌}
-use Prim.Native.Nat.{ℕ, suc, ◌+◌, ◌-◌, ◌≤◌, ◌<◌}
+use Prim.Native.Nat.{ℕ, suc, ◌+◌, ◌-◌, ◌≤◌}
 use native.Mathlib.Omega.{arith}
 use lib.Dec.{leb, eqb}
 use lib.ListN.{length, drop, length-drop}
-use borrow.Author.Tests.{lt-leb, le-leb, leb-true}
+use borrow.Author.Tests.{leb-true}
 use Rattle.basics.specs.Number.{nibbles}
 use Rattle.basics.specs.Choice.{both}
-use Rattle.basics.proofs.Laws.{if_ind, both_no_left, both_no_right, both_true, both_left, both_right}
+use Rattle.basics.proofs.Laws.{if_ind, both_no_left, both_true, both_left, both_right}
 use Rattle.mag_stripe.specs.declared.Bitmaps.{Bitmaps}
 use Rattle.mag_stripe.specs.declared.DiscretionaryData.{DiscretionaryData}
 use Rattle.mag_stripe.specs.Track.{track_separator, track_padding, nibbles_before, discretionary_data_in_nibbles}
@@ -24,23 +24,6 @@ unfolding nibbles_before
 before_le x [] = omega arith
 before_le x (n ∷ s) = if_ind (λ (k : ℕ). k ≤ suc (length s)) (eqb n x) 0 (suc (nibbles_before x s)) (λ e. omega arith)
     (λ e. omega (arith, before_le x s))
-
--- by the place r of the first D and the end e of the data after it
-pub data_by : (s : List ℕ) (r e : ℕ) → r ≡ 0 + nibbles_before track_separator (drop 0 s)
-    → e ≡ r + 1 + nibbles_before track_padding (drop (r + 1) s)
-    → record { end = e; count = e - (r + 1) - 7 } ≡ discretionary_data_in_nibbles s
-unfolding discretionary_data_in_nibbles
-data_by s r e p q =
-    let d : r ≡ nibbles_before track_separator s = omega arith in
-    let n : e - (r + 1) - 7 ≡ nibbles_before track_padding (drop (r + 1) s) - 7 = omega arith in
-    rw (n, q, d)
-
-pub data_none : (s : List ℕ) (r e : ℕ) → r ≡ 0 + nibbles_before track_separator (drop 0 s)
-    → e ≡ r + 1 + nibbles_before track_padding (drop (r + 1) s)
-    → e - (r + 1) < 7 → record { end = e; count = 0 } ≡ discretionary_data_in_nibbles s
-data_none s r e p q h =
-    let z : e - (r + 1) - 7 ≡ 0 = omega arith in
-    rw z at (data_by s r e p q)
 
 -- where there are digits the data end in the track
 pub end_inside : (s : List ℕ) → 1 ≤ (discretionary_data_in_nibbles s).count → (discretionary_data_in_nibbles s).end ≤ length s
@@ -67,30 +50,6 @@ module _ (t : List ℕ) (b : Bitmaps) (d : DiscretionaryData) (e : d ≡ discret
   pub by_count : sound_for d.count b ≡ track_can_take_digits t b
   unfolding track_can_take_digits
   by_count = ap (λ (x : DiscretionaryData). sound_for x.count b) e
-
-  pub no_digit : d.count ≡ 0 → false ≡ track_can_take_digits t b
-  no_digit h = sym (both_no_left _ _ (lt-leb 1 d.count (omega arith))) ∙ by_count
-
-  pub code_past : bitmap_within d.count b.pcvc3 ≡ false → false ≡ track_can_take_digits t b
-  code_past h = sym (both_no_right (leb 1 d.count) _ (both_no_left _ _ h)) ∙ by_count
-
-  pub number_past : bitmap_within d.count b.punatc ≡ false → false ≡ track_can_take_digits t b
-  number_past h =
-      sym
-      (both_no_right (leb 1 d.count) _ (both_no_right (bitmap_within d.count b.pcvc3) _ (both_no_left _ _ h))) ∙
-      by_count
-
-  -- all but the last two tests
-  module _ (some : d.count ≡ 0 → ⊥) (code : bitmap_within d.count b.pcvc3 ≡ true)
-      (number : bitmap_within d.count b.punatc ≡ true) where
-    by_counts : both (leb b.natc (set_bit_count b.punatc)) (leb (un_digit_count b) 8) ≡ track_can_take_digits t b
-    by_counts = sym (both_true _ (le-leb 1 d.count (omega arith)) ∙ both_true _ code ∙ both_true _ number) ∙ by_count
-
-    pub below-zero : set_bit_count b.punatc < b.natc → false ≡ track_can_take_digits t b
-    below-zero h = sym (both_no_left _ _ (lt-leb b.natc (set_bit_count b.punatc) h)) ∙ by_counts
-
-    pub by_eight : b.natc ≤ set_bit_count b.punatc → leb (un_digit_count b) 8 ≡ track_can_take_digits t b
-    by_eight h = sym (both_true _ (le-leb b.natc (set_bit_count b.punatc) h)) ∙ by_counts
 
 -- what a sound track gives
 pub record Sound (t : List ℕ) (b : Bitmaps) : Type 0 where
@@ -138,3 +97,6 @@ room t b d e s =
       code = up_to_more _ _ _ (omega arith) s.code;
       number = up_to_more _ _ _ (omega arith) s.number;
     }
+
+-- tests joined, for `grind`
+pub ruleset tests = (both_true, both_no_left)

@@ -2,7 +2,7 @@
 // (`can_take_digits`), and the digits put in (`put_digits`). A track comes in as plain bytes of any length and
 // contents, the bitmaps and values as numbers, which `bitmaps_of` and `digit_values_of` read from the bytes of the
 // data objects.
-#![tactic(auto)]
+#![tactic(auto, using(crate::proofs::Nibbles::lengths))]
 
 ghost use Rattle.std.specs.Prelude.{◌≡◌, true, ◌∷◌, ◌+◌, ◌≤◌, ◌<◌, length, take, drop, set, get_or};
 ghost use Rattle.basics.specs.Number.{nibbles};
@@ -49,8 +49,8 @@ pub fn bitmaps_of(pcvc3: &[u8], punatc: &[u8], natc: &[u8]) -> Bitmaps
     ensures { result ≡ bitmaps_of pcvc3.now punatc.now natc.now }
 {
     Bitmaps {
-        pcvc3: word_at(pcvc3, 0),
-        punatc: word_at(punatc, 0),
+        pcvc3: word_of(pcvc3),
+        punatc: word_of(punatc),
         natc: basics::byte_at(natc, 0),
     }
 }
@@ -60,43 +60,38 @@ pub fn digit_values_of(cvc3: &[u8], un: &[u8], atc: &[u8]) -> DigitValues
     ensures { result ≡ digit_values_of cvc3.now un.now atc.now }
 {
     DigitValues {
-        cvc3: word_at(cvc3, 0),
-        un: word_at(un, 0) as u32 * 65536 + word_at(un, 2) as u32,
-        atc: word_at(atc, 0),
+        cvc3: word_of(cvc3),
+        un: u32::from_be_bytes([
+            basics::byte_at(un, 0),
+            basics::byte_at(un, 1),
+            basics::byte_at(un, 2),
+            basics::byte_at(un, 3),
+        ]),
+        atc: word_of(atc),
     }
 }
 
-// Two bytes from a place on as a number, high byte first.
-fn word_at(s: &[u8], i: usize) -> u16
-    requires { i ≤ 2 }
-    ensures { result ≡ two_byte_number (drop i s.now) }
+// The first two bytes as a number, high byte first.
+fn word_of(s: &[u8]) -> u16
+    ensures { result ≡ two_byte_number s.now }
 {
-    let high = basics::widen(basics::byte_at(s, i));
-    let low = basics::widen(basics::byte_at(s, i + 1));
-    (high * 256 + low) as u16
+    u16::from_be_bytes([basics::byte_at(s, 0), basics::byte_at(s, 1)])
 }
 
 // Whether a track can take the digits: it has discretionary digits, no bitmap sets a place past them, and nUN
 // is 0 to 8.
+#[tactic(auto, using(crate::proofs::Sound::tests), unfolding(crate::specs::Bitmap::track_can_take_digits))]
 pub fn can_take_digits(track: &[u8], bitmaps: Bitmaps) -> bool
     ensures { result ≡ track_can_take_digits track.now bitmaps }
 {
     let count = discretionary_of(track).count;
-    if count == 0 {
-        return false;
-    }
-    if !is_within(bitmaps.pcvc3, count) {
-        return false;
-    }
-    if !is_within(bitmaps.punatc, count) {
-        return false;
-    }
     let bits = bit_count(bitmaps.punatc);
-    let counted = basics::widen(bitmaps.natc);
-    if bits < counted {
-        return false;
-    }
-    bits - counted <= 8
+    let counted = usize::from(bitmaps.natc);
+    count >= 1
+        && is_within(bitmaps.pcvc3, count)
+        && is_within(bitmaps.punatc, count)
+        && counted <= bits
+        && bits - counted <= 8
 }
 
 // Puts the digits of CVC3, UN and ATC into a track, and nUN as its last digit. A track that cannot take them stays.
@@ -117,80 +112,74 @@ fn write_digits(track: &mut [u8], bitmaps: Bitmaps, values: DigitValues)
 {
     let end = discretionary_of(track).end;
     let bits = bit_count(bitmaps.pcvc3);
-    let counted = basics::widen(bitmaps.natc);
+    let counted = usize::from(bitmaps.natc);
     let n = bit_count(bitmaps.punatc) - counted;
-    copy(track, end, bitmaps.pcvc3, bits, values.cvc3 as u32, 10);
+    copy(track, end, bitmaps.pcvc3, bits, u32::from(values.cvc3), 10);
     let rest = copy(track, end, bitmaps.punatc, n, values.un, 16);
-    copy(track, end, rest, counted, values.atc as u32, 10);
+    copy(track, end, rest, counted, u32::from(values.atc), 10);
     put_nibble(track, end - 1, n as u8);
 }
 
 // The discretionary data of a track.
+#[tactic(auto, using(crate::proofs::Nibbles::lengths, crate::proofs::Sound::before_le), unfolding(crate::specs::Track::discretionary_data_in_nibbles))]
 fn discretionary_of(track: &[u8]) -> DiscretionaryData
     ensures { result ≡ discretionary_data_of track.now }
 {
     let from = first(track, 0, 0xD) + 1;
     let end = first(track, from, 0xF);
-    let n = end - from;
-    if n < 7 {
-        return DiscretionaryData { end, count: 0 };
+    DiscretionaryData {
+        end,
+        count: (end - from).saturating_sub(7),
     }
-    DiscretionaryData { end, count: n - 7 }
 }
 
 // Where the first nibble x from a place on is; where there is none, the track's end, or the place past it.
 fn first(track: &[u8], from: usize, x: u8) -> usize
     ensures { result ≡ from + nibbles_before x (drop from (nibbles track.now)) }
 {
-    let mut i = from;
-    while i < track.len() * 2 {
-        if nibble(track, i) == x {
-            return i;
-        }
-        i += 1;
-    }
-    i
+    let end = track.len() * 2;
+    (from..end)
+        .find(|i| nibble(track, *i) == x)
+        .unwrap_or(from.max(end))
 }
 
-// The nibble at a place, counted from the left, from 0.
+// The nibble at a place, counted from the left, from 0; past the end it reads as 0.
+#[tactic(auto, using(crate::proofs::Nibbles::lengths, crate::proofs::Nibbles::high_nibble, crate::proofs::Nibbles::low_nibble))]
 fn nibble(track: &[u8], i: usize) -> u8
-    requires { i < length (nibbles track.now) }
     ensures { result ≡ get_or (nibbles track.now) i 0 }
 {
-    let b = track[i / 2];
-    if i % 2 == 0 {
-        return b / 16;
-    }
-    b % 16
+    let b = basics::byte_at(track, i / 2);
+    if i % 2 == 0 { b / 16 } else { b % 16 }
 }
 
 // Writes a nibble at a place, counted from the left, from 0.
+#[tactic(auto, using(crate::proofs::Nibbles::lengths, crate::proofs::Nibbles::high_set, crate::proofs::Nibbles::low_set))]
 fn put_nibble(track: &mut [u8], i: usize, x: u8)
     requires { (i < length (nibbles track.old)) × (x < 16) }
     ensures { nibbles track.new ≡ set (nibbles track.old) i x }
 {
-    let at = i / 2;
-    let b = track[at];
-    if i % 2 == 0 {
-        track[at] = x * 16 + b % 16;
+    let b = &mut track[i / 2];
+    *b = if i % 2 == 0 {
+        x * 16 + *b % 16
     } else {
-        track[at] = b / 16 * 16 + x;
-    }
+        *b / 16 * 16 + x
+    };
 }
 
 // The number of non-zero bits of a bitmap.
+#[tactic(auto, using(crate::proofs::Places::bits_counted))]
 fn bit_count(bitmap: u16) -> usize
     ensures { (result ≡ set_bit_count bitmap) × (result ≤ 16) }
 {
-    u16::count_ones(bitmap) as usize
+    bitmap.count_ones() as usize
 }
 
 // Whether a bitmap sets no place past the last of so many digits.
+#[tactic(auto, using(crate::proofs::Places::within_by_highest))]
 fn is_within(bitmap: u16, count: usize) -> bool
     ensures { result ≡ bitmap_within count bitmap }
 {
-    let highest = 16 - u16::leading_zeros(bitmap);
-    highest as usize <= count
+    (16 - bitmap.leading_zeros()) as usize <= count
 }
 
 // Copies the lowest digits of a number in a base to as many places of a bitmap, the lowest ones, and returns the
@@ -204,13 +193,13 @@ fn copy(track: &mut [u8], end: usize, bitmap: u16, count: usize, number: u32, ba
 {
     let mut rest = bitmap;
     let mut left = number;
-    let mut copied = 0;
-    while copied < count {
+    // Kept: tried as `for place in places.by_ref().take(count)` over an iterator of a bitmap's places. It did not close:
+    // where its count is used up, std's `take` does not say that its source stays, and the bitmap of the others is read.
+    for _copied in 0..count {
         let next = next_place(rest);
         put_nibble(track, end - next.place, (left % base) as u8);
         left /= base;
         rest = next.rest;
-        copied += 1;
     }
     rest
 }
@@ -220,7 +209,7 @@ fn next_place(bitmap: u16) -> NextBitmapPlace
     requires { 1 ≤ set_bit_count bitmap }
     ensures { (bitmap_places_from_one bitmap ≡ result.place ∷ bitmap_places_from_one result.rest) × (1 ≤ result.place) }
 {
-    let zeros = u16::trailing_zeros(bitmap);
+    let zeros = bitmap.trailing_zeros();
     let lowest = 1u16 << zeros;
     NextBitmapPlace {
         place: zeros as usize + 1,

@@ -15,13 +15,12 @@ use Rattle.afl.specs.declared.CardRecord.{CardRecord}
 use Rattle.afl.specs.Entry.{entry_sfi}
 use Rattle.afl.specs.Records.{afl_entries, afl_length_is_multiple_of4, afl_records, afl_record_count}
 use Rattle.personalise.specs.declared.Placement.{Placement}
-use Rattle.personalise.specs.declared.PersonaliseResult.{PersonaliseResult}
 use Rattle.personalise.specs.Objects.{tag_and_value_allowed_in_record, tags_distinct}
 use Rattle.personalise.specs.Placements.{each_placed_once}
 use Rattle.personalise.specs.Entries.{most_afl_entries, most_card_records}
 use Rattle.personalise.specs.Records.{record_content, most_record_content_bytes}
 use Rattle.personalise.specs.Outcome.{least_records_buffer_size, least_afl_buffer_size, CardPlan, objects_of_plan}
-use Rattle.personalise.specs.Outcome.{placements_of_plan}
+use Rattle.personalise.specs.Outcome.{placements_of_plan, PersonaliseResult}
 use Rattle.personalise.specs.Word.{is_written}
 
 -- ---- one entry

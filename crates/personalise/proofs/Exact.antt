@@ -1,10 +1,10 @@
 -- All is written exactly where every rule is satisfied: the tests of the answer, clause by clause, both ways.
 -- Assumes nothing.
+use Rattle.std.specs.Prelude.{Some, None, Option}
 use mathlib.Core.Path.{◌≡◌, refl, sym, ap, ◌∙◌}
 use mathlib.Core.Bool.{Bool, true, false, not}
 use mathlib.Core.Logic.{◌⊎◌, inl, inr}
 use mathlib.Core.List.{List, [], ◌∷◌}
-use mathlib.Core.Option.{Option, some, none}
 use Prim.Native.Nat.{ℕ, suc, ◌<◌, ◌≤◌}
 use native.Mathlib.Omega.{arith}
 use lib.Dec.{eqb, ltb}
@@ -20,10 +20,7 @@ use Rattle.afl.specs.declared.AflEntry.{AflEntry}
 use Rattle.afl.specs.Entry.{entry_record_count}
 use Rattle.afl.specs.Records.{afl_entries, afl_length_is_multiple_of4, sum_over_entries, afl_record_count}
 use Rattle.personalise.specs.declared.Placement.{Placement}
-use Rattle.personalise.specs.declared.FirstBadItemNumber.{FirstBadItemNumber}
-use Rattle.personalise.specs.declared.FirstBadItemNumber.TheVariants.{At, Nothing}
-use Rattle.personalise.specs.declared.PersonaliseResult.{PersonaliseResult}
-use Rattle.personalise.specs.declared.PersonaliseResult.TheVariants.{BadEntry, BadRecord}
+use Rattle.personalise.specs.declared.PersonaliseError.TheVariants.{BadEntry, BadRecord}
 use Rattle.personalise.specs.Objects.{tag_and_value_allowed_in_record, tags_distinct, objects_or_empty}
 use Rattle.personalise.specs.Placements.{placements_in, any_placement, puts_object_into, each_placed_once}
 use Rattle.personalise.specs.Placements.{objects_in_record_from}
@@ -31,7 +28,7 @@ use Rattle.personalise.specs.Entries.{overlaps_none_before, valid_entry_sfi1_to1
 use Rattle.personalise.specs.Records.{encoded_objects, record_content, most_record_content_bytes}
 use Rattle.personalise.specs.Records.{is_out_of_range_placement_into, has_bad_placement_or_over253_bytes, first_bad_record}
 use Rattle.personalise.specs.Outcome.{least_records_buffer_size, least_afl_buffer_size, CardPlan, objects_of_plan}
-use Rattle.personalise.specs.Outcome.{placements_of_plan, refuse_fault_or, personalise_result}
+use Rattle.personalise.specs.Outcome.{placements_of_plan, PersonaliseResult, refuse_fault_or, personalise_result}
 use Rattle.personalise.specs.Word.{is_written}
 use Rattle.personalise.specs.Inner.{parsed_objects_valid_and_placed_once, result_all_written, result_from_record_checks}
 use Rattle.personalise.proofs.Clauses.{low_bits_clear, sfi_in_range, first_record_named, records_in_order, none_offline}
@@ -48,22 +45,22 @@ pub record Passes (p : CardPlan) (r l : List ℕ) : Type 0 where
   pub records_lent : least_records_buffer_size ≤ length r
   pub afl_lent : least_afl_buffer_size ≤ length l
   pub list : parsed_objects_valid_and_placed_once (placements_of_plan p) 1 (primitive_objects p.list) ≡ true
-  pub entries : first_bad_entry p.entries ≡ Nothing
-  pub records : first_bad_record (objects_of_plan p) (placements_of_plan p) (afl_record_count p.entries) ≡ Nothing
+  pub entries : first_bad_entry p.entries ≡ None
+  pub records : first_bad_record (objects_of_plan p) (placements_of_plan p) (afl_record_count p.entries) ≡ None
 
 -- an answer that is none of the refusals
 refused : {A : Type 0} {a b : PersonaliseResult} → is_written a ≡ true → a ≡ b → is_written b ≡ false → A
 refused w e f = let z = ap is_written e in let y : ◌≡◌ {A = ℕ} 0 1 = cc in absurd (omega arith)
 
 module _ (p : CardPlan) (r l : List ℕ) where
-  by_entries : {x : FirstBadItemNumber} → first_bad_entry p.entries ≡ x
+  by_entries : {x : Option ℕ} → first_bad_entry p.entries ≡ x
       → refuse_fault_or BadEntry (first_bad_entry p.entries) (result_from_record_checks p) ≡ refuse_fault_or BadEntry x
       (result_from_record_checks p)
-  by_entries e = ap (λ (x : FirstBadItemNumber). refuse_fault_or BadEntry x (result_from_record_checks p)) e
+  by_entries e = ap (λ (x : Option ℕ). refuse_fault_or BadEntry x (result_from_record_checks p)) e
 
-  by_records : {x : FirstBadItemNumber} → first_bad_record (objects_of_plan p) (placements_of_plan p)
+  by_records : {x : Option ℕ} → first_bad_record (objects_of_plan p) (placements_of_plan p)
       (afl_record_count p.entries) ≡ x → result_from_record_checks p ≡ refuse_fault_or BadRecord x (result_all_written p)
-  by_records e = ap (λ (x : FirstBadItemNumber). refuse_fault_or BadRecord x (result_all_written p)) e
+  by_records e = ap (λ (x : Option ℕ). refuse_fault_or BadRecord x (result_all_written p)) e
 
   pub passed : Passes p r l → personalise_result p r l ≡ result_all_written p
   passed q = good_list p r l q.records_lent q.afl_lent q.list ∙ by_entries q.entries ∙ by_records q.records
@@ -73,18 +70,18 @@ module _ (p : CardPlan) (r l : List ℕ) where
     where
       with_record : least_records_buffer_size ≤ length r → least_afl_buffer_size ≤ length l
           → parsed_objects_valid_and_placed_once (placements_of_plan p) 1 (primitive_objects p.list) ≡ true
-          → first_bad_entry p.entries ≡ Nothing
-          → (x : FirstBadItemNumber) → first_bad_record (objects_of_plan p) (placements_of_plan p)
+          → first_bad_entry p.entries ≡ None
+          → (x : Option ℕ) → first_bad_record (objects_of_plan p) (placements_of_plan p)
           (afl_record_count p.entries) ≡ x → Passes p r l
-      with_record a b c d Nothing e = record { records_lent = a; afl_lent = b; list = c; entries = d; records = e }
-      with_record a b c d (At k) e = refused w (good_list p r l a b c ∙ by_entries d ∙ by_records e) refl
+      with_record a b c d None e = record { records_lent = a; afl_lent = b; list = c; entries = d; records = e }
+      with_record a b c d (Some k) e = refused w (good_list p r l a b c ∙ by_entries d ∙ by_records e) refl
 
       with_entry : least_records_buffer_size ≤ length r → least_afl_buffer_size ≤ length l
           → parsed_objects_valid_and_placed_once (placements_of_plan p) 1 (primitive_objects p.list) ≡ true
-          → (x : FirstBadItemNumber) → first_bad_entry p.entries ≡ x → Passes p r l
-      with_entry a b c Nothing e = with_record a b c e (first_bad_record (objects_of_plan p) (placements_of_plan p)
+          → (x : Option ℕ) → first_bad_entry p.entries ≡ x → Passes p r l
+      with_entry a b c None e = with_record a b c e (first_bad_record (objects_of_plan p) (placements_of_plan p)
           (afl_record_count p.entries)) refl
-      with_entry a b c (At i) e = refused w (good_list p r l a b c ∙ by_entries e) refl
+      with_entry a b c (Some i) e = refused w (good_list p r l a b c ∙ by_entries e) refl
 
       with_list : least_records_buffer_size ≤ length r → least_afl_buffer_size ≤ length l → (x : Bool)
           → parsed_objects_valid_and_placed_once (placements_of_plan p) 1 (primitive_objects p.list) ≡ x → Passes p r l
@@ -111,15 +108,15 @@ record ListKept (ps : List Placement) (x : Option (List Object)) : Type 0 where
 
 list_kept : (ps : List Placement) (x : Option (List Object)) → parsed_objects_valid_and_placed_once ps 1 x ≡ true
     → ListKept ps x
-list_kept ps none e = absurd (let z : ◌≡◌ {A = ℕ} 0 1 = cc in omega arith)
-list_kept ps (some os) e =
+list_kept ps None e = absurd (let z : ◌≡◌ {A = ℕ} 0 1 = cc in omega arith)
+list_kept ps (Some os) e =
     let b = both_right _ _ e in
     record { run = refl; settable = both_left _ _ e; distinct = both_left _ _ b; once = both_right _ _ b }
 
 list_keeps : (ps : List Placement) (x : Option (List Object)) → ListKept ps x → parsed_objects_valid_and_placed_once ps 1 x
     ≡ true
-list_keeps ps none k = k.run
-list_keeps ps (some os) k = both_yes _ _ k.settable (both_yes _ _ k.distinct k.once)
+list_keeps ps None k = k.run
+list_keeps ps (Some os) k = both_yes _ _ k.settable (both_yes _ _ k.distinct k.once)
 
 -- ---- the entries
 

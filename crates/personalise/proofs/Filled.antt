@@ -1,57 +1,55 @@
 -- One iteration of writing a content, and of writing the records: what is written, and what is left after it.
 -- Assumes nothing.
 use mathlib.Core.Path.{◌≡◌, ap, ◌∙◌}
-use mathlib.Core.List.{List, [], ◌++◌}
+use mathlib.Core.List.{List, [], ◌∷◌, ◌++◌}
+use mathlib.Core.Bool.{true}
 use Prim.Native.Nat.{ℕ, suc, ◌+◌, ◌-◌, ◌<◌, ◌≤◌}
 use native.Mathlib.Numerals.{add-one}
 use native.Mathlib.Omega.{arith}
 use lib.ListN.{length, length-append}
-use Rattle.tlv.specs.declared.TlvHeader.{TlvHeader}
-use Rattle.tlv.specs.declared.ObjectFront.TheVariants as front
-use Rattle.tlv.specs.Primitives.{Object, primitive_at_front}
-use Rattle.tlv.proofs.Primitives.{first_of, rest_of}
+use Rattle.tlv.specs.Primitives.{Object}
 use Rattle.personalise.specs.declared.Placement.{Placement}
 use Rattle.personalise.specs.Placements.{objects_in_record_from}
-use Rattle.personalise.specs.Objects.{tag_record_template, parsed_objects_or_empty}
+use Rattle.personalise.specs.Objects.{tag_record_template, tag_and_value_allowed_in_record}
 use Rattle.personalise.specs.Records.{encoded_objects, record_content, card_record_bytes, card_records_from}
 use Rattle.personalise.specs.Records.{concatenated_records, most_record_content_bytes}
-use Rattle.personalise.specs.Inner.{AreObjectsAllowedInRecord, bytes_written_over, WritesBytesAt}
+use Rattle.personalise.specs.Inner.{bytes_written_over, WritesBytesAt}
 use Rattle.personalise.specs.Inner.{object_bytes_if_placed_in_record, concatenated_first_records}
 use Rattle.personalise.proofs.Known.{known, known_tag}
-use Rattle.personalise.proofs.Listed.{first_settable, bytes_on, object_length}
+use Rattle.personalise.proofs.Listed.{content_bytes, object_length}
 use Rattle.personalise.proofs.Forms.{tag_one, length_most}
 use Rattle.personalise.proofs.Over.{puts_length, puts_next}
 
--- the content of the objects in s, numbered from j on
-abbrev pub content : List Placement → ℕ → ℕ → List ℕ → List ℕ
-content ps k j s = encoded_objects (objects_in_record_from ps k j (parsed_objects_or_empty s))
+-- the content of some objects, numbered from j on
+abbrev pub content : List Placement → ℕ → ℕ → List Object → List ℕ
+content ps k j os = encoded_objects (objects_in_record_from ps k j os)
 
-module _ (s : List ℕ) (n : length s ≡ 0 → ⊥) (h : TlvHeader) (e : primitive_at_front s ≡ front.Object h)
-    (u : AreObjectsAllowedInRecord s) (ps : List Placement) (k j : ℕ) where
+module _ (o : Object) (os : List Object) (ps : List Placement) (k j : ℕ) where
   -- a tag of at most three bytes, and a length below 256
-  pub first_small : (h.tag < 0x1000000) × (length (first_of s h).value < 0x100)
-  first_small =
-      let o = known (first_of s h) (first_settable s n h e u) in
-      (known_tag (first_of s h) o, omega (arith, o.short))
+  pub first_small : tag_and_value_allowed_in_record o ≡ true → (o.tag < 0x1000000) × (length o.value < 0x100)
+  first_small a = let f = known o a in (known_tag o f, omega (arith, f.short))
 
   abbrev first : List ℕ
-  first = object_bytes_if_placed_in_record ps k j h.tag (first_of s h).value
+  first = object_bytes_if_placed_in_record ps k j o.tag o.value
 
   abbrev left : List ℕ
-  left = content ps k (j + 1) (rest_of s h)
+  left = content ps k (j + 1) os
 
-  sizes : length (content ps k j s) ≡ length first + length left
-  sizes = ap length (bytes_on s n h e u ps k j) ∙ length-append first left
+  joins : content ps k j (o ∷ os) ≡ first ++ left
+  joins = rw add-one (content_bytes ps k j o os)
 
-  module _ (out : List ℕ) (to : ℕ) (room : to + length (content ps k j s) ≤ length out) where
+  sizes : length (content ps k j (o ∷ os)) ≡ length first + length left
+  sizes = ap length joins ∙ length-append first left
+
+  module _ (out : List ℕ) (to : ℕ) (room : to + length (content ps k j (o ∷ os)) ≤ length out) where
     pub first_room : to + length first ≤ length out
     first_room = omega (arith, sizes)
 
     module _ {to' : ℕ} {out' : List ℕ} (p : WritesBytesAt to' out' out to first) where
-      pub left_over : bytes_written_over out to (content ps k j s) ≡ bytes_written_over out' to' left
-      left_over = ap (bytes_written_over out to) (bytes_on s n h e u ps k j) ∙ puts_next out to first first_room p left
+      pub left_over : bytes_written_over out to (content ps k j (o ∷ os)) ≡ bytes_written_over out' to' left
+      left_over = ap (bytes_written_over out to) joins ∙ puts_next out to first first_room p left
 
-      pub left_next : to + length (content ps k j s) ≡ to' + length left
+      pub left_next : to + length (content ps k j (o ∷ os)) ≡ to' + length left
       left_next = omega (arith, sizes, p.next)
 
       pub left_length : length out' ≡ length out

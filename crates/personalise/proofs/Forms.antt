@@ -1,10 +1,12 @@
 -- The bytes of a tag and of a length, by how many they are.
 -- Assumes nothing.
-use mathlib.Core.Path.{◌≡◌, ◌∙◌}
+use mathlib.Core.Path.{◌≡◌, refl, ap, ◌∙◌}
+use mathlib.Core.Logic.{inl, inr}
+use Rattle.basics.proofs.Order.{le-or-gt}
 use mathlib.Core.List.{List, [], ◌∷◌}
-use Prim.Native.Nat.{ℕ, ◌/◌, ◌%◌, ◌<◌, ◌≤◌}
+use Prim.Native.Nat.{ℕ, ◌-◌, ◌/◌, ◌%◌, ◌<◌, ◌≤◌}
 use native.Mathlib.Omega.{arith}
-use lib.ListN.{length}
+use lib.ListN.{length, take, drop}
 use borrow.Author.Tests.{lt-ltb, le-ltb, ltb-false}
 use Rattle.basics.proofs.Laws.{if_yes, if_no, if_ind}
 use Rattle.tlv.specs.Encoding.{tag_bytes, length_bytes}
@@ -28,6 +30,22 @@ tag_two t l h = if_no _ _ (le-ltb t 0x100 l) ∙ if_yes _ _ (lt-ltb t 0x10000 h)
 pub tag_three : (t : ℕ) → 0x10000 ≤ t → tag_bytes t ≡ t / 0x10000 ∷ t / 0x100 % 0x100 ∷ t % 0x100 ∷ []
 unfolding tag_bytes
 tag_three t l = if_no _ _ (le-ltb t 0x100 (omega arith)) ∙ if_no _ _ (le-ltb t 0x10000 l)
+
+-- the last bytes of a tag as four, as many as it has
+pub tag_last : (t n : ℕ) (s : List ℕ) → t < 0x1000000 → n ≡ length (tag_bytes t)
+    → s ≡ t / 16777216 % 256 ∷ t / 65536 % 256 ∷ t / 256 % 256 ∷ t % 256 ∷ []
+    → take (4 - (4 - n)) (drop (4 - n) s) ≡ tag_bytes t
+tag_last t n s h e p = elim (le-or-gt 0x100 t) [
+  | inl l ↦ elim (le-or-gt 0x10000 t) [
+    | inl m ↦ (let b = tag_three t m in let q : n ≡ 3 = e ∙ ap length b in
+        let x : t / 65536 % 256 ≡ t / 65536 = omega arith in
+        let y : t / 256 % 256 ≡ t / 0x100 % 0x100 = refl in rw (p, q, b, x))
+    | inr m ↦ (let b = tag_two t l m in let q : n ≡ 2 = e ∙ ap length b in
+        let x : t / 256 % 256 ≡ t / 256 = omega arith in rw (p, q, b, x))
+  ]
+  | inr l ↦ (let b = tag_one t l in let q : n ≡ 1 = e ∙ ap length b in
+      let x : t % 256 ≡ t = omega arith in rw (p, q, b, x))
+]
 
 -- at most two bytes for a length below 256
 pub length_most : (n : ℕ) → n < 0x100 → length (length_bytes n) ≤ 2

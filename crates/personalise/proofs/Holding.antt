@@ -1,10 +1,10 @@
 -- What holds where all is written: the AFL is accepted, the records are in their buffer and fit, and they read back to
 -- the list's store.
 -- Assumes nothing.
+use Rattle.std.specs.Prelude.{None, Some, Ok}
 use mathlib.Core.Path.{◌≡◌, refl, sym, ap, subst, ◌∙◌}
 use mathlib.Core.Bool.{Bool, true}
 use mathlib.Core.List.{List, [], ◌∷◌}
-use mathlib.Core.Option.{some}
 use Prim.Native.Nat.{ℕ, zero, suc, ◌<◌, ◌≤◌}
 use native.Mathlib.Omega.{arith}
 use lib.ListN.{length, get_or, take, length-replicate}
@@ -20,15 +20,12 @@ use Rattle.afl.specs.Records.{afl_entries, afl_records, afl_record_count, accept
 use Rattle.afl.proofs.Records.{records_length}
 use Rattle.afl.proofs.Laws.{kept_keeps}
 use Rattle.personalise.specs.declared.Placement.{Placement}
-use Rattle.personalise.specs.declared.FirstBadItemNumber.TheVariants.{Nothing}
-use Rattle.personalise.specs.declared.PersonaliseResult.{PersonaliseResult}
-use Rattle.personalise.specs.declared.PersonaliseResult.TheVariants.{Written}
 use Rattle.personalise.specs.declared.WrittenSizes.{WrittenSizes}
 use Rattle.personalise.specs.Objects.{tag_and_value_allowed_in_record, tags_distinct}
 use Rattle.personalise.specs.Entries.{valid_entry_sfi1_to10_no_offline_auth, first_bad_entry}
 use Rattle.personalise.specs.Records.{card_records_from}
 use Rattle.personalise.specs.Outcome.{CardPlan, objects_of_plan, placements_of_plan, card_records, all_records_bytes}
-use Rattle.personalise.specs.Outcome.{personalise_result, records_buffer_after, afl_buffer_after}
+use Rattle.personalise.specs.Outcome.{PersonaliseResult, personalise_result, records_buffer_after, afl_buffer_after}
 use Rattle.personalise.specs.Word.{is_written}
 use Rattle.personalise.specs.Read.{put_objects, empty_store_bytes, store_of_objects, read_all_records}
 use Rattle.personalise.specs.Read.{WrittenCardReadsBackAsObjects, CardReadsBackAsObjectsIfWritten}
@@ -65,7 +62,7 @@ unfolding every
 all_keep [] k = refl
 all_keep (e ∷ es) k = both_yes _ _ (keeps_also e (both_left _ _ k)) (all_keep es (both_right _ _ k))
 
-accepted : (es : List ℕ) → first_bad_entry es ≡ Nothing → 1 ≤ afl_record_count es → accepts_afl es ≡ true
+accepted : (es : List ℕ) → first_bad_entry es ≡ None → 1 ≤ afl_record_count es → accepts_afl es ≡ true
 unfolding accepts_afl
 accepted es q s =
     let f = entries_follow es q in
@@ -91,7 +88,7 @@ module _ (p : CardPlan) (r l : List ℕ) (q : Passes p r l) (k : PersonaliseRule
   ps = placements_of_plan p
 
   -- they read back to the store of the list
-  read_back : read_all_records empty_store_bytes (afl_records es) (card_records p) ≡ some (store_of_objects os)
+  read_back : read_all_records empty_store_bytes (afl_records es) (card_records p) ≡ Some (store_of_objects os)
   read_back =
       let n = length (afl_records es) in
       let e : n ≡ afl_record_count es = records_length es in
@@ -103,10 +100,10 @@ module _ (p : CardPlan) (r l : List ℕ) (q : Passes p r l) (k : PersonaliseRule
       ap (λ (m : ℕ). read_all_records empty_store_bytes (afl_records es) (card_records_from os ps 1 m)) (sym e)
       ∙ read_all os ps (afl_records es) 1 empty_store_bytes (files_of (afl_entries es) k.files)
       (λ i g h. k.contents i g (omega arith)) b d z (empty_free (ordered ps 1 n 1 os))
-      ∙ ap (λ (m : ℕ). some (put_objects empty_store_bytes (ordered ps 1 m 1 os))) e
-      ∙ ap some (perm_put empty_store_bytes a k.settable k.distinct z)
+      ∙ ap (λ (m : ℕ). Some (put_objects empty_store_bytes (ordered ps 1 m 1 os))) e
+      ∙ ap Some (perm_put empty_store_bytes a k.settable k.distinct z)
 
-  written_holds : (z : WrittenSizes) → Written z ≡ result_all_written p → (x y : List ℕ) → x ≡ records_buffer_after true p r
+  written_holds : (z : WrittenSizes) → Ok z ≡ result_all_written p → (x y : List ℕ) → x ≡ records_buffer_after true p r
       → y ≡ afl_buffer_after true es l → WrittenCardReadsBackAsObjects p z x y
   written_holds z d x y e f =
       let n : z.records ≡ length (all_records_bytes p) = cc in

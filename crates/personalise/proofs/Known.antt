@@ -1,5 +1,6 @@
 -- An object that the card may set: its row, and what the row states of its tag and its length.
 -- Assumes nothing.
+use Rattle.std.specs.Prelude.{Option, Some, None}
 use mathlib.Core.Path.{◌≡◌, refl, sym, ap, ◌∙◌}
 use mathlib.Core.Bool.{true, false, not}
 use Prim.Native.Nat.{ℕ, ◌<◌, ◌≤◌}
@@ -12,8 +13,6 @@ use Rattle.basics.proofs.Table.{at}
 use Rattle.tlv.specs.Tag.{tag_first_byte, is_template}
 use Rattle.tlv.specs.Primitives.{Object}
 use Rattle.tlv.specs.Encoding.{well_formed_tag}
-use Rattle.dictionary.specs.declared.RowFound.{RowFound}
-use Rattle.dictionary.specs.declared.RowFound.TheVariants.{At, Unknown}
 use Rattle.dictionary.specs.Rows.{dictionary_rows, blank_row, row_at, find_row, row_count, in_record_response}
 use Rattle.dictionary.proofs.Rule.{rows_proper, proper_row}
 use Rattle.dictionary.proofs.Find.{found}
@@ -25,7 +24,7 @@ use Rattle.personalise.specs.Objects.{tag_record_template, row_allows_value_in_r
 
 pub record Known (o : Object) : Type 0 where
   pub place : ℕ
-  pub found : find_row dictionary_rows o.tag ≡ At place
+  pub found : find_row dictionary_rows o.tag ≡ Some place
   pub comes : row_allows_value_from_card in_record_response (row_at place) tag_record_template o.value ≡ true
   pub row : place < row_count
   pub tag : well_formed_tag o.tag ≡ true
@@ -42,7 +41,7 @@ pub known : (o : Object) → tag_and_value_allowed_in_record o ≡ true → Know
 unfolding tag_and_value_allowed_in_record
 known o e = go (find_row dictionary_rows o.tag) refl e
   where
-    at_row : (k : ℕ) → find_row dictionary_rows o.tag ≡ At k → row_allows_value_from_card in_record_response (row_at k)
+    at_row : (k : ℕ) → find_row dictionary_rows o.tag ≡ Some k → row_allows_value_from_card in_record_response (row_at k)
         tag_record_template o.value ≡ true → Known o
     at_row k q c =
         let f = found dictionary_rows o.tag k q in
@@ -61,9 +60,9 @@ known o e = go (find_row dictionary_rows o.tag) refl e
           short = omega (arith, (row_inside k r).1);
         }
 
-    go : (x : RowFound) → find_row dictionary_rows o.tag ≡ x → row_allows_value_in_record x o.value ≡ true → Known o
-    go Unknown q c = let z : ◌≡◌ {A = ℕ} 0 1 = cc in absurd (omega arith)
-    go (At k) q c = at_row k q c
+    go : (x : Option ℕ) → find_row dictionary_rows o.tag ≡ x → row_allows_value_in_record x o.value ≡ true → Known o
+    go None q c = let z : ◌≡◌ {A = ℕ} 0 1 = cc in absurd (omega arith)
+    go (Some k) q c = at_row k q c
 
 pub known_tag : (o : Object) → Known o → o.tag < 0x1000000
 unfolding well_formed_tag

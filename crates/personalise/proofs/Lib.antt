@@ -3,6 +3,7 @@ pub mod Examples
 pub mod Placed
 pub mod Proposed
 pub mod Listed
+pub mod Walked
 pub mod Forms
 pub mod Least
 pub mod Over

@@ -1,13 +1,13 @@
 -- Bytes written into a buffer: writing one after another is writing at once.
 -- Assumes nothing.
 use mathlib.Core.Path.{◌≡◌, sym, ap, ◌∙◌}
-use mathlib.Core.List.{List, [], ◌∷◌, ◌++◌, append-nil, append_assoc}
-use Prim.Native.Nat.{ℕ, suc, ◌+◌, ◌-◌, ◌≤◌}
+use mathlib.Core.List.{List, [], ◌∷◌, ◌++◌, append_assoc}
+use Prim.Native.Nat.{ℕ, ◌+◌, ◌-◌, ◌≤◌}
 use native.Mathlib.Nat.{zero-add, add-zero, add_assoc}
 use native.Mathlib.Numerals.{add-one}
 use native.Mathlib.Omega.{arith}
-use lib.ListN.{length, take, drop, set, length-append, length-take, length-drop, take-append-drop, drop_of_length-le}
-use lib.Seq.{take_at, drop_at, drop-drop, take-length, sets, sets-eq}
+use lib.ListN.{length, take, drop, set, length-append, length-take, length-drop, take-append-drop}
+use lib.Seq.{take_at, drop_at, drop-drop, sets, sets-eq}
 use Rattle.basics.specs.Front.{written_over_front}
 use Rattle.personalise.specs.Inner.{bytes_written_over, WritesBytesAt}
 
@@ -79,13 +79,11 @@ module _ (s : List ℕ) (at : ℕ) (v : List ℕ) (h : at + length v ≤ length 
 
 -- a part of the buffer that was borrowed, and comes back with v copied into it
 pub over_part : (s : List ℕ) (at : ℕ) (v ys : List ℕ) → at + length v ≤ length s
-    → ys ≡ take (length v) v ++ drop (length v) (take (at + length v - at) (drop at s))
+    → ys ≡ v
     → take at s ++ (ys ++ drop (at + length v - at) (drop at s)) ≡ bytes_written_over s at v
 unfolding bytes_written_over
-over_part s at v ys h p =
+over_part s at v ys h q =
     let e : at + length v - at ≡ length v = omega arith in
-    let l : length (take (length v) (drop at s)) ≤ length v = simp length-take (omega arith) in
-    let q : ys ≡ v = p ∙ rw (e, take-length v, drop_of_length-le _ l) (append-nil v) in
     rw (q, e, drop-drop (length v) at s)
 
 -- stores one by one, of bytes that are v
@@ -101,13 +99,6 @@ sets_put s at w h e = record {
 pub two_put : (s : List ℕ) (at x y : ℕ) {v : List ℕ} → at + 2 ≤ length s → v ≡ x ∷ y ∷ []
     → WritesBytesAt (at + 2) (set (set s at x) (at + 1) y) s at v
 two_put s at x y h e = let n = add-one at in rw n (sets_put s at (x ∷ y ∷ []) h e)
-
-pub three_put : (s : List ℕ) (at x y z : ℕ) {v : List ℕ} → at + 3 ≤ length s → v ≡ x ∷ y ∷ z ∷ []
-    → WritesBytesAt (at + 3) (set (set (set s at x) (at + 1) y) (at + 2) z) s at v
-three_put s at x y z h e =
-    let n = add-one at in
-    let m : at + 2 ≡ suc (suc at) = omega arith in
-    rw (n, m) (sets_put s at (x ∷ y ∷ z ∷ []) h e)
 
 -- ---- tag, length and value, concatenated
 

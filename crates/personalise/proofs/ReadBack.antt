@@ -2,10 +2,10 @@
 -- objects as leaves, and each of them may come and finds its row free. So the records one after the other give the
 -- store of the list.
 -- Assumes nothing.
+use Rattle.std.specs.Prelude.{Some, None}
 use mathlib.Core.Path.{◌≡◌, refl, sym, ap, ◌∙◌}
 use mathlib.Core.Bool.{Bool, true, not}
 use mathlib.Core.List.{List, [], ◌∷◌, ◌++◌, append-nil}
-use mathlib.Core.Option.{some, none}
 use Prim.Native.Nat.{ℕ, zero, suc, ◌+◌, ◌-◌, ◌<◌, ◌≤◌}
 use native.Mathlib.Omega.{arith}
 use lib.Dec.{eqb, leb}
@@ -20,7 +20,6 @@ use Rattle.tlv.specs.Object.{tlv_header, header_of, header_value}
 use Rattle.tlv.specs.Tree.{Forest, end, leaf, object_count, parse_tree}
 use Rattle.tlv.specs.Primitives.{Object}
 use Rattle.tlv.specs.Encoding.{tag_bytes, length_bytes, object_bytes, encode_tree, well_formed_tag, EncodableWithinLevels}
-use Rattle.tlv.specs.declared.ObjectFront.TheVariants as front
 use Rattle.tlv.proofs.Encoding.{header_encoded, parse_encode}
 use Rattle.dictionary.specs.Rows.{dictionary_rows, find_row, store_size, in_record_response}
 use Rattle.dictionary.specs.Named.{row_number_of_tag_or_zero}
@@ -117,7 +116,7 @@ module _ (os : List Object) (e : every tag_and_value_allowed_in_record os ≡ tr
   abbrev from : ℕ
   from = length (tag_bytes tag_record_template) + length (length_bytes (length inner))
 
-  head : header_of whole ≡ front.Object (tlv_header tag_record_template from (length inner))
+  head : header_of whole ≡ Some (tlv_header tag_record_template from (length inner))
   head = ap header_of (sym (append-nil whole)) ∙ header_encoded tag_record_template inner [] template_tag
 
   value : header_value whole (tlv_header tag_record_template from (length inner)) ≡ inner
@@ -126,7 +125,7 @@ module _ (os : List Object) (e : every tag_and_value_allowed_in_record os ≡ tr
       (length (length_bytes (length inner)))
       ∙ drop-append_seam (length_bytes (length inner)) inner) ∙ take-length inner
 
-  body : parse_response_body whole ≡ some (template tag_record_template (leaves os))
+  body : parse_response_body whole ≡ Some (template tag_record_template (leaves os))
   unfolding parse_response_body
   body =
       ap (body_of_one_object whole) head
@@ -154,7 +153,7 @@ module _ (os : List Object) (e : every tag_and_value_allowed_in_record os ≡ tr
     read_body_lem =
         ap (read_parsed_body awaited b) body
         ∙ ap (read_body_items awaited b (1 + object_count (leaves os)))
-        (if_yes (some (primitive_items tag_record_template (leaves os))) none refl)
+        (if_yes (Some (primitive_items tag_record_template (leaves os))) None refl)
         ∙ ap (reading_if_all_allowed b (1 + object_count (leaves os))) (take_leaves b os e d l f) ∙ if_yes _ _ refl
 
     abbrev answer : List ℕ
@@ -241,7 +240,7 @@ pub read_all : (os : List Object) (ps : List Placement) (rs : List CardRecord) (
     → every tag_and_value_allowed_in_record (ordered ps k (length rs) 1 os) ≡ true
     → tags_distinct (ordered ps k (length rs) 1 os) ≡ true
     → length b ≡ store_size → FreeIn b (ordered ps k (length rs) 1 os)
-    → read_all_records b rs (records os ps k (length rs)) ≡ some (put_objects b (ordered ps k (length rs) 1 os))
+    → read_all_records b rs (records os ps k (length rs)) ≡ Some (put_objects b (ordered ps k (length rs) 1 os))
 unfolding read_all_records records ordered every put_objects
 read_all os ps [] k b g h e d l f = refl
 read_all os ps (r ∷ rs) k b g h e d l f =
@@ -254,4 +253,4 @@ read_all os ps (r ∷ rs) k b g h e d l f =
     ∙ if_yes _ _ refl
     ∙ read_all os ps rs (suc k) (put_objects b x) (both_right _ _ g) (λ i m n. h i (omega arith) (omega arith))
     (every_second tag_and_value_allowed_in_record x y e) (distinct_second x y d) z.0 z.1
-    ∙ ap some (sym (put_join b x y))
+    ∙ ap Some (sym (put_join b x y))

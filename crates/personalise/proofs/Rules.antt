@@ -1,6 +1,7 @@
 -- The entries, clause by clause: no entry is bad exactly where each satisfies the rules by itself, no two name a record
 -- both, and there are few enough of them. By induction over the entries after those that were passed.
 -- Assumes nothing.
+use Rattle.std.specs.Prelude.{Option, Some, None}
 use mathlib.Core.Path.{◌≡◌, refl, sym, ap, ap₂, ◌∙◌}
 use mathlib.Core.Bool.{Bool, true, false, not}
 use mathlib.Core.Logic.{inl, inr}
@@ -17,8 +18,6 @@ use Rattle.afl.specs.declared.AflEntry.{AflEntry}
 use Rattle.afl.specs.Entry.{entry_record_count}
 use Rattle.afl.specs.Records.{afl_entries, afl_length_is_multiple_of4, sum_over_entries, afl_record_count}
 use Rattle.afl.proofs.Records.{whole_length}
-use Rattle.personalise.specs.declared.FirstBadItemNumber.{FirstBadItemNumber}
-use Rattle.personalise.specs.declared.FirstBadItemNumber.TheVariants.{At, Nothing}
 use Rattle.personalise.specs.Entries.{most_afl_entries, most_card_records, entries_overlap, overlaps_none_before}
 use Rattle.personalise.specs.Entries.{valid_entry_sfi1_to10_no_offline_auth, valid_entry_after_within_count_limits}
 use Rattle.personalise.specs.Entries.{first_bad_or_truncated_entry_after, first_bad_entry}
@@ -121,12 +120,12 @@ unfolding valid_entry_after_within_count_limits
 kept_behind before e k = both_yes _ _ (lt-ltb _ _ k.few)
     (both_yes _ _ k.alone (both_yes _ _ k.apart (le-leb _ _ k.room)))
 
-not_nothing : {A : Type 0} {x : FirstBadItemNumber} {i : ℕ} → x ≡ At i → x ≡ Nothing → A
+not_nothing : {A : Type 0} {x : Option ℕ} {i : ℕ} → x ≡ Some i → x ≡ None → A
 not_nothing p q = let z : ◌≡◌ {A = ℕ} 0 1 = cc in absurd (omega arith)
 
 pub follows : (es before : List AflEntry) (w : Bool) → length before ≤ most_afl_entries
     → sum_over_entries entry_record_count before ≤ most_card_records
-    → first_bad_or_truncated_entry_after before es w ≡ Nothing → Follows before es w
+    → first_bad_or_truncated_entry_after before es w ≡ None → Follows before es w
 unfolding first_bad_or_truncated_entry_after every all_apart sum_over_entries
 follows [] before w l r q = elim (bool_cases (both w (ltb 0 (length before)))) [
   | inl y ↦ (let n : 0 < length before = ltb-true _ _ (both_right _ _ y) in
@@ -140,7 +139,7 @@ follows [] before w l r q = elim (bool_cases (both w (ltb 0 (length before)))) [
             refl;
         room = omega arith;
       })
-  | inr n ↦ not_nothing (if_no Nothing (At (length before + 1)) n) q
+  | inr n ↦ not_nothing (if_no None (Some (length before + 1)) n) q
 ]
 follows (e ∷ es) before w l r q = elim (bool_cases (valid_entry_after_within_count_limits before e)) [
   | inl y ↦ (
@@ -161,11 +160,11 @@ follows (e ∷ es) before w l r q = elim (bool_cases (valid_entry_after_within_c
         room = omega (arith, t.room);
       }
       )
-  | inr n ↦ not_nothing (if_no _ (At (length before + 1)) n) q
+  | inr n ↦ not_nothing (if_no _ (Some (length before + 1)) n) q
 ]
 
 pub follows_back : (es before : List AflEntry) (w : Bool) → Follows before es w
-    → first_bad_or_truncated_entry_after before es w ≡ Nothing
+    → first_bad_or_truncated_entry_after before es w ≡ None
 unfolding first_bad_or_truncated_entry_after every all_apart sum_over_entries
 follows_back [] before w f = if_yes _ _ (both_yes _ _ f.whole (lt-ltb 0 (length before) (omega (arith, f.some))))
 follows_back (e ∷ es) before w f =
@@ -192,23 +191,23 @@ follows_back (e ∷ es) before w f =
 
 -- the number of a bad entry is at most 63
 pub number_most : (es before : List AflEntry) (w : Bool) (i : ℕ) → length before ≤ most_afl_entries
-    → first_bad_or_truncated_entry_after before es w ≡ At i → i ≤ 63
+    → first_bad_or_truncated_entry_after before es w ≡ Some i → i ≤ 63
 unfolding first_bad_or_truncated_entry_after
 number_most [] before w i l q = elim (bool_cases (both w (ltb 0 (length before)))) [
-  | inl y ↦ not_nothing q (if_yes Nothing (At (length before + 1)) y)
-  | inr n ↦ (let e : At (length before + 1) ≡ At i = sym (if_no Nothing (At (length before + 1)) n) ∙ q in
+  | inl y ↦ not_nothing q (if_yes None (Some (length before + 1)) y)
+  | inr n ↦ (let e : Some (length before + 1) ≡ Some i = sym (if_no None (Some (length before + 1)) n) ∙ q in
       let z : length before + 1 ≡ i = cc in omega arith)
 ]
 number_most (e ∷ es) before w i l q = elim (bool_cases (valid_entry_after_within_count_limits before e)) [
   | inl y ↦ (let k = keeps_kept before e y in let n = length_more before e in
       number_most es (before ++ (e ∷ [])) w i (omega (arith, k.few)) (sym (if_yes _ _ y) ∙ q))
-  | inr n ↦ (let e : At (length before + 1) ≡ At i = sym (if_no _ (At (length before + 1)) n) ∙ q in
+  | inr n ↦ (let e : Some (length before + 1) ≡ Some i = sym (if_no _ (Some (length before + 1)) n) ∙ q in
       let z : length before + 1 ≡ i = cc in omega arith)
 ]
 
 -- ---- a whole AFL
 
-module _ (es : List ℕ) (q : first_bad_entry es ≡ Nothing) where
+module _ (es : List ℕ) (q : first_bad_entry es ≡ None) where
   pub entries_follow : Follows [] (afl_entries es) (afl_length_is_multiple_of4 es)
   unfolding first_bad_entry sum_over_entries
   entries_follow = follows (afl_entries es) [] (afl_length_is_multiple_of4 es) (omega arith) (omega arith) q
@@ -218,12 +217,12 @@ module _ (es : List ℕ) (q : first_bad_entry es ≡ Nothing) where
   afl_most =
       let f = entries_follow in
       let w = whole_length es f.whole in
-      omega (arith, entries_count es w, f.few)
+      omega (arith, entries_count es, w, f.few)
 
   pub total_most : afl_record_count es ≤ most_card_records
   unfolding sum_over_entries
   total_most = omega (arith, entries_follow.room)
 
-pub entry_number : (es : List ℕ) (i : ℕ) → first_bad_entry es ≡ At i → i ≤ 63
+pub entry_number : (es : List ℕ) (i : ℕ) → first_bad_entry es ≡ Some i → i ≤ 63
 unfolding first_bad_entry
 entry_number es i q = number_most (afl_entries es) [] (afl_length_is_multiple_of4 es) i (omega arith) q

@@ -1,15 +1,13 @@
 -- The AFL as it is proposed (document 02, Item 4; document 01, "Commands and steps", Locator): what an entry must
 -- satisfy after the entries before it, and the number of the first that does not.
 -- Assumes nothing.
-use Rattle.std.specs.Prelude.{Bool, not, List, [], ◌∷◌, ◌++◌, ◌+◌, ◌%◌, length}
+use Rattle.std.specs.Prelude.{Bool, not, List, [], ◌∷◌, ◌++◌, ◌+◌, ◌%◌, length, Option, Some, None, ℕ}
 use Rattle.basics.specs.Types.{AflBytes, Count}
 use Rattle.basics.specs.Choice.{when◌then◌else◌, ◌and◌, ◌≤?◌, ◌<?◌, ◌=?◌, every}
 use Rattle.basics.specs.Number.{between}
 use Rattle.afl.specs.declared.AflEntry.{AflEntry}
 use Rattle.afl.specs.Entry.{entry_sfi, entry_record_count}
 use Rattle.afl.specs.Records.{afl_entries, afl_length_is_multiple_of4, sum_over_entries}
-use Rattle.personalise.specs.declared.FirstBadItemNumber.{FirstBadItemNumber}
-use Rattle.personalise.specs.declared.FirstBadItemNumber.TheVariants.{At, Nothing}
 
 -- the most entries, and the most records
 abbrev pub most_afl_entries : Count
@@ -49,14 +47,14 @@ valid_entry_after_within_count_limits before e =
 
 -- the first bad one of some entries, after those before; at their end one that is truncated is bad (`whole` says that
 -- there is none), and so is the first where there is no entry
-unfoldable pub first_bad_or_truncated_entry_after : List AflEntry → List AflEntry → Bool → FirstBadItemNumber
-first_bad_or_truncated_entry_after before [] whole = when whole and 0 <? length before then Nothing else At (length before + 1)
+unfoldable pub first_bad_or_truncated_entry_after : List AflEntry → List AflEntry → Bool → Option ℕ
+first_bad_or_truncated_entry_after before [] whole = when whole and 0 <? length before then None else Some (length before + 1)
 first_bad_or_truncated_entry_after before (e ∷ es) whole =
     when valid_entry_after_within_count_limits before e then first_bad_or_truncated_entry_after (before ++ (e ∷ [])) es whole
-    else At (length before + 1)
+    else Some (length before + 1)
 
 -- the first bad entry of an AFL
-unfoldable pub first_bad_entry : AflBytes → FirstBadItemNumber
+unfoldable pub first_bad_entry : AflBytes → Option ℕ
 first_bad_entry s = first_bad_or_truncated_entry_after [] (afl_entries s) (afl_length_is_multiple_of4 s)
 
 -- ---- what holds of it, proved in proofs/ (Rules, Twice) for all entries

@@ -2,36 +2,30 @@
 -- written from a place on, and the answer from each test on.
 -- This file states no rule of document 02: a reader of the rules can skip it. proofs/ ties it to the rules.
 -- Assumes nothing.
+use Rattle.std.specs.Prelude.{Option, Some, None, Ok, Err}
 use Rattle.std.specs.Prelude.{◌≡◌, Bool, true, false, not, List, [], ◌++◌, ℕ, ◌+◌, ◌≤◌, min, length, take, drop}
-use Rattle.std.proofs.Math.Option.{Option, some, none}
 use Rattle.basics.specs.Types.{Bytes, Count, Length, Offset, RecordNumber, Tag, Value}
 use Rattle.basics.specs.Choice.{when◌then◌else◌, ◌and◌, every}
 use Rattle.tlv.specs.Primitives.{Object, primitive_objects, are_primitive_objects_parsed}
 use Rattle.tlv.specs.Encoding.{tag_bytes, length_bytes, object_bytes}
 use Rattle.afl.specs.Records.{afl_record_count}
 use Rattle.personalise.specs.declared.Placement.{Placement}
-use Rattle.personalise.specs.declared.PersonaliseResult.{PersonaliseResult}
-use Rattle.personalise.specs.declared.PersonaliseResult.TheVariants.{Written, BadList, BadEntry, BadRecord}
-use Rattle.personalise.specs.Objects.{parsed_objects_or_empty, tag_and_value_allowed_in_record, lacks_tag, tags_distinct}
+use Rattle.personalise.specs.declared.PersonaliseError.TheVariants.{BadList, BadEntry, BadRecord}
+use Rattle.personalise.specs.Objects.{parsed_objects_or_empty, tag_and_value_allowed_in_record, tags_distinct}
 use Rattle.personalise.specs.Placements.{ObjectNumber, placements_in, any_placement, puts_object_into, each_placed_once}
 use Rattle.personalise.specs.Entries.{first_bad_entry}
 use Rattle.personalise.specs.Records.{record_content, card_records_from, concatenated_records, most_record_content_bytes}
 use Rattle.personalise.specs.Records.{is_out_of_range_placement_into, first_bad_record}
-use Rattle.personalise.specs.Outcome.{least_records_buffer_size, least_afl_buffer_size, CardPlan, objects_of_plan}
+use Rattle.personalise.specs.Outcome.{CardPlan, objects_of_plan}
 use Rattle.personalise.specs.Outcome.{placements_of_plan, all_records_bytes}
-use Rattle.personalise.specs.Outcome.{objects_valid_and_each_placed_once, refuse_fault_or}
+use Rattle.personalise.specs.Outcome.{PersonaliseResult, objects_valid_and_each_placed_once, refuse_fault_or}
 
 -- ---- runs
 
--- a run without a tag
-abbrev pub list_parsed_and_lacks_tag : Tag → Option (List Object) → Bool
-list_parsed_and_lacks_tag t none = false
-list_parsed_and_lacks_tag t (some os) = lacks_tag t os
-
 -- a run that satisfies the list's rules, its objects numbered from j on
 abbrev pub parsed_objects_valid_and_placed_once : List Placement → ObjectNumber → Option (List Object) → Bool
-parsed_objects_valid_and_placed_once ps j none = false
-parsed_objects_valid_and_placed_once ps j (some os) =
+parsed_objects_valid_and_placed_once ps j None = false
+parsed_objects_valid_and_placed_once ps j (Some os) =
     every tag_and_value_allowed_in_record os and tags_distinct os and each_placed_once ps j os
 
 -- bytes that are a run, all of its objects settable
@@ -88,15 +82,11 @@ concatenated_records_from_bytes objects placements n =
 abbrev pub RecordContentsWithin253Bytes : List Object → List Placement → Count → Type 0
 RecordContentsWithin253Bytes os ps n = (k : ℕ) → k ≤ n → length (record_content os ps k) ≤ most_record_content_bytes
 
--- both buffers are large enough
-abbrev pub RecordsAndAflBuffersLargeEnough : Bytes → Bytes → Type 0
-RecordsAndAflBuffersLargeEnough r l = (least_records_buffer_size ≤ length r) × (least_afl_buffer_size ≤ length l)
-
 -- ---- the answer from each test on
 
 -- all is written
 abbrev pub result_all_written : CardPlan → PersonaliseResult
-result_all_written p = Written (record { records = length (all_records_bytes p); afl = length p.entries })
+result_all_written p = Ok (record { records = length (all_records_bytes p); afl = length p.entries })
 
 -- after the entries
 abbrev pub result_from_record_checks : CardPlan → PersonaliseResult
@@ -110,4 +100,4 @@ result_from_entry_checks p = refuse_fault_or BadEntry (first_bad_entry p.entries
 
 -- after the buffers
 abbrev pub result_from_list_checks : CardPlan → PersonaliseResult
-result_from_list_checks p = when not (objects_valid_and_each_placed_once p) then BadList else result_from_entry_checks p
+result_from_list_checks p = when not (objects_valid_and_each_placed_once p) then Err BadList else result_from_entry_checks p

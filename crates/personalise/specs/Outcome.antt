@@ -1,18 +1,16 @@
 -- What a personalisation answers, and what it leaves in the caller's two buffers (document 02, Item 4): the records and
 -- the AFL, or the first refusal, which writes nothing.
 -- Assumes nothing.
-use Rattle.std.specs.Prelude.{Bool, not, List, ℕ, length}
+use Rattle.std.specs.Prelude.{Bool, not, List, ℕ, length, Option, Some, None, Result, Ok, Err}
 use Rattle.basics.specs.Types.{Bytes, AflBytes, Length}
 use Rattle.basics.specs.Choice.{when◌then◌else◌, ◌and◌, ◌<?◌, every}
 use Rattle.basics.specs.Front.{written_over_front}
 use Rattle.tlv.specs.Primitives.{Object, primitive_objects, are_primitive_objects_parsed}
 use Rattle.afl.specs.Records.{afl_record_count}
 use Rattle.personalise.specs.declared.Placement.{Placement}
-use Rattle.personalise.specs.declared.FirstBadItemNumber.{FirstBadItemNumber}
-use Rattle.personalise.specs.declared.FirstBadItemNumber.TheVariants.{At, Nothing}
-use Rattle.personalise.specs.declared.PersonaliseResult.{PersonaliseResult}
-use Rattle.personalise.specs.declared.PersonaliseResult.TheVariants.{Written, ShortRecords, ShortAfl}
-use Rattle.personalise.specs.declared.PersonaliseResult.TheVariants.{BadList, BadEntry, BadRecord}
+use Rattle.personalise.specs.declared.WrittenSizes.{WrittenSizes}
+use Rattle.personalise.specs.declared.PersonaliseError.{PersonaliseError}
+use Rattle.personalise.specs.declared.PersonaliseError.TheVariants.{ShortRecords, ShortAfl, BadList, BadEntry, BadRecord}
 use Rattle.personalise.specs.Objects.{parsed_objects_or_empty, tag_and_value_allowed_in_record, tags_distinct}
 use Rattle.personalise.specs.Placements.{placements_in, each_placed_once}
 use Rattle.personalise.specs.Entries.{first_bad_entry}
@@ -52,6 +50,10 @@ all_records_bytes p = concatenated_records (card_records p)
 
 -- ---- the answer
 
+-- how many bytes are written, or what is refused
+abbrev pub PersonaliseResult : Type 0
+PersonaliseResult = Result WrittenSizes PersonaliseError
+
 -- the list: whole primitive objects, each one that may be set, no tag twice, each in one placement
 unfoldable pub objects_valid_and_each_placed_once : CardPlan → Bool
 objects_valid_and_each_placed_once p =
@@ -61,20 +63,20 @@ objects_valid_and_each_placed_once p =
     and each_placed_once (placements_of_plan p) 1 (objects_of_plan p)
 
 -- what is bad is refused by its number; where nothing is, what follows
-abbrev pub refuse_fault_or : (ℕ → PersonaliseResult) → FirstBadItemNumber → PersonaliseResult → PersonaliseResult
-refuse_fault_or refusal (At i) next = refusal i
-refuse_fault_or refusal Nothing next = next
+abbrev pub refuse_fault_or : (ℕ → PersonaliseError) → Option ℕ → PersonaliseResult → PersonaliseResult
+refuse_fault_or refusal (Some i) next = Err (refusal i)
+refuse_fault_or refusal None next = next
 
 -- the answer, with the caller's buffers r for the records and l for the AFL: the first refusal, of the buffers, the
 -- list, the entries and the records in this order, or how many bytes of records and of the AFL are written
 unfoldable pub personalise_result : CardPlan → Bytes → Bytes → PersonaliseResult
 personalise_result p r l =
-    when length r <? least_records_buffer_size then ShortRecords
-    else when length l <? least_afl_buffer_size then ShortAfl
-    else when not (objects_valid_and_each_placed_once p) then BadList
+    when length r <? least_records_buffer_size then Err ShortRecords
+    else when length l <? least_afl_buffer_size then Err ShortAfl
+    else when not (objects_valid_and_each_placed_once p) then Err BadList
     else refuse_fault_or BadEntry (first_bad_entry p.entries)
     (refuse_fault_or BadRecord (first_bad_record (objects_of_plan p) (placements_of_plan p) (afl_record_count p.entries))
-    (Written (record { records = length (all_records_bytes p); afl = length p.entries })))
+    (Ok (record { records = length (all_records_bytes p); afl = length p.entries })))
 
 -- ---- the buffers
 

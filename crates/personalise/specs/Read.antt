@@ -1,8 +1,7 @@
 -- Reading what was written (document 02, Item 4): each record with status 90 00 as the answer to its file, in the AFL's
 -- order, from the empty store on; and the store of the list.
 -- Assumes nothing.
-use Rattle.std.specs.Prelude.{◌≡◌, true, List, [], ◌∷◌, ◌++◌, take, replicate}
-use Rattle.std.proofs.Math.Option.{Option, some, none}
+use Rattle.std.specs.Prelude.{◌≡◌, true, List, [], ◌∷◌, ◌++◌, take, replicate, Option, Some, None, Ok}
 use Rattle.basics.specs.Types.{Bytes, StoreBytes}
 use Rattle.basics.specs.Choice.{when◌then◌else◌, ◌=?◌}
 use Rattle.basics.specs.Reason.{reason_none}
@@ -14,9 +13,8 @@ use Rattle.afl.specs.declared.CardRecord.{CardRecord}
 use Rattle.afl.specs.Records.{afl_records, accepts_afl}
 use Rattle.reading.specs.declared.Awaited.{Awaited}
 use Rattle.reading.specs.Answer.{ReadingOutcome, read_answer}
-use Rattle.personalise.specs.declared.PersonaliseResult.{PersonaliseResult}
 use Rattle.personalise.specs.declared.WrittenSizes.{WrittenSizes}
-use Rattle.personalise.specs.Outcome.{CardPlan, objects_of_plan, card_records, all_records_bytes}
+use Rattle.personalise.specs.Outcome.{PersonaliseResult, CardPlan, objects_of_plan, card_records, all_records_bytes}
 
 -- ---- the store of a list
 
@@ -41,14 +39,14 @@ read_record_with9000 b r s = read_answer (Awaited.Record (record { number = r.sf
 
 -- what k reads on, in the store that a reading with reason 0 leaves
 abbrev pub read_on_if_accepted : ReadingOutcome → (StoreBytes → Option StoreBytes) → Option StoreBytes
-read_on_if_accepted o k = when o.reason =? reason_none then k o.store else none
+read_on_if_accepted o k = when o.reason =? reason_none then k o.store else None
 
 -- the store after reading records one by one; none where a reading gives a reason, or where there are not as many
 -- records as bytes of records
 unfoldable pub read_all_records : StoreBytes → List CardRecord → List Bytes → Option StoreBytes
-read_all_records b [] [] = some b
-read_all_records b [] (s ∷ ss) = none
-read_all_records b (r ∷ rs) [] = none
+read_all_records b [] [] = Some b
+read_all_records b [] (s ∷ ss) = None
+read_all_records b (r ∷ rs) [] = None
 read_all_records b (r ∷ rs) (s ∷ ss) = read_on_if_accepted (read_record_with9000 b r s) (λ c. read_all_records c rs ss)
 
 -- ---- what holds where all is written
@@ -63,12 +61,12 @@ pub record WrittenCardReadsBackAsObjects (plan : CardPlan) (sizes : WrittenSizes
   pub accepted : accepts_afl plan.entries ≡ true
   -- read in the AFL's order, each record gives reason 0 and together they give the store of the list
   pub read : read_all_records empty_store_bytes (afl_records plan.entries) (card_records plan)
-      ≡ some (store_of_objects (objects_of_plan plan))
+      ≡ Some (store_of_objects (objects_of_plan plan))
 
 -- where the answer is that all is written
 abbrev pub CardReadsBackAsObjectsIfWritten : CardPlan → PersonaliseResult → Bytes → Bytes → Type 0
 CardReadsBackAsObjectsIfWritten p a r l =
-    (z : WrittenSizes) → a ≡ PersonaliseResult.Written z → WrittenCardReadsBackAsObjects p z r l
+    (z : WrittenSizes) → a ≡ Ok z → WrittenCardReadsBackAsObjects p z r l
 
 -- ---- what holds of it, proved in proofs/ (Arranged, Stored, ReadBack, Holding) for all bytes
 --   arranged     in the order of the records, the list's objects are only rearranged

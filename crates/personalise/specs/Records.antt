@@ -1,14 +1,12 @@
 -- The records of the card (document 02, Item 4): the bytes of each, and the least number of a bad one.
 -- Assumes nothing.
-use Rattle.std.specs.Prelude.{Bool, not, List, [], ◌∷◌, ◌++◌, ℕ, zero, suc, length}
+use Rattle.std.specs.Prelude.{Bool, not, List, [], ◌∷◌, ◌++◌, ℕ, zero, suc, length, Option, Some, None}
 use Rattle.basics.specs.Types.{Bytes, Count, Length, RecordNumber}
 use Rattle.basics.specs.Choice.{when◌then◌else◌, ◌and◌, ◌or◌, ◌<?◌, ◌=?◌}
 use Rattle.basics.specs.Number.{between}
 use Rattle.tlv.specs.Primitives.{Object}
 use Rattle.tlv.specs.Encoding.{object_bytes}
 use Rattle.personalise.specs.declared.Placement.{Placement}
-use Rattle.personalise.specs.declared.FirstBadItemNumber.{FirstBadItemNumber}
-use Rattle.personalise.specs.declared.FirstBadItemNumber.TheVariants.{At, Nothing}
 use Rattle.personalise.specs.Objects.{tag_record_template}
 use Rattle.personalise.specs.Placements.{any_placement, objects_in_record_from}
 
@@ -54,12 +52,12 @@ has_bad_placement_or_over253_bytes os ps n k =
     (record_content os ps k)
 
 -- the first of m numbers from k on that passes a test
-unfoldable pub first_bad_number_from : (ℕ → Bool) → ℕ → Count → FirstBadItemNumber
-first_bad_number_from f k zero = Nothing
-first_bad_number_from f k (suc m) = when f k then At k else first_bad_number_from f (suc k) m
+unfoldable pub first_bad_number_from : (ℕ → Bool) → ℕ → Count → Option ℕ
+first_bad_number_from f k zero = None
+first_bad_number_from f k (suc m) = when f k then Some k else first_bad_number_from f (suc k) m
 
 -- the least bad record, of n: a placement's record is a byte, and n is at most 128
-unfoldable pub first_bad_record : List Object → List Placement → Count → FirstBadItemNumber
+unfoldable pub first_bad_record : List Object → List Placement → Count → Option ℕ
 first_bad_record os ps n = first_bad_number_from (has_bad_placement_or_over253_bytes os ps n) 0 256
 
 -- ---- what holds of it, proved in proofs/ (Least, Stages) for all lists and placements

@@ -1,12 +1,10 @@
 -- An answer by its numbers, and as one 64-bit word for a host.
 -- Assumes nothing.
-use Rattle.std.specs.Prelude.{Bool, ℕ, ◌+◌, ◌*◌, ◌≤◌}
+use Rattle.std.specs.Prelude.{Ok, Err, Bool, ℕ, ◌+◌, ◌*◌, ◌≤◌}
 use Rattle.basics.specs.Types.{Length}
 use Rattle.basics.specs.Choice.{◌<?◌, ◌=?◌}
-use Rattle.personalise.specs.declared.PersonaliseResult.{PersonaliseResult}
-use Rattle.personalise.specs.declared.PersonaliseResult.TheVariants.{Written, ShortRecords, ShortAfl}
-use Rattle.personalise.specs.declared.PersonaliseResult.TheVariants.{BadList, BadEntry, BadRecord}
-use Rattle.personalise.specs.Outcome.{least_records_buffer_size, least_afl_buffer_size}
+use Rattle.personalise.specs.declared.PersonaliseError.TheVariants.{ShortRecords, ShortAfl, BadList, BadEntry, BadRecord}
+use Rattle.personalise.specs.Outcome.{PersonaliseResult, least_records_buffer_size, least_afl_buffer_size}
 
 -- the kind of an answer; the AFL's length where it is written; what it names: the records' length where they are
 -- written, the number of the entry or of the record
@@ -16,12 +14,12 @@ pub record PersonaliseWordFields : Type 0 where
   pub number : ℕ
 
 abbrev pub personalise_word_fields : PersonaliseResult → PersonaliseWordFields
-personalise_word_fields (Written z) = record { kind = 0; afl = z.afl; number = z.records }
-personalise_word_fields ShortRecords = record { kind = 1; afl = 0; number = 0 }
-personalise_word_fields ShortAfl = record { kind = 2; afl = 0; number = 0 }
-personalise_word_fields BadList = record { kind = 3; afl = 0; number = 0 }
-personalise_word_fields (BadEntry i) = record { kind = 4; afl = 0; number = i }
-personalise_word_fields (BadRecord k) = record { kind = 5; afl = 0; number = k }
+personalise_word_fields (Ok z) = record { kind = 0; afl = z.afl; number = z.records }
+personalise_word_fields (Err ShortRecords) = record { kind = 1; afl = 0; number = 0 }
+personalise_word_fields (Err ShortAfl) = record { kind = 2; afl = 0; number = 0 }
+personalise_word_fields (Err BadList) = record { kind = 3; afl = 0; number = 0 }
+personalise_word_fields (Err (BadEntry i)) = record { kind = 4; afl = 0; number = i }
+personalise_word_fields (Err (BadRecord k)) = record { kind = 5; afl = 0; number = k }
 
 -- an answer reports that all is written
 abbrev pub is_written : PersonaliseResult → Bool

@@ -7,8 +7,8 @@ ghost use Rattle.personalise.specs.Records.{record_content, has_bad_placement_or
 ghost use Rattle.personalise.specs.Objects.{parsed_objects_or_empty};
 ghost use Rattle.personalise.specs.Inner.{size_capped_at254, encoded_object_size, encoded_size_if_placed_in_record};
 
-use crate::{FirstBadItemNumber, objects, placements};
-use tlv::ObjectFront;
+use crate::{objects, placements};
+use tlv::PrimitiveObjects;
 
 // The most bytes of a content, and what stands for any size above.
 const MOST: usize = 253;
@@ -16,31 +16,27 @@ const MOST: usize = 253;
 const OVER: usize = 254;
 
 // The least bad record of so many.
-pub(crate) fn bad_record(objects: &[u8], placements: &[u8], records: usize) -> FirstBadItemNumber
+pub(crate) fn bad_record(objects: &[u8], placements: &[u8], records: usize) -> Option<usize>
     requires { are_primitive_objects_parsed (primitive_objects objects.now) ≡ true }
     ensures { result ≡ first_bad_record (parsed_objects_or_empty objects.now) (placements_in placements.now) records }
 {
     let count = objects::count(objects);
-    let mut k: usize = 0;
-    while k < 256 {
+    for k in 0..256 {
         if is_bad(objects, placements, k, records, count) {
-            return FirstBadItemNumber::At(k);
+            return Some(k);
         }
-        k += 1;
     }
-    FirstBadItemNumber::Nothing
+    None
 }
 
 // Whether record k is bad: a placement strays, or the content is too long.
+// Kept: objects, placements and k, here and below: two slices and a number, which a struct would only rename.
 fn is_bad(objects: &[u8], placements: &[u8], k: usize, records: usize, count: usize) -> bool
     requires objects_value { are_primitive_objects_parsed (primitive_objects objects.now) ≡ true }
     requires count_value { count ≡ length (parsed_objects_or_empty objects.now) }
     ensures { result ≡ has_bad_placement_or_over253_bytes (parsed_objects_or_empty objects.now) (placements_in placements.now) records k }
 {
-    if placements::is_misplaced(placements, k, records, count) {
-        return true;
-    }
-    MOST < size(objects, placements, k)
+    placements::is_misplaced(placements, k, records, count) || MOST < size(objects, placements, k)
 }
 
 // How many bytes record k has inside its template; 254 for any number above 253.
@@ -48,23 +44,12 @@ pub(crate) fn size(objects: &[u8], placements: &[u8], k: usize) -> usize
     requires { are_primitive_objects_parsed (primitive_objects objects.now) ≡ true }
     ensures { result ≡ size_capped_at254 (length (record_content (parsed_objects_or_empty objects.now) (placements_in placements.now) k)) }
 {
-    let mut s = objects;
-    let mut number: usize = 1;
     let mut total: usize = 0;
-    while s.len() != 0 {
-        let front = tlv::primitive_at_front(s);
-        let ObjectFront::Object(h) = front else {
-            return OVER;
-        };
-        let start = h.start;
-        let len = h.len;
-        let e = start + len;
-        total += placed_size(placements, k, number, h.tag, len);
+    for (i, object) in PrimitiveObjects(objects).enumerate() {
+        total += placed_size(placements, k, i + 1, object.tag, object.value.len());
         if MOST < total {
             return OVER;
         }
-        number += 1;
-        s = &s[e..];
     }
     total
 }
@@ -94,7 +79,7 @@ fn object_size(tag: u32, len: usize) -> usize
 }
 
 // How many bytes a tag has.
-fn tag_size(tag: u32) -> usize
+pub(crate) fn tag_size(tag: u32) -> usize
     ensures { (result ≡ length (tag_bytes tag)) × (result < 4) }
 {
     if tag < 0x100 {

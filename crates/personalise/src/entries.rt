@@ -1,10 +1,10 @@
 // The entries of the AFL as it is proposed: each against the rules and those before it.
 ghost use Rattle.std.specs.Prelude.{◌≡◌, ◌≤◌, ◌%◌, length};
+ghost use Rattle.std.specs.Iterator.{YieldsFirst, item_count};
 ghost use Rattle.afl.specs.Entry.{first_afl_entry, entry_record_count};
 ghost use Rattle.afl.specs.Records.{afl_entries as entries_in, afl_record_count};
 ghost use Rattle.personalise.specs.Entries.{valid_entry_sfi1_to10_no_offline_auth, overlaps_none_before, entries_overlap as meets_both, valid_entry_after_within_count_limits, first_bad_entry};
 
-use crate::FirstBadItemNumber;
 use afl::AflEntry;
 
 // The most entries and records, and the highest file number.
@@ -14,25 +14,50 @@ const MOST_RECORDS: usize = 128;
 
 const LAST_SFI: u8 = 10;
 
+// The whole entries of some bytes, four bytes each, one after another.
+#[derive(Drop)]
+struct Entries<'a>(&'a [u8]);
+
+impl<'a> Iterator for Entries<'a> {
+    type Item = AflEntry;
+
+    ghost next_gives = { YieldsFirst (λ s. entries_in s.0.now) };
+
+    ghost remaining = { item_count (λ s. entries_in s.0.now) };
+
+    fn next(&mut self) -> Option<AflEntry> {
+        let (bytes, rest) = self.0.split_first_chunk()?;
+        self.0 = rest;
+        Some(entry_of(bytes))
+    }
+}
+
+// The entry of four bytes.
+// Kept: `AflEntry::at_front` is the same, but private to its crate.
+fn entry_of(bytes: &[u8; 4]) -> AflEntry
+    ensures { result ≡ first_afl_entry bytes.now }
+{
+    AflEntry {
+        lead: bytes[0],
+        first: bytes[1],
+        last: bytes[2],
+        offline: bytes[3],
+    }
+}
+
 // The first bad entry, by its number from 1; the first where there is none.
-pub(crate) fn bad_entry(entries: &[u8]) -> FirstBadItemNumber
+pub(crate) fn bad_entry(entries: &[u8]) -> Option<usize>
     ensures { result ≡ first_bad_entry entries.now }
 {
-    let mut at = 0;
-    while 4 <= entries.len() - at {
-        let e = front(&entries[at..]);
-        if !keeps_behind(&entries[..at], e) {
-            return FirstBadItemNumber::At(at / 4 + 1);
+    for (i, e) in Entries(entries).enumerate() {
+        if !keeps_behind(&entries[..4 * i], e) {
+            return Some(i + 1);
         }
-        at += 4;
     }
-    if at < entries.len() {
-        return FirstBadItemNumber::At(at / 4 + 1);
+    if entries.is_empty() || entries.len() % 4 != 0 {
+        return Some(entries.len() / 4 + 1);
     }
-    if at == 0 {
-        return FirstBadItemNumber::At(1);
-    }
-    FirstBadItemNumber::Nothing
+    None
 }
 
 // How many records some entries name.
@@ -40,101 +65,52 @@ pub(crate) fn count_records(entries: &[u8]) -> usize
     requires { length entries.now ≤ 248 }
     ensures { (result ≡ afl_record_count entries.now) × (result ≤ 15872) }
 {
-    let mut rest = entries;
-    let mut total: usize = 0;
-    while 4 <= rest.len() {
-        let e = front(rest);
-        total += count(e);
-        rest = &rest[4..];
-    }
-    total
+    Entries(entries).map(count).sum()
 }
 
 // Whether an entry satisfies the rules after those before it.
+#[tactic(auto, using(crate::proofs::Proposed::entries_count, std::proofs::lemmas::Bool::Decides::nat_tests), unfolding(crate::specs::Entries::valid_entry_after_within_count_limits, basics::specs::Choice::both))]
 fn keeps_behind(before: &[u8], e: AflEntry) -> bool
     requires { length before.now % 4 ≡ 0 }
     ensures { result ≡ valid_entry_after_within_count_limits (entries_in before.now) e }
 {
-    if MOST_ENTRIES <= before.len() / 4 {
-        return false;
-    }
-    if !keeps_alone(e) {
-        return false;
-    }
-    if !is_apart(before, e) {
-        return false;
-    }
-    count_records(before) + count(e) <= MOST_RECORDS
+    before.len() / 4 < MOST_ENTRIES
+        && keeps_alone(e)
+        && is_apart(before, e)
+        && count_records(before) + count(e) <= MOST_RECORDS
 }
 
 // Whether an entry names no record that one before it names.
 fn is_apart(before: &[u8], e: AflEntry) -> bool
     ensures { result ≡ overlaps_none_before (entries_in before.now) e }
 {
-    let mut rest = before;
-    while 4 <= rest.len() {
-        let f = front(rest);
-        if meets(f, e) {
-            return false;
-        }
-        rest = &rest[4..];
-    }
-    true
+    Entries(before).all(|f| !meets(f, e))
 }
 
 // Whether an entry satisfies the rules by itself.
+#[tactic(auto, using(std::proofs::lemmas::Bool::Decides::nat_tests), unfolding(crate::specs::Entries::valid_entry_sfi1_to10_no_offline_auth, basics::specs::Choice::both))]
 fn keeps_alone(e: AflEntry) -> bool
     ensures { result ≡ valid_entry_sfi1_to10_no_offline_auth e }
 {
-    if e.lead % 8 != 0 {
-        return false;
-    }
-    if !basics::is_between(1, e.lead / 8, LAST_SFI) {
-        return false;
-    }
-    if e.first < 1 {
-        return false;
-    }
-    if e.last < e.first {
-        return false;
-    }
-    e.offline == 0
+    e.lead % 8 == 0
+        && (1..=LAST_SFI).contains(&(e.lead / 8))
+        && 1 <= e.first
+        && e.first <= e.last
+        && e.offline == 0
 }
 
 // Whether two entries name a record both.
+#[tactic(auto, using(std::proofs::lemmas::Bool::Decides::nat_tests), unfolding(basics::specs::Choice::both))]
 fn meets(e: AflEntry, f: AflEntry) -> bool
     ensures { result ≡ meets_both e f }
 {
-    if e.lead / 8 != f.lead / 8 {
-        return false;
-    }
-    if f.last < e.first {
-        return false;
-    }
-    f.first <= e.last
-}
-
-// The entry at the front of the bytes.
-fn front(s: &[u8]) -> AflEntry
-    requires { 4 ≤ length s.now }
-    ensures { result ≡ first_afl_entry s.now }
-{
-    AflEntry {
-        lead: s[0],
-        first: s[1],
-        last: s[2],
-        offline: s[3],
-    }
+    e.lead / 8 == f.lead / 8 && e.first <= f.last && f.first <= e.last
 }
 
 // How many records an entry names.
+// Kept: `AflEntry::record_count` is the same, but private to its crate.
 fn count(e: AflEntry) -> usize
     ensures { (result ≡ entry_record_count e) × (result ≤ 256) }
 {
-    let first = basics::widen(e.first);
-    let last = basics::widen(e.last);
-    if last < first {
-        return 0;
-    }
-    last - first + 1
+    (usize::from(e.last) + 1).saturating_sub(usize::from(e.first))
 }

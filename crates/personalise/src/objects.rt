@@ -1,43 +1,34 @@
 // The list of objects: what its rules require of each, and how many there are.
-ghost use Rattle.std.specs.Prelude.{◌≡◌, true, length};
-ghost use Rattle.tlv.specs.Primitives.{tlv_object, primitive_objects, are_primitive_objects_parsed};
+ghost use Rattle.std.specs.Prelude.{◌≡◌, true, length, drop};
+ghost use Rattle.tlv.specs.Primitives.{tlv_object, primitive_objects, are_primitive_objects_parsed, leading_primitive_objects};
 ghost use Rattle.dictionary.specs.Rows.{in_record_response};
 ghost use Rattle.dictionary.specs.Packing.{row_with_attributes_and_tag_zero};
 ghost use Rattle.reading.specs.Taking.{row_allows_value_from_card};
-ghost use Rattle.personalise.specs.Objects.{tag_record_template, parsed_objects_or_empty, tag_and_value_allowed_in_record};
+ghost use Rattle.personalise.specs.Objects.{tag_record_template, parsed_objects_or_empty, tag_and_value_allowed_in_record, lacks_tag};
 ghost use Rattle.personalise.specs.Placements.{placements_in};
-ghost use Rattle.personalise.specs.Inner.{list_parsed_and_lacks_tag, parsed_objects_valid_and_placed_once};
+ghost use Rattle.personalise.specs.Inner.{parsed_objects_valid_and_placed_once};
 
 use crate::placements;
-use dictionary::{RowAttributes, RowFound};
-use tlv::ObjectFront;
+use dictionary::RowAttributes;
+use tlv::PrimitiveObjects;
 
 // Whether the bytes are a run of objects that may all be set, no tag twice, each placed once.
 pub(crate) fn keeps(objects: &[u8], placements: &[u8]) -> bool
     ensures { result ≡ parsed_objects_valid_and_placed_once (placements_in placements.now) 1 (primitive_objects objects.now) }
 {
-    let mut s = objects;
-    let mut number: usize = 1;
-    while s.len() != 0 {
-        let front = tlv::primitive_at_front(s);
-        let ObjectFront::Object(h) = front else {
-            return false;
-        };
-        let start = h.start;
-        let e = start + h.len;
-        let value = &s[start..e];
-        let rest = &s[e..];
-        if !is_settable(h.tag, value) {
+    if !tlv::is_primitive_list(objects) {
+        return false;
+    }
+    for (i, object) in PrimitiveObjects(objects).enumerate() {
+        if !is_settable(object.tag, object.value) {
             return false;
         }
-        if !lacks_tag(rest, h.tag) {
+        if !lacks_tag(objects, i + 1, object.tag) {
             return false;
         }
-        if placements::count_named(placements, number) != 1 {
+        if placements::count_named(placements, i + 1) != 1 {
             return false;
         }
-        number += 1;
-        s = rest;
     }
     true
 }
@@ -47,47 +38,21 @@ pub(crate) fn count(objects: &[u8]) -> usize
     requires { are_primitive_objects_parsed (primitive_objects objects.now) ≡ true }
     ensures { result ≡ length (parsed_objects_or_empty objects.now) }
 {
-    let mut s = objects;
-    let mut n: usize = 0;
-    while s.len() != 0 {
-        let front = tlv::primitive_at_front(s);
-        let ObjectFront::Object(h) = front else {
-            return n;
-        };
-        let start = h.start;
-        let e = start + h.len;
-        n += 1;
-        s = &s[e..];
-    }
-    n
+    PrimitiveObjects(objects).count()
 }
 
-// Whether the bytes are a run without a tag.
-fn lacks_tag(objects: &[u8], tag: u32) -> bool
-    ensures { result ≡ list_parsed_and_lacks_tag tag (primitive_objects objects.now) }
+// Whether none of the objects after so many has a tag.
+fn lacks_tag(objects: &[u8], passed: usize, tag: u32) -> bool
+    ensures { result ≡ lacks_tag tag (drop passed (leading_primitive_objects objects.now)) }
 {
-    let mut s = objects;
-    while s.len() != 0 {
-        let front = tlv::primitive_at_front(s);
-        let ObjectFront::Object(h) = front else {
-            return false;
-        };
-        if h.tag == tag {
-            return false;
-        }
-        let start = h.start;
-        let e = start + h.len;
-        s = &s[e..];
-    }
-    true
+    PrimitiveObjects(objects).skip(passed).all(|o| o.tag != tag)
 }
 
 // Whether the card may set an object in template 70, its length and digits fitting.
 fn is_settable(tag: u32, v: &[u8]) -> bool
     ensures { result ≡ tag_and_value_allowed_in_record (tlv_object tag v.now) }
 {
-    let found = dictionary::lookup_row(tag).found;
-    let RowFound::At(row) = found else {
+    let Some(row) = dictionary::lookup_row(tag).found else {
         return false;
     };
     let attributes = dictionary::attributes_of(row);
@@ -95,17 +60,12 @@ fn is_settable(tag: u32, v: &[u8]) -> bool
 }
 
 // Whether the card may bring an object of these attributes in a record, with this value.
+#[tactic(auto, using(std::proofs::lemmas::Bool::Decides::nat_tests, basics::proofs::Laws::if_yes), unfolding(reading::specs::Taking::row_allows_value_from_card, reading::specs::Taking::allowed_in_template, basics::specs::Choice::both))]
 fn may_come(attributes: RowAttributes, v: &[u8]) -> bool
     ensures { result ≡ row_allows_value_from_card in_record_response (row_with_attributes_and_tag_zero attributes) tag_record_template v.now }
 {
-    if attributes.setters / dictionary::CARD % 2 != 1 {
-        return false;
-    }
-    if attributes.answers / dictionary::CARD_RECORD % 2 != 1 {
-        return false;
-    }
-    if attributes.templates / dictionary::IN_70 % 2 != 1 {
-        return false;
-    }
-    dictionary::length_and_digits_fit_row(attributes, v)
+    attributes.setters / dictionary::CARD % 2 == 1
+        && attributes.answers / dictionary::CARD_RECORD % 2 == 1
+        && attributes.templates / dictionary::IN_70 % 2 == 1
+        && dictionary::length_and_digits_fit_row(attributes, v)
 }

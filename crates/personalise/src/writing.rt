@@ -7,7 +7,7 @@ ghost use Rattle.personalise.specs.Objects.{parsed_objects_or_empty};
 ghost use Rattle.personalise.specs.Inner.{AreObjectsAllowedInRecord, RecordContentsWithin253Bytes, WritesBytesAt, object_bytes_if_placed_in_record, concatenated_records_from_bytes};
 
 use crate::{contents, placements};
-use tlv::ObjectFront;
+use tlv::PrimitiveObjects;
 
 // The tag of a record's template.
 const TEMPLATE: u32 = 0x70;
@@ -24,11 +24,9 @@ pub(crate) fn put_records(
     requires records_bound { (records < 256) × (256 * records ≤ length out.old) }
     ensures { WritesBytesAt result out.new out.old 0 (concatenated_records_from_bytes objects.now placements.now records) }
 {
-    let mut k: usize = 1;
-    let mut at: usize = 0;
-    while k <= records {
+    let mut at = 0;
+    for k in 1..=records {
         at = put_record(objects, placements, k, out, at);
-        k += 1;
     }
     at
 }
@@ -54,21 +52,9 @@ fn put_content(objects: &[u8], placements: &[u8], k: usize, out: &mut [u8], at: 
     ensures { WritesBytesAt result out.new out.old at
         (record_content (parsed_objects_or_empty objects.now) (placements_in placements.now) k) }
 {
-    let mut s = objects;
-    let mut number: usize = 1;
     let mut to = at;
-    while s.len() != 0 {
-        let front = tlv::primitive_at_front(s);
-        let ObjectFront::Object(h) = front else {
-            return to;
-        };
-        let start = h.start;
-        let e = start + h.len;
-        let value = &s[start..e];
-        let rest = &s[e..];
-        to = put_placed(placements, k, number, h.tag, value, out, to);
-        number += 1;
-        s = rest;
+    for (i, object) in PrimitiveObjects(objects).enumerate() {
+        to = put_placed(placements, k, i + 1, object.tag, object.value, out, to);
     }
     to
 }
@@ -110,19 +96,8 @@ fn put_tag(out: &mut [u8], at: usize, tag: u32) -> usize
     requires { (tag < 0x1000000) × (at + length (tag_bytes tag) ≤ length out.old) }
     ensures { WritesBytesAt result out.new out.old at (tag_bytes tag) }
 {
-    if tag < 0x100 {
-        out[at] = tag as u8;
-        return at + 1;
-    }
-    if tag < 0x10000 {
-        out[at] = (tag / 0x100) as u8;
-        out[at + 1] = (tag % 0x100) as u8;
-        return at + 2;
-    }
-    out[at] = (tag / 0x10000) as u8;
-    out[at + 1] = (tag / 0x100 % 0x100) as u8;
-    out[at + 2] = (tag % 0x100) as u8;
-    at + 3
+    let size = contents::tag_size(tag);
+    put_value(out, at, &tag.to_be_bytes()[4 - size..])
 }
 
 // Writes a length below 256 in as few bytes as it can be.
@@ -145,6 +120,6 @@ fn put_value(out: &mut [u8], at: usize, v: &[u8]) -> usize
     ensures { WritesBytesAt result out.new out.old at v.now }
 {
     let e = at + v.len();
-    basics::copy(v, &mut out[at..e]);
+    out[at..e].copy_from_slice(v);
     e
 }

@@ -8,21 +8,14 @@
 // standard error. With --tell the exit status goes to descriptor 3: 0 written, 1 refused, 2 neither.
 #![tactic(auto)]
 
-mod arguments;
 mod shown;
 mod text;
 
-use arguments::PersonaliseArguments;
-use program::LONGEST_ARGUMENT;
+use program::{ProgramArguments, front};
 use std::io::Read;
 
-// How much of a file is there, whether to read on, and whether a part could not be read.
-#[derive(Clone, Copy)]
-struct FileReadProgress {
-    size: usize,
-    going: bool,
-    failed: bool,
-}
+// What is wrong is reported under this name.
+const NAME: &str = "personalise";
 
 // The exit statuses.
 const WRITTEN: u8 = 0;
@@ -45,127 +38,51 @@ const RECORDS: usize = 32768;
 const AFL: usize = 248;
 
 fn main(rt: HostRuntime) {
-    let asked = arguments::personalise_arguments(&rt);
+    let asked = program::arguments(&rt, NAME, |_, _| Ok(false));
     let status = answered(&rt, asked);
-    if asked.tell {
-        tell(&rt, status);
-    }
-}
-
-fn tell(rt: &HostRuntime, status: u8) {
-    match status {
-        WRITTEN => send(rt, b"0"),
-        REFUSED => send(rt, b"1"),
-        _ => send(rt, b"2"),
-    }
-}
-
-fn send(rt: &HostRuntime, words: &[u8]) {
-    program::tell_status(rt, words);
+    program::report_status(&rt, asked, status);
 }
 
 fn complain(rt: &HostRuntime, words: &[u8]) {
     print::print_text(&rt.stderr(), words);
 }
 
-// The front of some bytes.
-fn front(s: &[u8], n: usize) -> &[u8] {
-    if n <= s.len() {
-        return &s[..n];
-    }
-    s
-}
-
 // ---- the file
 
 // Reads the file and shows the answer to it; returns the exit status.
-fn answered(rt: &HostRuntime, asked: PersonaliseArguments) -> u8 {
+fn answered(rt: &HostRuntime, asked: ProgramArguments) -> u8 {
     if asked.wrong {
         return NEITHER;
     }
-    if asked.file == 0 {
-        return answered_of(rt, &mut rt.stdin());
-    }
-    let mut path = [0u8; LONGEST_ARGUMENT];
-    let n = program::argument(rt, asked.file, &mut path);
-    match program::open_read(rt, &path[..n]) {
-        Ok(mut file) => answered_of(rt, &mut file),
-        Err(error) => {
-            program::print_failure(rt, &rt.stderr(), &path[..n], error);
-            NEITHER
-        }
-    }
-}
-
-// The same for an open file.
-fn answered_of(rt: &HostRuntime, source: &mut impl Read) -> u8 {
-    let mut space = [0u8; ROOM];
-    let filled = read(rt, source, &mut space);
-    if filled.failed {
+    let Some(mut source) = program::open_source(rt, asked.file) else {
         return NEITHER;
-    }
-    if MOST < filled.size {
-        complain(
-            rt,
-            b"personalise: expected a file of at most 65,536 characters\n",
-        );
-        return NEITHER;
-    }
-    laid_out(rt, front(&space, filled.size))
-}
-
-// Fills the space from a file. Each part has a character or more, so there are no more iterations than characters.
-fn read(rt: &HostRuntime, source: &mut impl Read, space: &mut [u8]) -> FileReadProgress {
-    let mut state = FileReadProgress {
-        size: 0,
-        going: true,
-        failed: false,
     };
+    let mut space = [0u8; ROOM];
+    let Some(filled) = read(rt, &mut source, &mut space) else {
+        return NEITHER;
+    };
+    if MOST < filled {
+        program::print_wrong(rt, NAME, "expected a file of at most 65,536 characters");
+        return NEITHER;
+    }
+    laid_out(rt, front(&space, filled))
+}
+
+// Fills the space from a file: how much of it is there, none where a part cannot be read. Each part has a character or
+// more, so there are no more iterations than characters.
+fn read(rt: &HostRuntime, source: &mut impl Read, space: &mut [u8]) -> Option<usize> {
+    let mut filled: usize = 0;
     for _ in 0..ROOM {
-        if !state.going {
-            return state;
+        if space.len() <= filled {
+            return Some(filled);
         }
-        state = read_part(rt, state, source, space);
-    }
-    state
-}
-
-// One more part, after those that are present.
-fn read_part(
-    rt: &HostRuntime,
-    state: FileReadProgress,
-    source: &mut impl Read,
-    space: &mut [u8],
-) -> FileReadProgress {
-    let filled = state.size;
-    if space.len() <= filled {
-        return ended(filled, false);
-    }
-    match source.read(&mut space[filled..]) {
-        Ok(0) => ended(filled, false),
-        Ok(n) => FileReadProgress {
-            size: filled + n,
-            going: true,
-            failed: false,
-        },
-        Err(error) => {
-            program::print_failure(
-                rt,
-                &rt.stderr(),
-                b"personalise: the file cannot be read",
-                error,
-            );
-            ended(filled, true)
+        let n = program::read_part(rt, NAME, source, &mut space[filled..])?;
+        if n == 0 {
+            return Some(filled);
         }
+        filled += n;
     }
-}
-
-fn ended(size: usize, failed: bool) -> FileReadProgress {
-    FileReadProgress {
-        size,
-        going: false,
-        failed,
-    }
+    Some(filled)
 }
 
 // ---- the answer
@@ -185,9 +102,9 @@ fn laid_out(rt: &HostRuntime, chars: &[u8]) -> u8 {
     if !text::check_request_and_print_missing(rt, given) {
         return NEITHER;
     }
-    let listed = front(&objects, given.objects.size);
-    let proposed = front(&entries, given.entries.size);
-    let placed = front(&placements, given.placements.size);
+    let listed = front(&objects, given.objects.unwrap_or(0));
+    let proposed = front(&entries, given.entries.unwrap_or(0));
+    let placed = front(&placements, given.placements.unwrap_or(0));
     written(rt, listed, proposed, placed)
 }
 

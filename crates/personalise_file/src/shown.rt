@@ -3,31 +3,31 @@ ghost use Rattle.std.specs.Prelude.{◌≤◌, length};
 
 use crate::front;
 use crate::text::increment_saturating;
-use personalise::PersonaliseResult;
-use tlv::ObjectFront;
+use personalise::{PersonaliseError, WrittenSizes};
 
 // Shows an answer with what is written at the front of the buffers: whether anything is.
 pub fn print_personalise_result(
     rt: &impl Print,
-    answer: PersonaliseResult,
+    answer: Result<WrittenSizes, PersonaliseError>,
     records: &[u8],
     afl: &[u8],
 ) -> bool {
     match answer {
-        PersonaliseResult::Written(sizes) => {
+        Ok(sizes) => {
             print::print_text(rt, b"locator");
             print::print_bytes(rt, front(afl, sizes.afl));
             print::print_text(rt, b"\n");
             all_records(rt, front(records, sizes.records));
             true
         }
-        _ => refused(rt, answer),
+        Err(error) => refused(rt, error),
     }
 }
 
 // ---- the records
 
 // The records, one after another, each on a line with its number.
+// Kept: a walk over templates, whose sizes are read from the bytes; `tlv::PrimitiveObjects` gives no templates.
 fn all_records(rt: &impl Print, records: &[u8]) {
     let mut rest = records;
     let mut number: usize = 1;
@@ -46,8 +46,7 @@ fn all_records(rt: &impl Print, records: &[u8]) {
 fn first_size(s: &[u8]) -> usize
     ensures { result ≤ length s.now }
 {
-    let front = tlv::object_header(s);
-    let ObjectFront::Object(h) = front else {
+    let Some(h) = tlv::object_header(s) else {
         return 0;
     };
     h.start + h.len
@@ -64,21 +63,20 @@ fn record_line(rt: &impl Print, number: usize, bytes: &[u8]) {
 // ---- refusals
 
 // A refusal in words.
-fn refused(rt: &impl Print, answer: PersonaliseResult) -> bool {
+fn refused(rt: &impl Print, error: PersonaliseError) -> bool {
     print::print_text(rt, b"refused: ");
-    match answer {
-        PersonaliseResult::Written(_) => print::print_text(rt, b"nothing"),
-        PersonaliseResult::ShortRecords => print::print_text(
+    match error {
+        PersonaliseError::ShortRecords => print::print_text(
             rt,
             b"records buffer shorter than 32,768 bytes",
         ),
-        PersonaliseResult::ShortAfl => print::print_text(
+        PersonaliseError::ShortAfl => print::print_text(
             rt,
             b"locator buffer shorter than 248 bytes",
         ),
-        PersonaliseResult::BadList => list_words(rt),
-        PersonaliseResult::BadEntry(i) => entry_words(rt, i),
-        PersonaliseResult::BadRecord(k) => record_words(rt, k),
+        PersonaliseError::BadList => list_words(rt),
+        PersonaliseError::BadEntry(i) => entry_words(rt, i),
+        PersonaliseError::BadRecord(k) => record_words(rt, k),
     }
     print::print_text(rt, b"\n");
     false

@@ -1,34 +1,24 @@
 // The lines of a file: `objects HEX`, `entries HEX` and `placements HEX`, each once.
-ghost use Rattle.std.specs.Prelude.{◌≤◌, length};
-
 use crate::complain;
 use text_line::HexDecoded;
 
-// What a line brought: whether it was present, and how many bytes it has.
-#[derive(Clone, Copy)]
-pub struct RequestPartGiven {
-    pub there: bool,
-    pub size: usize,
-}
-
-// What the lines brought so far, the number of the line that is read, and whether one was wrong.
+// How many bytes each line brought so far, if it was there, the number of the line that is read, and whether one was wrong.
 #[derive(Clone, Copy)]
 pub struct PersonaliseRequestText {
-    pub objects: RequestPartGiven,
-    pub entries: RequestPartGiven,
-    pub placements: RequestPartGiven,
+    pub objects: Option<usize>,
+    pub entries: Option<usize>,
+    pub placements: Option<usize>,
     pub number: usize,
     pub wrong: bool,
 }
 
-// The first word of a line.
+// What is wrong with a line.
 #[derive(Clone, Copy)]
-enum PartKeyword {
-    Absent,
-    Objects,
-    Entries,
-    Placements,
-    Unknown,
+enum LineFault {
+    UnknownWord,
+    Twice,
+    NoBytes,
+    NoRoom,
 }
 
 // Reads all lines, up to one that is wrong, which is reported by its number.
@@ -40,43 +30,21 @@ pub fn parse_personalise_lines(
     placements: &mut [u8],
 ) -> PersonaliseRequestText {
     let mut given = nothing();
-    let mut rest = chars;
-    while rest.len() != 0 {
-        let e = line_end(rest);
-        given = with_line(rt, given, &rest[..e], objects, entries, placements);
-        if rest.len() <= e {
-            return given;
-        }
-        let ended = &rest[e..];
-        rest = &ended[1..];
+    for ended in chars.split_inclusive(|c| *c == b'\n') {
+        let line = ended.strip_suffix(b"\n".as_slice()).unwrap_or(ended);
+        given = with_line(rt, given, line, objects, entries, placements);
     }
     given
 }
 
 fn nothing() -> PersonaliseRequestText {
-    let absent = RequestPartGiven {
-        there: false,
-        size: 0,
-    };
     PersonaliseRequestText {
-        objects: absent,
-        entries: absent,
-        placements: absent,
+        objects: None,
+        entries: None,
+        placements: None,
         number: 1,
         wrong: false,
     }
-}
-
-// Where the first line ends: at its newline, or at the end where there is none.
-fn line_end(s: &[u8]) -> usize
-    ensures { result ≤ length s.now }
-{
-    for i in 0..s.len() {
-        if s[i] == b'\n' {
-            return i;
-        }
-    }
-    s.len()
 }
 
 // One more line; nothing after a wrong one is examined.
@@ -93,103 +61,29 @@ fn with_line(
     }
     let text = text_line::uncommented(line);
     let rest = text_line::after_first_word(text);
-    let word = word_named(text_line::first_word(text));
-    match word {
-        PartKeyword::Absent => next_line(given),
-        PartKeyword::Objects => with_objects(rt, given, text_line::decode_hex(rest, objects)),
-        PartKeyword::Entries => with_entries(rt, given, text_line::decode_hex(rest, entries)),
-        PartKeyword::Placements => with_placements(
-            rt,
-            given,
-            text_line::decode_hex(rest, placements),
-        ),
-        PartKeyword::Unknown => wrong(
-            rt,
-            given,
-            b"unknown word; expected objects HEX, entries HEX or placements HEX",
-        ),
+    let mut out = given;
+    let read = match text_line::first_word(text) {
+        b"" => Ok(()),
+        b"objects" => with_part(&mut out.objects, text_line::decode_hex(rest, objects)),
+        b"entries" => with_part(&mut out.entries, text_line::decode_hex(rest, entries)),
+        b"placements" => with_part(&mut out.placements, text_line::decode_hex(rest, placements)),
+        _ => Err(LineFault::UnknownWord),
+    };
+    match read {
+        Ok(()) => next_line(out),
+        Err(fault) => wrong_line(rt, out, fault),
     }
 }
 
-// Which word it is.
-fn word_named(w: &[u8]) -> PartKeyword {
-    if w.len() == 0 {
-        return PartKeyword::Absent;
+// What a line brings, unless its word comes twice or what follows the word spells no bytes.
+fn with_part(part: &mut Option<usize>, d: HexDecoded) -> Result<(), LineFault> {
+    if part.replace(d.size).is_some() {
+        return Err(LineFault::Twice);
     }
-    if basics::bytes_equal(w, b"objects") {
-        return PartKeyword::Objects;
-    }
-    if basics::bytes_equal(w, b"entries") {
-        return PartKeyword::Entries;
-    }
-    if basics::bytes_equal(w, b"placements") {
-        return PartKeyword::Placements;
-    }
-    PartKeyword::Unknown
-}
-
-// ---- one more line of each kind
-
-fn with_objects(
-    rt: &HostRuntime,
-    given: PersonaliseRequestText,
-    d: HexDecoded,
-) -> PersonaliseRequestText {
-    let mut out = checked(rt, given, given.objects.there, &d);
-    out.objects = brought(&d);
-    out
-}
-
-fn with_entries(
-    rt: &HostRuntime,
-    given: PersonaliseRequestText,
-    d: HexDecoded,
-) -> PersonaliseRequestText {
-    let mut out = checked(rt, given, given.entries.there, &d);
-    out.entries = brought(&d);
-    out
-}
-
-fn with_placements(
-    rt: &HostRuntime,
-    given: PersonaliseRequestText,
-    d: HexDecoded,
-) -> PersonaliseRequestText {
-    let mut out = checked(rt, given, given.placements.there, &d);
-    out.placements = brought(&d);
-    out
-}
-
-fn brought(d: &HexDecoded) -> RequestPartGiven {
-    RequestPartGiven {
-        there: true,
-        size: d.size,
-    }
-}
-
-// The next line, unless this one comes twice or what follows its word spells no bytes.
-fn checked(
-    rt: &HostRuntime,
-    given: PersonaliseRequestText,
-    twice: bool,
-    d: &HexDecoded,
-) -> PersonaliseRequestText {
-    if twice {
-        return wrong(
-            rt,
-            given,
-            b"this word for the second time; expected it once",
-        );
-    }
-    let problem = d.problem;
-    match problem {
-        0 => next_line(given),
-        text_line::HEX => wrong(
-            rt,
-            given,
-            b"expected bytes, each two hexadecimal digits side by side",
-        ),
-        _ => wrong(rt, given, b"expected at most 32,768 bytes"),
+    match d.problem {
+        0 => Ok(()),
+        text_line::HEX => Err(LineFault::NoBytes),
+        _ => Err(LineFault::NoRoom),
     }
 }
 
@@ -201,7 +95,7 @@ fn next_line(given: PersonaliseRequestText) -> PersonaliseRequestText {
 
 // One more; the greatest number stays.
 pub fn increment_saturating(n: usize) -> usize {
-    if n < usize::MAX { n + 1 } else { n }
+    n.saturating_add(1)
 }
 
 // ---- what is wrong
@@ -216,6 +110,32 @@ fn wrong(rt: &HostRuntime, given: PersonaliseRequestText, words: &[u8]) -> Perso
     let mut out = given;
     out.wrong = true;
     out
+}
+
+// The same for a fault of its words.
+fn wrong_line(
+    rt: &HostRuntime,
+    given: PersonaliseRequestText,
+    fault: LineFault,
+) -> PersonaliseRequestText {
+    match fault {
+        LineFault::UnknownWord => wrong(
+            rt,
+            given,
+            b"unknown word; expected objects HEX, entries HEX or placements HEX",
+        ),
+        LineFault::Twice => wrong(
+            rt,
+            given,
+            b"this word for the second time; expected it once",
+        ),
+        LineFault::NoBytes => wrong(
+            rt,
+            given,
+            b"expected bytes, each two hexadecimal digits side by side",
+        ),
+        LineFault::NoRoom => wrong(rt, given, b"expected at most 32,768 bytes"),
+    }
 }
 
 // Whether no line was wrong and each was there; the first that is absent is reported at the line after the last.
@@ -244,11 +164,11 @@ pub fn check_request_and_print_missing(rt: &HostRuntime, given: PersonaliseReque
 fn is_there(
     rt: &HostRuntime,
     given: PersonaliseRequestText,
-    part: RequestPartGiven,
+    part: Option<usize>,
     words: &[u8],
 ) -> bool {
-    if !part.there {
+    if part.is_none() {
         wrong(rt, given, words);
     }
-    part.there
+    part.is_some()
 }

@@ -10,7 +10,6 @@ mod names;
 mod table;
 pub mod tree;
 
-use crate::table::print_words_of_decimal;
 use session_record::{AwaitedResponse, CallResult, Outcome, OutcomeParameters, Phase, Reply};
 
 // Text, as it is. What cannot be written is left out, here and in every function above it: the program goes on, and the
@@ -21,13 +20,7 @@ pub fn print_text(rt: &impl Print, s: &[u8]) {
 
 // The bytes from one place to another; none where there is no such part.
 fn part(s: &[u8], from: usize, to: usize) -> &[u8] {
-    if to < from {
-        return &s[..0];
-    }
-    if s.len() < to {
-        return &s[..0];
-    }
-    &s[from..to]
+    s.get(from..to).unwrap_or(b"")
 }
 
 // A number in decimal digits.
@@ -38,15 +31,13 @@ pub fn print_number(rt: &impl Print, n: usize) {
 // Bytes, two digits each, a space before each.
 pub fn print_bytes(rt: &impl Print, s: &[u8]) {
     for b in s {
-        print_text(rt, b" ");
-        print_text(rt, &pair(*b));
+        let _ = print!(rt; " {b:02X}");
     }
 }
 
 // A reply, and a new line: a command with its bytes, an outcome with its reason, or a refusal.
 pub fn print_reply(rt: &impl Print, reply: Reply, buffer: &[u8]) {
-    let answer = reply.answer;
-    answered(rt, answer, buffer);
+    answered(rt, reply.answer, buffer);
     print_text(rt, b"\n");
 }
 
@@ -55,9 +46,7 @@ pub fn print_reply_with_cvm(rt: &impl Print, reply: Reply, buffer: &[u8]) {
     let answer = reply.answer;
     answered(rt, answer, buffer);
     if let CallResult::Outcome(end) = answer {
-        print_text(rt, b" method ");
-        numbered(rt, end.cvm);
-        cvm_words(rt, end.cvm);
+        let _ = print!(rt; " method {} {}", end.cvm, cvm_words(end.cvm));
     }
     print_text(rt, b"\n");
 }
@@ -66,95 +55,62 @@ pub fn print_reply_with_cvm(rt: &impl Print, reply: Reply, buffer: &[u8]) {
 fn answered(rt: &impl Print, answer: CallResult, buffer: &[u8]) {
     match answer {
         CallResult::Command(issued) => {
-            command(rt, issued.size, buffer);
+            print_text(rt, b"command");
+            print_bytes(rt, front(buffer, issued.size));
         }
         CallResult::Outcome(end) => {
-            let outcome = end.outcome;
-            print_text(rt, b"outcome ");
-            print_number(rt, basics::widen(session_record::outcome_number(outcome)));
-            print_text(rt, b" reason ");
-            print_number(rt, basics::widen(end.reason));
+            let outcome = session_record::outcome_number(end.outcome);
+            let _ = print!(rt; "outcome {outcome} reason {}", end.reason);
         }
         CallResult::Refused(refusal) => {
-            print_text(rt, b"refused ");
-            print_number(rt, basics::widen(refusal.number));
+            let _ = print!(rt; "refused {}", refusal.number);
         }
     }
 }
 
-// A command: the front of the buffer.
-fn command(rt: &impl Print, size: usize, buffer: &[u8]) {
-    print_text(rt, b"command");
-    if size <= buffer.len() {
-        print_bytes(rt, &buffer[..size]);
-    }
-}
-
-// The two hexadecimal digits of a byte.
-fn pair(b: u8) -> [u8; 2] {
-    [digit(b / 16), digit(b % 16)]
-}
-
-// A hexadecimal digit of a number below 16.
-fn digit(n: u8) -> u8 {
-    if n < 10 {
-        return n + 48;
-    }
-    if n < 16 {
-        return n + 55;
-    }
-    48
+// The front of a buffer; none where it is shorter.
+fn front(buffer: &[u8], size: usize) -> &[u8] {
+    buffer.get(..size).unwrap_or(b"")
 }
 
 // ---- in words
 
 // A reply in words, with the count of commands handed out and the transaction limit, and a new line.
 pub fn print_reply_in_words(rt: &impl Print, reply: Reply, buffer: &[u8]) {
-    let answer = reply.answer;
-    print_result_in_words(rt, answer, buffer);
+    print_result_in_words(rt, reply.answer, buffer);
     let session = reply.session;
-    print_text(rt, b", count ");
-    print_number(rt, basics::widen(session_record::command_count(session)));
-    let phase = session.phase;
-    print_transaction_limit_of_phase(rt, phase);
+    let _ = print!(rt; ", count {}", session_record::command_count(session));
+    print_transaction_limit_of_phase(rt, session.phase);
     print_text(rt, b"\n");
 }
 
 // The transaction limit after a comma, where a phase holds one: an amount's twelve digits as a number.
 pub fn print_transaction_limit_of_phase(rt: &impl Print, phase: Phase) {
     if let Phase::Waiting(awaited) = phase {
-        awaited_limit(rt, awaited);
+        if let Some(limit) = limit_of(awaited) {
+            let _ = print!(rt; ", limit {limit}");
+        }
     }
 }
 
-fn awaited_limit(rt: &impl Print, awaited: AwaitedResponse) {
+fn limit_of(awaited: AwaitedResponse) -> Option<u64> {
     match awaited {
-        AwaitedResponse::Gpo => print_text(rt, b""),
-        AwaitedResponse::Record(place) => limit(rt, place.limit),
-        AwaitedResponse::Cryptogram(asked) => limit(rt, asked.limit),
-        AwaitedResponse::Checksum(checksum) => limit(rt, checksum.limit),
+        AwaitedResponse::Gpo => None,
+        AwaitedResponse::Record(place) => Some(place.limit),
+        AwaitedResponse::Cryptogram(asked) => Some(asked.limit),
+        AwaitedResponse::Checksum(checksum) => Some(checksum.limit),
     }
-}
-
-fn limit(rt: &impl Print, amount: u64) {
-    print_text(rt, b", limit ");
-    let _ = rt.print(amount);
 }
 
 // What a call returns, in words: a command by its name with its bytes, an outcome with its reason and the CVM,
 // or a refusal.
 pub fn print_result_in_words(rt: &impl Print, answer: CallResult, buffer: &[u8]) {
     match answer {
-        CallResult::Command(issued) => {
-            named_command(rt, issued.size, buffer);
-        }
-        CallResult::Outcome(end) => {
-            ending(rt, end);
-        }
+        CallResult::Command(issued) => named_command(rt, issued.size, buffer),
+        CallResult::Outcome(end) => ending(rt, end),
         CallResult::Refused(refusal) => {
-            print_text(rt, b"refused ");
-            numbered(rt, refusal.number);
-            refusal_words(rt, refusal.number);
+            let number = refusal.number;
+            let _ = print!(rt; "refused {number} {}", refusal_words(number));
         }
     }
 }
@@ -162,8 +118,7 @@ pub fn print_result_in_words(rt: &impl Print, answer: CallResult, buffer: &[u8])
 // A command by its name, with its bytes: the front of the buffer.
 fn named_command(rt: &impl Print, size: usize, buffer: &[u8]) {
     print_text(rt, b"command ");
-    if size <= buffer.len() {
-        let sent = &buffer[..size];
+    if let Some(sent) = buffer.get(..size) {
         command_name(rt, sent);
         print_text(rt, b":");
         print_bytes(rt, sent);
@@ -172,119 +127,103 @@ fn named_command(rt: &impl Print, size: usize, buffer: &[u8]) {
 
 // The name of a command, by its instruction byte (Book C-2, chapter 5).
 fn command_name(rt: &impl Print, sent: &[u8]) {
+    let p1 = basics::byte_at(sent, 2);
     match basics::byte_at(sent, 1) {
         0xA8 => print_text(rt, b"GET PROCESSING OPTIONS"),
-        0xB2 => record_name(rt, basics::byte_at(sent, 2), basics::byte_at(sent, 3)),
-        0xAE => cryptogram_name(rt, basics::byte_at(sent, 2)),
+        // The file is the top five bits of P2.
+        0xB2 => {
+            let file = basics::byte_at(sent, 3) / 8;
+            let _ = print!(rt; "READ RECORD file {file} record {p1}");
+        }
+        0xAE => print_text(rt, cryptogram_name(p1)),
         0x2A => print_text(rt, b"COMPUTE CRYPTOGRAPHIC CHECKSUM"),
         _ => print_text(rt, b"unknown"),
     }
 }
 
-// A record by its number, P1, and its file, the top five bits of P2.
-fn record_name(rt: &impl Print, p1: u8, p2: u8) {
-    print_text(rt, b"READ RECORD file ");
-    print_number(rt, basics::widen(p2 / 8));
-    print_text(rt, b" record ");
-    print_number(rt, basics::widen(p1));
-}
-
 // A cryptogram by what P1 requests.
-fn cryptogram_name(rt: &impl Print, p1: u8) {
+fn cryptogram_name(p1: u8) -> &'static [u8] {
     match p1 {
-        0x00 => print_text(rt, b"GENERATE AC decline"),
-        0x40 => print_text(rt, b"GENERATE AC offline"),
-        0x80 => print_text(rt, b"GENERATE AC online"),
-        _ => print_text(rt, b"GENERATE AC"),
+        0x00 => b"GENERATE AC decline",
+        0x40 => b"GENERATE AC offline",
+        0x80 => b"GENERATE AC online",
+        _ => b"GENERATE AC",
     }
 }
 
 // An outcome, its reason and the CVM, each by its number and in words.
 fn ending(rt: &impl Print, end: OutcomeParameters) {
-    let outcome = end.outcome;
-    print_outcome_in_words(rt, outcome, end.reason);
-    print_text(rt, b", method ");
-    numbered(rt, end.cvm);
-    cvm_words(rt, end.cvm);
+    print_outcome_in_words(rt, end.outcome, end.reason);
+    let _ = print!(rt; ", method {} {}", end.cvm, cvm_words(end.cvm));
 }
 
 // An outcome and its reason, each by its number and in words.
 pub fn print_outcome_in_words(rt: &impl Print, outcome: Outcome, reason: u8) {
-    print_text(rt, b"outcome ");
-    numbered(rt, session_record::outcome_number(outcome));
-    outcome_words(rt, outcome);
-    print_text(rt, b", reason ");
-    numbered(rt, reason);
-    print_reason_words(rt, reason);
-}
-
-// A number and a space.
-fn numbered(rt: &impl Print, n: u8) {
-    print_number(rt, basics::widen(n));
-    print_text(rt, b" ");
-}
-
-fn outcome_words(rt: &impl Print, outcome: Outcome) {
-    print_words_of_decimal(
-        rt,
-        session_record::outcome_number(outcome),
-        b"
-     0 approved
-     1 online request
-     2 declined
-     3 ended
-     4 select next",
+    let number = session_record::outcome_number(outcome);
+    let _ = print!(rt;
+        "outcome {number} {}, reason {reason} {}",
+        outcome_words(outcome),
+        reason_words(reason)
     );
+}
+
+// Kept: the type is `session_record`'s, so a `Display` of it cannot stand here.
+fn outcome_words(outcome: Outcome) -> &'static str {
+    match outcome {
+        Outcome::Approved => "approved",
+        Outcome::OnlineRequest => "online request",
+        Outcome::Declined => "declined",
+        Outcome::Ended => "ended",
+        Outcome::SelectNext => "select next",
+    }
 }
 
 // A reason in words.
 pub fn print_reason_words(rt: &impl Print, reason: u8) {
-    print_words_of_decimal(
-        rt,
-        reason,
-        b"
-     0 none
-     1 status of the card is not 90 00
-     2 answer is malformed
-     3 object that the card may not set so
-     4 mandatory object not sent by the card
-     5 Application File Locator breaks a rule
-     6 amount over the reader's transaction limit
-     7 PDOL, CDOL1 or UDOL cannot be filled
-     8 cryptogram of a type not asked for
-     9 no link to the card
-    10 stopped by the terminal
-    11 card without EMV mode, and mag-stripe mode is off",
-    );
+    let _ = rt.print(reason_words(reason));
+}
+
+fn reason_words(number: u8) -> &'static str {
+    match number {
+        0 => "none",
+        1 => "status of the card is not 90 00",
+        2 => "answer is malformed",
+        3 => "object that the card may not set so",
+        4 => "mandatory object not sent by the card",
+        5 => "Application File Locator breaks a rule",
+        6 => "amount over the reader's transaction limit",
+        7 => "PDOL, CDOL1 or UDOL cannot be filled",
+        8 => "cryptogram of a type not asked for",
+        9 => "no link to the card",
+        10 => "stopped by the terminal",
+        11 => "card without EMV mode, and mag-stripe mode is off",
+        _ => "unknown",
+    }
 }
 
 // The CVMs by their numbers (Book C-2, A.1.117; 4 is the kernel's own).
-fn cvm_words(rt: &impl Print, number: u8) {
-    print_words_of_decimal(
-        rt,
-        number,
-        b"
-     0 no CVM
-     1 signature
-     2 online PIN
-     3 confirmation code verified
-     4 offline PIN
-    15 not applicable",
-    );
+fn cvm_words(number: u8) -> &'static str {
+    match number {
+        0 => "no CVM",
+        1 => "signature",
+        2 => "online PIN",
+        3 => "confirmation code verified",
+        4 => "offline PIN",
+        15 => "not applicable",
+        _ => "unknown",
+    }
 }
 
-fn refusal_words(rt: &impl Print, number: u8) {
-    print_words_of_decimal(
-        rt,
-        number,
-        b"
-    20 more than 1,024 start bytes, or other than whole primitive objects
-    21 wrong phase
-    22 command buffer shorter than 261 bytes
-    23 start object not allowed
-    24 mandatory start object missing
-    25 session record out of its ranges",
-    );
+fn refusal_words(number: u8) -> &'static str {
+    match number {
+        20 => "more than 1,024 start bytes, or other than whole primitive objects",
+        21 => "wrong phase",
+        22 => "command buffer shorter than 261 bytes",
+        23 => "start object not allowed",
+        24 => "mandatory start object missing",
+        25 => "session record out of its ranges",
+        _ => "unknown",
+    }
 }
 
 // ---- objects
@@ -317,14 +256,7 @@ fn held_object(rt: &impl Print, number: u32, value: &[u8], in_bits: bool) {
 
 // A margin of four spaces and two more for each level, at most five.
 pub fn print_indentation(rt: &impl Print, levels: usize) {
-    match levels {
-        0 => print_text(rt, b"    "),
-        1 => print_text(rt, b"      "),
-        2 => print_text(rt, b"        "),
-        3 => print_text(rt, b"          "),
-        4 => print_text(rt, b"            "),
-        _ => print_text(rt, b"              "),
-    }
+    let _ = print!(rt; "{:1$}", "", 4 + 2 * levels.min(5));
 }
 
 // A tag and its name.
@@ -339,19 +271,17 @@ pub fn print_object_line(rt: &impl Print, number: u32, value: &[u8]) {
     print_tag_and_name(rt, number);
     print_text(rt, b":");
     print_bytes(rt, value);
-    if value.len() == 0 {
+    if value.is_empty() {
         print_text(rt, b" empty");
     }
     print_text(rt, b"\n");
 }
 
-// A tag in hexadecimal digits.
+// A tag in hexadecimal digits, two for each byte of it, at most three.
 pub fn print_tag(rt: &impl Print, number: u32) {
-    if 65535 < number {
-        print_text(rt, &pair((number / 65536 % 256) as u8));
-    }
-    if 255 < number {
-        print_text(rt, &pair((number / 256 % 256) as u8));
-    }
-    print_text(rt, &pair((number % 256) as u8));
+    let _ = match number {
+        0..=0xFF => print!(rt; "{number:02X}"),
+        0x100..=0xFFFF => print!(rt; "{number:04X}"),
+        _ => print!(rt; "{:06X}", number % 0x1000000),
+    };
 }

@@ -11,7 +11,6 @@ use Rattle.reading.specs.declared.Reading.{Reading}
 use Rattle.reading.specs.Answer.{verdict_number, ReadingOutcome, read_answer}
 use Rattle.reading.specs.Inner.{reading_of}
 use Rattle.reading.specs.Both.{ReadAnswerPromises, ReadersAgree}
-use Rattle.reading.proofs.Stages.{Whole}
 
 verdict_of : ℕ → ResponseVerdict
 verdict_of zero = Accepted
@@ -26,21 +25,18 @@ verdict_is BadStatus = refl
 verdict_is Malformed = refl
 verdict_is NotAllowed = refl
 
-module _ (a : Awaited) (s b : List ℕ) (r : Reading) (c : List ℕ) (p : Whole a s b r c) where
-  pub answered : ReadAnswerPromises a s b r c
-  answered = record { given = p.0; sized = p.1.0; half = p.1.1.0; tree = p.1.1.1 }
-
-  pub agree : (d : List ℕ) (q : Reading) (e : List ℕ) → Whole a s d q e → b ≡ d
+module _ {a : Awaited} {s b : List ℕ} {r : Reading} {c : List ℕ} (p : ReadAnswerPromises a s b r c) where
+  pub agree : {d : List ℕ} {q : Reading} {e : List ℕ} → ReadAnswerPromises a s d q e → b ≡ d
       → ReadersAgree (record { recursive = r; flat = q }) c e
-  agree d q e o z =
+  agree {d} {q} {e} o z =
       let same : read_answer a b s ≡ read_answer a d s = ap (λ (x : List ℕ). read_answer a x s) z in
-      let number : verdict_number r.verdict ≡ verdict_number q.verdict = p.0.reason
-      ∙ ap (λ (x : ReadingOutcome). x.reason) same ∙ sym o.0.reason in
-      let objects : r.objects ≡ q.objects = p.0.objects ∙ ap (λ (x : ReadingOutcome). x.objects) same
-      ∙ sym o.0.objects in
+      let number : verdict_number r.verdict ≡ verdict_number q.verdict = p.given.reason
+      ∙ ap (λ (x : ReadingOutcome). x.reason) same ∙ sym o.given.reason in
+      let objects : r.objects ≡ q.objects = p.given.objects ∙ ap (λ (x : ReadingOutcome). x.objects) same
+      ∙ sym o.given.objects in
       let verdict : r.verdict ≡ q.verdict = verdict_is r.verdict ∙ ap verdict_of number
       ∙ sym (verdict_is q.verdict) in
       record {
         readings = ap₂ reading_of verdict objects;
-        stores = p.0.store ∙ ap (λ (x : ReadingOutcome). x.store) same ∙ sym o.0.store;
+        stores = p.given.store ∙ ap (λ (x : ReadingOutcome). x.store) same ∙ sym o.given.store;
       }

@@ -1,10 +1,10 @@
 -- The count that the reading's steps give is that of the whole tree. The tree of a body that is one object is that
 -- object at four levels, with its contents' tree at three.
 -- Assumes nothing.
+use Rattle.std.specs.Prelude.{Some, None, Option}
 use mathlib.Core.Path.{◌≡◌, refl, sym, ap, ◌∙◌}
 use mathlib.Core.Logic.{inl, inr}
 use mathlib.Core.List.{List, []}
-use mathlib.Core.Option.{Option, some, none}
 use Prim.Native.Nat.{ℕ, ◌+◌, ◌-◌, ◌*◌, ◌≤◌}
 use native.Mathlib.Omega.{arith}
 use lib.ListN.{length, take, length-take, drop_of_length-le}
@@ -12,8 +12,6 @@ use borrow.Author.Tests.{eq-eqb, ne_eqb}
 use Rattle.basics.proofs.Laws.{if_yes, if_no, if_ind, bool_cases, both_true, both_no_left}
 use Rattle.basics.proofs.Order.{equal_or_not}
 use Rattle.tlv.specs.declared.TlvHeader.{TlvHeader}
-use Rattle.tlv.specs.declared.ObjectFront.{ObjectFront}
-use Rattle.tlv.specs.declared.ObjectFront.TheVariants.{Object, Broken}
 use Rattle.tlv.specs.Object.{header_of, header_value, behind_object}
 use Rattle.tlv.specs.Tree.{Forest, end, object_count, prepend_leaf, prepend_node, parse_tree}
 use Rattle.tlv.proofs.NextObject.{next-empty, next_object}
@@ -32,24 +30,24 @@ use Rattle.reading.proofs.Parts.{body_broken, body_behind, body_template, body_p
 
 -- the count of the body that the steps go by, 0 where there is none
 abbrev step_count : Option ResponseBody → ℕ
-step_count none = 0
-step_count (some b) = body_object_count b
+step_count None = 0
+step_count (Some b) = body_object_count b
 
-leaf_alone : (t : ℕ) (v : List ℕ) → tree_object_count (prepend_leaf t v (some end)) ≡ 1
+leaf_alone : (t : ℕ) (v : List ℕ) → tree_object_count (prepend_leaf t v (Some end)) ≡ 1
 unfolding prepend_leaf object_count
 leaf_alone t v = refl
 
-node_alone : (t : ℕ) (x : Option Forest) → tree_object_count (prepend_node t x (some end)) ≡ step_count (template_body t x)
+node_alone : (t : ℕ) (x : Option Forest) → tree_object_count (prepend_node t x (Some end)) ≡ step_count (template_body t x)
 unfolding prepend_node object_count
-node_alone t none = refl
-node_alone t (some f) = omega arith
+node_alone t None = refl
+node_alone t (Some f) = omega arith
 
 module _ (s : List ℕ) where
-  no_object : header_of s ≡ Broken → object_count_in_body s ≡ 0
+  no_object : header_of s ≡ None → object_count_in_body s ≡ 0
   unfolding object_count_in_body
   no_object e = if_no _ _ (ap (object_spans_all_bytes s) e)
 
-  module _ (h : TlvHeader) (e : header_of s ≡ Object h) where
+  module _ (h : TlvHeader) (e : header_of s ≡ Some h) where
     with_more : (h.start + h.len ≡ length s → ⊥) → object_count_in_body s ≡ 0
     unfolding object_count_in_body
     with_more n = if_no _ _ (ap (object_spans_all_bytes s) e ∙ ne_eqb _ _ n)
@@ -59,7 +57,7 @@ module _ (s : List ℕ) where
       unfolding object_count_in_body
       of_tree x p = if_yes _ _ (ap (object_spans_all_bytes s) e ∙ eq-eqb _ _ z) ∙ ap tree_object_count p
 
-      none_behind : parse_tree 4 (behind_object s h) ≡ some end
+      none_behind : parse_tree 4 (behind_object s h) ≡ Some end
       none_behind = let l : length s ≤ h.start + h.len = omega arith in
           rw (drop_of_length-le s l) (parse_end 4 [] (next-empty [] refl))
 
@@ -77,9 +75,9 @@ module _ (s : List ℕ) where
   by_steps : object_count_in_body s ≡ step_count (parse_response_body s)
   by_steps = go (header_of s) refl
     where
-      go : (x : ObjectFront) → header_of s ≡ x → object_count_in_body s ≡ step_count (parse_response_body s)
-      go Broken e = no_object e ∙ sym (ap step_count (body_broken s e))
-      go (Object h) e = elim (equal_or_not (h.start + h.len) (length s)) [
+      go : (x : Option TlvHeader) → header_of s ≡ x → object_count_in_body s ≡ step_count (parse_response_body s)
+      go None e = no_object e ∙ sym (ap step_count (body_broken s e))
+      go (Some h) e = elim (equal_or_not (h.start + h.len) (length s)) [
         | inl z ↦ alone h e z
         | inr n ↦ with_more h e n ∙ sym (ap step_count (body_behind s h e n))
       ]
@@ -88,12 +86,12 @@ module _ (s : List ℕ) where
 
 module _ (a : Awaited) (b : List ℕ) where
   parts_count : (n : ℕ) (x : Option (List PrimitiveItem)) → (read_body_items a b n x).objects ≡ n
-  parts_count n none = refl
-  parts_count n (some is) = if_ind (λ (o : ReadingOutcome). o.objects ≡ n) _ _ _ (λ g. refl) (λ g. refl)
+  parts_count n None = refl
+  parts_count n (Some is) = if_ind (λ (o : ReadingOutcome). o.objects ≡ n) _ _ _ (λ g. refl) (λ g. refl)
 
   tree_count : (x : Option ResponseBody) → (read_parsed_body a b x).objects ≡ step_count x
-  tree_count none = refl
-  tree_count (some body) = parts_count (body_object_count body) (response_body_items a body)
+  tree_count None = refl
+  tree_count (Some body) = parts_count (body_object_count body) (response_body_items a body)
 
   pub body_count : (s : List ℕ) → (read_body a b s).objects ≡ object_count_in_body s
   unfolding read_body
@@ -120,8 +118,8 @@ module _ {r : Reading} (a : Awaited) (b s : List ℕ) {c : List ℕ} where
 -- ---- an object has two bytes at least, and the two status bytes belong to none
 
 tree_half : (v : List ℕ) (x : Option Forest) → parse_tree 4 v ≡ x → 2 * tree_object_count x ≤ length v
-tree_half v none e = omega arith
-tree_half v (some f) e = parse_count 4 v f e
+tree_half v None e = omega arith
+tree_half v (Some f) e = parse_count 4 v f e
 
 body_half : (s : List ℕ) → 2 * object_count_in_body s ≤ length s
 unfolding object_count_in_body

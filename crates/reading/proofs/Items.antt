@@ -1,6 +1,8 @@
 -- Objects in numbers, on lists and numbers: the laws of packing, a part of the bytes and the object in it, and what one
 -- step of a walk does to the list and to what the walk must find (`TemplateWalkHasRoom`).
 -- Assumes nothing.
+use Rattle.std.specs.Prelude.{Option, Some, None}
+use Rattle.tlv.specs.declared.TlvLength.{TlvLength}
 use mathlib.Core.Path.{◌≡◌, refl, sym, ap, ap₂, ◌∙◌}
 use mathlib.Core.List.{List, [], ◌∷◌, ◌++◌}
 use Prim.Native.Nat.{ℕ, zero, suc, ◌+◌, ◌-◌, ◌≤◌, ◌<◌}
@@ -11,13 +13,7 @@ use lib.Seq.{take-nil, take-take, take-suc-set, drop-drop, drop-cons, get_or-dro
 use Rattle.basics.specs.Number.{big_endian_number}
 use Rattle.basics.proofs.Laws.{if_ind}
 use Rattle.tlv.specs.declared.Tag.{Tag}
-use Rattle.tlv.specs.declared.TagFront.{TagFront}
-use Rattle.tlv.specs.declared.TagFront.TheVariants.{Tagged, Untagged}
-use Rattle.tlv.specs.declared.LengthFront.{LengthFront}
-use Rattle.tlv.specs.declared.LengthFront.TheVariants.{Sized, Unsized}
 use Rattle.tlv.specs.declared.TlvHeader.{TlvHeader}
-use Rattle.tlv.specs.declared.ObjectFront.{ObjectFront}
-use Rattle.tlv.specs.declared.ObjectFront.TheVariants.{Object, Broken}
 use Rattle.tlv.specs.Tag.{tag_at}
 use Rattle.tlv.specs.Length.{length_at}
 use Rattle.tlv.specs.Object.{header_of, header_with_length, header_with_tag, header_value, behind_object}
@@ -157,22 +153,22 @@ small_number s (suc (suc zero)) b h l n = rw (number_two s l) (omega (arith, b 0
 small_number s (suc (suc (suc zero))) b h l n = rw (number_three s l) (omega (arith, b 0, b 1, b 2))
 small_number s (suc (suc (suc (suc k)))) b h l n = absurd (omega arith)
 
-abbrev SmallTag : ObjectFront → Type 0
-SmallTag Broken = Unit {0}
-SmallTag (Object h) = h.tag < 0x1000000
+abbrev SmallTag : Option TlvHeader → Type 0
+SmallTag None = Unit {0}
+SmallTag (Some h) = h.tag < 0x1000000
 
-small_length : (s : List ℕ) (t : Tag) (x : LengthFront) → t.number < 0x1000000 → SmallTag (header_with_length s t x)
-small_length s t Unsized h = tt
-small_length s t (Sized e) h = if_ind SmallTag _ _ _ (λ _. h) (λ _. tt)
+small_length : (s : List ℕ) (t : Tag) (x : Option TlvLength) → t.number < 0x1000000 → SmallTag (header_with_length s t x)
+small_length s t None h = tt
+small_length s t (Some e) h = if_ind SmallTag _ _ _ (λ _. h) (λ _. tt)
 
-small_tag : (s : List ℕ) (x : TagFront) → Bytes s → tag_at s ≡ x → SmallTag (header_with_tag s x)
-small_tag s Untagged b e = tt
-small_tag s (Tagged t) b e =
+small_tag : (s : List ℕ) (x : Option Tag) → Bytes s → tag_at s ≡ x → SmallTag (header_with_tag s x)
+small_tag s None b e = tt
+small_tag s (Some t) b e =
     let f = tag_fits s t e in
     small_length s t (length_at (drop t.size s))
     (rw f.reads (small_number s t.size b f.few f.inside (λ z. omega (arith, f.some))))
 
-pub tag_small : (s : List ℕ) (h : TlvHeader) → Bytes s → header_of s ≡ Object h → h.tag < 0x1000000
+pub tag_small : (s : List ℕ) (h : TlvHeader) → Bytes s → header_of s ≡ Some h → h.tag < 0x1000000
 unfolding header_of
 tag_small s h b e = rw e at (small_tag s (tag_at s) b refl)
 

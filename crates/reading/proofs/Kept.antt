@@ -1,11 +1,11 @@
 -- What a reading leaves of a store: one induction over the objects that are put, and from it that rows only ever gain a
 -- value where they held none, that rows not named are untouched, and that the store keeps its size.
 -- Assumes nothing.
+use Rattle.std.specs.Prelude.{Some, None, Option}
 use mathlib.Core.Path.{◌≡◌, refl, sym, ap, ◌∙◌}
 use mathlib.Core.Bool.{true}
 use mathlib.Core.Logic.{◌⊎◌, inl, inr}
 use mathlib.Core.List.{List, [], ◌∷◌}
-use mathlib.Core.Option.{Option, some, none}
 use Prim.Native.Nat.{ℕ, ◌-◌, ◌<◌}
 use native.Mathlib.Omega.{arith}
 use lib.ListN.{length, take}
@@ -13,8 +13,6 @@ use borrow.Author.Tests.{eqb-true}
 use Rattle.basics.specs.Number.{has_bit_of_weight}
 use Rattle.basics.proofs.Laws.{if_ind, both_left, both_right}
 use Rattle.basics.proofs.Order.{equal_or_not}
-use Rattle.dictionary.specs.declared.RowFound.{RowFound}
-use Rattle.dictionary.specs.declared.RowFound.TheVariants.{At, Unknown}
 use Rattle.dictionary.specs.Rows.{dictionary_rows, row_at, find_row, row_count, store_size}
 use Rattle.dictionary.specs.Form.{length_and_digits_fit_row}
 use Rattle.dictionary.proofs.Find.{found}
@@ -39,7 +37,7 @@ pub record Put (answer : ℕ) (b : List ℕ) (k : ℕ) (i : PrimitiveItem) : Typ
   pub brought : has_bit_of_weight (row_at k).answers answer ≡ true
   pub free : is_row_absent_or_empty dictionary_rows b k ≡ true
 
-put_of : (answer : ℕ) (b : List ℕ) (i : PrimitiveItem) (k : ℕ) → find_row dictionary_rows i.tag ≡ At k
+put_of : (answer : ℕ) (b : List ℕ) (i : PrimitiveItem) (k : ℕ) → find_row dictionary_rows i.tag ≡ Some k
     → row_allows_value_and_absent_or_empty answer b k i.around i.value ≡ true → Put answer b k i
 unfolding row_allows_value_and_absent_or_empty row_allows_value_from_card
 put_of answer b i k e a =
@@ -75,7 +73,7 @@ module _ (P : List ℕ → Type 0) (Q : PrimitiveItem → Type 0) (answer : ℕ)
   abbrev Holds : List ℕ → Type 0
   Holds b = (length b ≡ store_size) × P b
 
-  known_holds : (b : List ℕ) (i : PrimitiveItem) (k : ℕ) → find_row dictionary_rows i.tag ≡ At k → Q i → Holds b
+  known_holds : (b : List ℕ) (i : PrimitiveItem) (k : ℕ) → find_row dictionary_rows i.tag ≡ Some k → Q i → Holds b
       → Holds (store_known_item answer b i k).store
   known_holds b i k e q h =
       if_ind (λ (w : StoringState). Holds w.store) _ _ _ (λ s. h)
@@ -86,9 +84,9 @@ module _ (P : List ℕ → Type 0) (Q : PrimitiveItem → Type 0) (answer : ℕ)
   unfolding store_item
   item_holds b i q h = go (find_row dictionary_rows i.tag) refl
     where
-      go : (x : RowFound) → find_row dictionary_rows i.tag ≡ x → Holds (store_item_of_row_found answer b i x).store
-      go Unknown e = h
-      go (At k) e = known_holds b i k e q h
+      go : (x : Option ℕ) → find_row dictionary_rows i.tag ≡ x → Holds (store_item_of_row_found answer b i x).store
+      go None e = h
+      go (Some k) e = known_holds b i k e q h
 
   next_holds : (w : StoringState) (i : PrimitiveItem) → Q i → Holds w.store → Holds (store_next_item answer w i).store
   unfolding store_next_item
@@ -117,14 +115,14 @@ module _ (P : List ℕ → Type 0) (a : Awaited)
   Good b = (length b ≡ store_size) × P b
 
   parts_hold : (b : List ℕ) (n : ℕ) (x : Option (List PrimitiveItem)) → Good b → Good (read_body_items a b n x).store
-  parts_hold b n none h = h
-  parts_hold b n (some is) h =
+  parts_hold b n None h = h
+  parts_hold b n (Some is) h =
       if_ind (λ (o : ReadingOutcome). Good o.store) _ _ _
       (λ g. all_holds P any (response_bit a) step (storing_state true b) is (all_any is) h) (λ g. h)
 
   tree_holds : (b : List ℕ) (x : Option ResponseBody) → Good b → Good (read_parsed_body a b x).store
-  tree_holds b none h = h
-  tree_holds b (some body) h = parts_hold b (body_object_count body) (response_body_items a body) h
+  tree_holds b None h = h
+  tree_holds b (Some body) h = parts_hold b (body_object_count body) (response_body_items a body) h
 
   pub read_holds : (b s : List ℕ) → Good b → Good (read_answer a b s).store
   unfolding read_answer read_body

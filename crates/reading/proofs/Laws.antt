@@ -1,4 +1,5 @@
 -- The laws of taking objects: one for each way an object goes, and objects one after the other. Assumes nothing.
+use Rattle.std.specs.Prelude.{Option, Some, None}
 use mathlib.Core.Path.{◌≡◌, refl, sym, ap, ◌∙◌}
 use mathlib.Core.Bool.{Bool, true, false, not}
 use mathlib.Core.List.{List, [], ◌∷◌}
@@ -6,8 +7,6 @@ use Prim.Native.Nat.{ℕ}
 use Rattle.basics.specs.Choice.{both}
 use Rattle.basics.proofs.Laws.{if_yes, if_no, both_true, both_right, both_no_left}
 use Rattle.tlv.specs.Tag.{is_private}
-use Rattle.dictionary.specs.declared.RowFound.{RowFound}
-use Rattle.dictionary.specs.declared.RowFound.TheVariants.{At, Unknown}
 use Rattle.dictionary.specs.declared.RowAttributes.{RowAttributes}
 use Rattle.dictionary.specs.Rows.{Row, dictionary_rows, row_at, find_row}
 use Rattle.dictionary.specs.Packing.{attributes_of, row_with_attributes_and_tag_zero}
@@ -20,12 +19,12 @@ use Rattle.reading.specs.Taking.{store_next_item, store_all_items}
 
 -- ---- one object
 
-module _ (answer : ℕ) (b : List ℕ) (i : PrimitiveItem) (x : RowFound) (p : x ≡ find_row dictionary_rows i.tag) where
-  pub item_unknown : x ≡ Unknown → store_item answer b i ≡ storing_state true b
+module _ (answer : ℕ) (b : List ℕ) (i : PrimitiveItem) (x : Option ℕ) (p : x ≡ find_row dictionary_rows i.tag) where
+  pub item_unknown : x ≡ None → store_item answer b i ≡ storing_state true b
   unfolding store_item
   item_unknown q = ap (store_item_of_row_found answer b i) (sym p ∙ q)
 
-  module _ (k : ℕ) (q : x ≡ At k) where
+  module _ (k : ℕ) (q : x ≡ Some k) where
     known : store_item answer b i ≡ store_known_item answer b i k
     unfolding store_item
     known = ap (store_item_of_row_found answer b i) (sym p ∙ q)

@@ -1,6 +1,7 @@
 -- Pending values, on lists and numbers: what is said of an object is what the rules say of it, what one value more does
 -- to the store with them in it, which rows have no bytes then, and the judgement one object on (`Judging`).
 -- Assumes nothing.
+use Rattle.std.specs.Prelude.{Option, Some, None, Result, Ok, Err}
 use mathlib.Core.Path.{◌≡◌, refl, sym, ap, ap₂, subst, ◌∙◌}
 use mathlib.Core.Bool.{Bool, true, false, not}
 use mathlib.Core.Logic.{◌⊎◌, inl, inr}
@@ -18,8 +19,6 @@ use Rattle.basics.proofs.Laws.{both_no_right}
 use Rattle.basics.proofs.Order.{equal_or_not, le-or-gt}
 use Rattle.tlv.specs.Tag.{is_private}
 use Rattle.dictionary.specs.declared.RowAttributes.{RowAttributes}
-use Rattle.dictionary.specs.declared.RowFound.{RowFound}
-use Rattle.dictionary.specs.declared.RowFound.TheVariants.{At, Unknown}
 use Rattle.dictionary.specs.Rows.{dictionary_rows, row_at, row_count, find_row, store_size}
 use Rattle.dictionary.specs.Packing.{attributes_of, row_with_attributes_and_tag_zero}
 use Rattle.dictionary.proofs.Fit.{fits_length}
@@ -28,8 +27,8 @@ use Rattle.store.specs.Place.{StoredValue, bytes_or_empty_if_absent, row_offset,
 use Rattle.store.specs.Place.{put_row}
 use Rattle.store.proofs.Laws.{Fits, put_length, put-get, put_other, length_byte_at}
 use Rattle.store.proofs.Rows.{fits_row, free_yes, free_no}
-use Rattle.reading.specs.declared.ItemVerdict.{ItemVerdict}
-use Rattle.reading.specs.declared.ItemVerdict.TheVariants.{Skipped, NotAllowed, ForRow}
+use Rattle.reading.specs.declared.ResponseVerdict.{ResponseVerdict}
+use Rattle.reading.specs.declared.ResponseVerdict.TheVariants.{NotAllowed}
 use Rattle.reading.specs.Taking.{PrimitiveItem, card_may_set, row_allows_value_from_card}
 use Rattle.reading.specs.Taking.{row_allows_value_and_absent_or_empty, StoringState, storing_state}
 use Rattle.reading.specs.Taking.{store_known_item, store_item_of_row_found, store_item, store_next_item, store_all_items}
@@ -56,7 +55,7 @@ judged_known answer b i k = by_tests (both (is_private i.tag) (not (card_may_set
         (if (both a (is_row_absent_or_empty dictionary_rows b k))
         (storing_state true (put_row dictionary_rows b k i.value))
         (storing_state false b))
-        ≡ store_judged_item b i (if p Skipped (if a (ForRow k) NotAllowed))
+        ≡ store_judged_item b i (if p (Ok None) (if a (Ok (Some k)) (Err NotAllowed)))
     by_tests true a = refl
     by_tests false true = refl
     by_tests false false = refl
@@ -66,39 +65,39 @@ pub item_judged : (answer : ℕ) (b : List ℕ) (i : PrimitiveItem)
 unfolding store_item
 item_judged answer b i = go (find_row dictionary_rows i.tag)
   where
-    go : (x : RowFound) → store_item_of_row_found answer b i x ≡ store_judged_item b i (judge_item_of_row_found answer i x)
-    go Unknown = refl
-    go (At k) = judged_known answer b i k
+    go : (x : Option ℕ) → store_item_of_row_found answer b i x ≡ store_judged_item b i (judge_item_of_row_found answer i x)
+    go None = refl
+    go (Some k) = judged_known answer b i k
 
--- a value that is for a row fits it
-abbrev ForFits : PrimitiveItem → ItemVerdict → Type 0
-ForFits i Skipped = Unit {0}
-ForFits i NotAllowed = Unit {0}
-ForFits i (ForRow k) = (k < row_count) × (length i.value ≤ (row_at k).greatest)
+-- a value that is for a row fits it, and one other verdict is reported
+abbrev ForFits : PrimitiveItem → Result (Option ℕ) ResponseVerdict → Type 0
+ForFits i (Ok None) = Unit {0}
+ForFits i (Err v) = v ≡ NotAllowed
+ForFits i (Ok (Some k)) = (k < row_count) × (length i.value ≤ (row_at k).greatest)
 
-pub row_fits : (answer : ℕ) (i : PrimitiveItem) {k : ℕ} → judge_item answer i ≡ ForRow k → (k < row_count)
-    × (length i.value ≤ (row_at k).greatest)
+pub row_fits : (answer : ℕ) (i : PrimitiveItem) {r : Result (Option ℕ) ResponseVerdict} → judge_item answer i ≡ r
+    → ForFits i r
 unfolding judge_known_item
 row_fits answer i e = subst (ForFits i) e (go (find_row dictionary_rows i.tag) refl)
   where
-    go : (x : RowFound) → find_row dictionary_rows i.tag ≡ x → ForFits i (judge_item_of_row_found answer i x)
-    go Unknown q = tt
-    go (At k) q =
+    go : (x : Option ℕ) → find_row dictionary_rows i.tag ≡ x → ForFits i (judge_item_of_row_found answer i x)
+    go None q = tt
+    go (Some k) q =
         if_ind (ForFits i) _ _ _ (λ _. tt)
         (λ _. if_ind (ForFits i) _ _ _
         (λ a. (
           row-found i.tag q,
           (fits_length (row_at k) i.value (may_come_fits answer (row_at k) i.around i.value a)).1,
-        )) (λ _. tt))
+        )) (λ _. refl))
 
 -- ---- an object's number, as the code judges it: its tag, its row's attributes, the template around it and its value
 
 -- what is said where c is whether it may come into row k
 pub record Said (answer : ℕ) (s : List ℕ) (n k : ℕ) (c : Bool) : Type 0 where
-  pub barred : c ≡ false → NotAllowed ≡ judge_item answer (unpacked_item s n)
-  pub row : c ≡ true → ForRow k ≡ judge_item answer (unpacked_item s n)
+  pub barred : c ≡ false → Err NotAllowed ≡ judge_item answer (unpacked_item s n)
+  pub row : c ≡ true → Ok (Some k) ≡ judge_item answer (unpacked_item s n)
 
-module _ (answer : ℕ) (s : List ℕ) (n : ℕ) {tag : ℕ} (t : tag ≡ packed_item_tag n) {x : RowFound}
+module _ (answer : ℕ) (s : List ℕ) (n : ℕ) {tag : ℕ} (t : tag ≡ packed_item_tag n) {x : Option ℕ}
     (p : x ≡ find_row dictionary_rows tag) where
   abbrev object : PrimitiveItem
   object = unpacked_item s n
@@ -106,10 +105,7 @@ module _ (answer : ℕ) (s : List ℕ) (n : ℕ) {tag : ℕ} (t : tag ≡ packed
   by_row : judge_item answer object ≡ judge_item_of_row_found answer object x
   by_row = ap (judge_item_of_row_found answer object) (sym (p ∙ ap (find_row dictionary_rows) t))
 
-  pub said_unknown : x ≡ Unknown → Skipped ≡ judge_item answer object
-  said_unknown q = sym (by_row ∙ ap (judge_item_of_row_found answer object) q)
-
-  module _ (k : ℕ) (q : x ≡ At k) {a : RowAttributes} (u : a ≡ attributes_of (row_at k)) {z : Bool}
+  module _ (k : ℕ) (q : x ≡ Some k) {a : RowAttributes} (u : a ≡ attributes_of (row_at k)) {z : Bool}
       (e : z ≡ both (is_private tag) (not (card_may_set (row_with_attributes_and_tag_zero a)))) where
     known : judge_item answer object ≡ judge_known_item answer object k
     known = by_row ∙ ap (judge_item_of_row_found answer object) q
@@ -117,7 +113,7 @@ module _ (answer : ℕ) (s : List ℕ) (n : ℕ) {tag : ℕ} (t : tag ≡ packed
     skips : z ≡ both (is_private (packed_item_tag n)) (not (card_may_set (row_at k)))
     skips = row_skipped tag (row_at k) e u ∙ ap (λ (m : ℕ). both (is_private m) (not (card_may_set (row_at k)))) t
 
-    pub said_skipped : z ≡ true → Skipped ≡ judge_item answer object
+    pub said_skipped : z ≡ true → Ok None ≡ judge_item answer object
     unfolding judge_known_item
     said_skipped y = sym (known ∙ if_yes _ _ (sym skips ∙ y))
 
@@ -363,7 +359,7 @@ module _ {answer : ℕ} {s b l₀ : List ℕ} {n : ℕ} {l filled : List ℕ} {p
         ∙ ap (λ (y : ℕ). unpacked_item s y ∷ left) (sym x-is)
 
     -- by what is said of it
-    next_taken : (v : ItemVerdict) → v ≡ judge_item answer (unpacked_item s x)
+    next_taken : (v : Result (Option ℕ) ResponseVerdict) → v ≡ judge_item answer (unpacked_item s x)
         → store_all_items answer (storing_state true b) (unpacked_first_items s n l₀) ≡ store_all_items answer
         (store_judged_item (store_with_pending s b (take p l)) (unpacked_item s x) v) left
     next_taken v e =
@@ -375,13 +371,18 @@ module _ {answer : ℕ} {s b l₀ : List ℕ} {n : ℕ} {l filled : List ℕ} {p
 
 -- an object that is next, and what is said of it
 pub record NextItem (answer : ℕ) (s b l₀ : List ℕ) (n : ℕ) (l filled : List ℕ) (p i : ℕ)
-    (w : Judging answer s b l₀ n l filled p i) (v : ItemVerdict) : Type 0 where
+    (w : Judging answer s b l₀ n l filled p i) (v : Result (Option ℕ) ResponseVerdict) : Type 0 where
   pub list : IsItemList s n l₀
   pub more : i < n
   pub says : v ≡ judge_item answer (unpacked_item s (get_or l i 0))
 
+pub next_item : {answer : ℕ} {s b l₀ : List ℕ} {n : ℕ} {l filled : List ℕ} {p i : ℕ} {v : Result (Option ℕ) ResponseVerdict}
+    → IsItemList s n l₀ → (w : Judging answer s b l₀ n l filled p i) → i < n
+    → v ≡ judge_item answer (unpacked_item s (get_or l i 0)) → NextItem answer s b l₀ n l filled p i w v
+next_item g w m e = record { list = g; more = m; says = e }
+
 module _ {answer : ℕ} {s b l₀ : List ℕ} {n : ℕ} {l filled : List ℕ} {p i : ℕ}
-    {w : Judging answer s b l₀ n l filled p i} {v : ItemVerdict}
+    {w : Judging answer s b l₀ n l filled p i} {v : Result (Option ℕ) ResponseVerdict}
     (z : NextItem answer s b l₀ n l filled p i w v) where
   abbrev item : ℕ
   item = get_or l i 0
@@ -396,10 +397,10 @@ module _ {answer : ℕ} {s b l₀ : List ℕ} {n : ℕ} {l filled : List ℕ} {p
   abbrev All : StoringState
   All = store_all_items answer (storing_state true b) (unpacked_first_items s n l₀)
 
-  taken : {u : ItemVerdict} → v ≡ u → All ≡ store_all_items answer (store_judged_item laid (unpacked_item s item) u) behind
+  taken : {u : Result (Option ℕ) ResponseVerdict} → v ≡ u → All ≡ store_all_items answer (store_judged_item laid (unpacked_item s item) u) behind
   taken {u} q = next_taken z.list w z.more u (sym q ∙ z.says)
 
-  pub judged_skipped : v ≡ Skipped → Judging answer s b l₀ n l filled p (i + 1)
+  pub judged_skipped : v ≡ Ok None → Judging answer s b l₀ n l filled p (i + 1)
   judged_skipped q = record {
     room = w.room;
     few = omega (arith, w.few);
@@ -409,16 +410,16 @@ module _ {answer : ℕ} {s b l₀ : List ℕ} {n : ℕ} {l filled : List ℕ} {p
     same = taken q;
   }
 
-  pub judged_barred : v ≡ NotAllowed → All.good ≡ false
-  judged_barred q = ap (λ (t : StoringState). t.good) (taken q) ∙ all_bad answer laid behind refl
-
-  pub list_length : length l ≡ most_listed_items
-  list_length = w.room
+  pub judged_barred : {d : ResponseVerdict} → v ≡ Err d → (d ≡ NotAllowed) × (All.good ≡ false)
+  judged_barred q = (
+    row_fits answer (unpacked_item s item) (sym z.says ∙ q),
+    ap (λ (t : StoringState). t.good) (taken q) ∙ all_bad answer laid behind refl,
+  )
 
   pub pending_room : p < most_listed_items
   pending_room = omega (arith, w.few, z.more, z.list.few)
 
-  module _ {k : ℕ} (q : v ≡ ForRow k) where
+  module _ {k : ℕ} (q : v ≡ Ok (Some k)) where
     pub row_is : (k < row_count) × (packed_item_value_length item ≤ (row_at k).greatest)
     row_is =
         let f = row_fits answer (unpacked_item s item) (sym z.says ∙ q) in
@@ -428,9 +429,9 @@ module _ {answer : ℕ} {s b l₀ : List ℕ} {n : ℕ} {l filled : List ℕ} {p
       free_is : r ≡ is_row_absent_or_empty dictionary_rows laid k
       free_is = o ∙ sym (w.values.free k row_is.0)
 
-      pub judged_again : r ≡ false → All.good ≡ false
-      judged_again d = ap (λ (t : StoringState). t.good) (taken q)
-          ∙ all_bad answer laid behind (if_no _ _ (sym free_is ∙ d))
+      pub judged_again : r ≡ false → (NotAllowed ≡ NotAllowed) × (All.good ≡ false)
+      judged_again d =
+          (refl, ap (λ (t : StoringState). t.good) (taken q) ∙ all_bad answer laid behind (if_no _ _ (sym free_is ∙ d)))
 
       pub judged_put : r ≡ true
           → Judging answer s b l₀ n (set l p (packed_pending_entry k item))
@@ -460,26 +461,15 @@ module _ {answer : ℕ} {s b l₀ : List ℕ} {n : ℕ} {l filled : List ℕ} {p
 
 -- ---- putting the pending values one after the other
 
-fitting_at : (s xs : List ℕ) (i : ℕ) → AllPendingEntriesFitRowAndBytes s xs → i < length xs
+pub fitting_at : (s xs : List ℕ) (i : ℕ) → AllPendingEntriesFitRowAndBytes s xs → i < length xs
     → PendingEntryFitsRowAndBytes s (get_or xs i 0)
 fitting_at s [] i h l = absurd (omega arith)
 fitting_at s (x ∷ xs) zero h l = h.0
 fitting_at s (x ∷ xs) (suc i) h l = fitting_at s xs i h.1 (omega arith)
 
-pub after_none : (s b l : List ℕ) → b ≡ store_with_pending s b (take 0 l)
-unfolding store_with_pending
-after_none s b l = refl
-
-pub value_fits : (s l : List ℕ) (n : ℕ) → IsPendingList s n l → (i : ℕ) → i < n
-    → PendingEntryFitsRowAndBytes s (get_or l i 0)
-value_fits s l n h i lt =
-    subst (PendingEntryFitsRowAndBytes s) (get_or-take n l i 0 lt)
-    (fitting_at s (take n l) i h.fitting (omega (arith, length-take-le n l (omega (arith, h.room, h.few)))))
-
-pub after_one : (s b l : List ℕ) (n : ℕ) → IsPendingList s n l → (i : ℕ) → i < n
+pub after_one : (s b l : List ℕ) (i : ℕ) → i < length l
     → put_row dictionary_rows (store_with_pending s b (take i l)) (pending_entry_row (get_or l i 0))
     (packed_item_value_in s (get_or l i 0)) ≡ store_with_pending s b (take (i + 1) l)
-after_one s b l n h i lt =
-    let e : take (i + 1) l ≡ take i l ++ (get_or l i 0 ∷ []) = rw (add-one i)
-    (take-suc l i 0 (omega (arith, h.room, h.few))) in
+after_one s b l i lt =
+    let e : take (i + 1) l ≡ take i l ++ (get_or l i 0 ∷ []) = rw (add-one i) (take-suc l i 0 lt) in
     sym (ap (store_with_pending s b) e ∙ laid_more s b (take i l) (get_or l i 0))

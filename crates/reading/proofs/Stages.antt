@@ -2,21 +2,20 @@
 -- body's one object (`outer_object_lem`), its objects as they are listed, and what is said of them.
 -- Below each stage stands what a function that is at that stage promises, so that both readers' proofs cite it.
 -- Assumes nothing.
+use Rattle.std.specs.Prelude.{Some, None, Result, Ok, Err, Option}
 use mathlib.Core.Path.{◌≡◌, refl, sym, ap, ap₂, subst, ◌∙◌}
 use mathlib.Core.Bool.{Bool, true, false}
 use mathlib.Core.List.{List, [], ◌∷◌, ◌++◌}
-use mathlib.Core.Option.{Option, some, none}
-use Prim.Native.Nat.{ℕ, ◌+◌, ◌-◌, ◌*◌, ◌≤◌, ◌<◌}
+use Prim.Native.Nat.{ℕ, ◌+◌, ◌-◌, ◌≤◌, ◌<◌}
 use native.Mathlib.Omega.{arith}
 use lib.ListN.{length, take, drop, set, length-take, length-drop, length-set}
 use lib.Seq.{take-take, drop-drop}
 use lib.Dec.{eqb}
-use borrow.Author.Tests.{eqb-true, eqb-false, le-leb, lt-leb, leb-true}
+use borrow.Author.Tests.{eqb-true, eqb-false, lt-leb, leb-true}
+use Rattle.std.specs.Prelude.{ok_or}
 use Rattle.basics.specs.Choice.{if}
-use Rattle.basics.proofs.Laws.{if_yes, if_no, if_ind, both_yes, both_no_left, both_no_right, both_right}
+use Rattle.basics.proofs.Laws.{if_yes, if_no, if_ind, both_no_right, both_right}
 use Rattle.tlv.specs.declared.TlvHeader.{TlvHeader}
-use Rattle.tlv.specs.declared.ObjectFront.{ObjectFront}
-use Rattle.tlv.specs.declared.ObjectFront.TheVariants.{Object, Broken}
 use Rattle.tlv.specs.Object.{header_of, header_value}
 use Rattle.tlv.specs.Tree.{Forest, object_count, parse_tree}
 use Rattle.tlv.proofs.Laws.{Bytes, header_fits, contents, contents_is}
@@ -26,13 +25,6 @@ use Rattle.reading.specs.declared.ResponseVerdict.{ResponseVerdict}
 use Rattle.reading.specs.declared.ResponseVerdict.TheVariants.{Accepted, BadStatus, Malformed, NotAllowed}
 use Rattle.reading.specs.declared.Reading.{Reading}
 use Rattle.reading.specs.declared.VisitTally.{VisitTally}
-use Rattle.reading.specs.declared.ReadingBeginning.{ReadingBeginning}
-use Rattle.reading.specs.declared.ReadingBeginning.TheVariants as begins
-use Rattle.reading.specs.declared.OuterObject.{OuterObject}
-use Rattle.reading.specs.declared.OuterObject.TheVariants as outer
-use Rattle.reading.specs.declared.TemplateWalkResult.{TemplateWalkResult}
-use Rattle.reading.specs.declared.ItemListing.{ItemListing}
-use Rattle.reading.specs.declared.ItemListing.TheVariants.{Objects, Decided}
 use Rattle.reading.specs.Taking.{PrimitiveItem, primitive_item, StoringState, storing_state, store_all_items}
 use Rattle.reading.specs.InnerItems.{packed_item, unpacked_items, unpacked_first_items, most_listed_items, IsItemList, tally}
 use Rattle.reading.specs.InnerItems.{WalkListedItems, ListsTreeThen}
@@ -43,49 +35,29 @@ use Rattle.reading.specs.Answer.{template_body, body_of_one_object, parse_respon
 use Rattle.reading.specs.Answer.{response_bit, primitive_body_items, reading_if_all_allowed, read_body_items}
 use Rattle.reading.specs.Answer.{read_parsed_body, read_body}
 use Rattle.reading.specs.Answer.{is_body_to_be_read, is_status9000, response_length_is2_to258, read_answer}
-use Rattle.reading.specs.Count.{object_count_in_answer}
+use Rattle.reading.specs.Both.{ReadAnswerPromises}
 use Rattle.reading.specs.Inner.{reading_of, reading_beginning, outer_object_of_front, outer_object}
 use Rattle.reading.specs.Inner.{reading_outcome_of_listing, ListingGivesReading}
-use Rattle.reading.specs.Inner.{ListingGivesPrimitiveBodyReading, read_template, value_of_header, ResponseIsTemplate}
+use Rattle.reading.specs.Inner.{ListingGivesPrimitiveBodyReading, read_template, read_object, value_of_header}
+use Rattle.reading.specs.Inner.{ResponseIsObject, OpenedResponseDescribesResponse}
 use Rattle.reading.specs.Inner.{listing_of_template}
 use Rattle.reading.proofs.Parts.{regive, judged_yes, template_right, template_wrong}
 use Rattle.reading.proofs.Count.{answer_tree, answer_half}
 use Rattle.reading.proofs.Items.{drop-take, front_bytes, item_packed, inside_packed, items_more, inside_more}
 use Rattle.reading.proofs.Items.{tag_small}
 
--- ---- the beginning: one law for each way out, and what is read from there
+-- ---- the beginning, and what is read from there
 
 module _ (a : Awaited) (s : List ℕ) where
-  pub begin_short : length s < 2 → reading_beginning a s ≡ begins.Decided Malformed
-  unfolding reading_beginning response_length_is2_to258
-  begin_short h = if_no _ _ (both_no_left _ _ (lt-leb _ _ h))
-
-  pub begin_long : 258 < length s → reading_beginning a s ≡ begins.Decided Malformed
+  pub begin_long : 258 < length s → reading_beginning a s ≡ Err Malformed
   unfolding reading_beginning response_length_is2_to258
   begin_long h = if_no _ _ (both_no_right _ _ (lt-leb _ _ h))
 
-  module _ (l : 2 ≤ length s) (m : length s ≤ 258) where
-    good_length : response_length_is2_to258 s ≡ true
-    unfolding response_length_is2_to258
-    good_length = both_yes _ _ (le-leb _ _ l) (le-leb _ _ m)
-
-    pub begin_status : is_status9000 s ≡ false → reading_beginning a s ≡ begins.Decided BadStatus
-    unfolding reading_beginning
-    begin_status e = if_yes _ _ good_length ∙ if_no _ _ e
-
-    pub begin_unread : is_status9000 s ≡ true → is_body_to_be_read a ≡ false → reading_beginning a s ≡ begins.Decided Accepted
-    unfolding reading_beginning
-    begin_unread e f = if_yes _ _ good_length ∙ if_yes _ _ e ∙ if_no _ _ f
-
-    pub begin_body : is_status9000 s ≡ true → is_body_to_be_read a ≡ true → reading_beginning a s ≡ begins.Body (length s - 2)
-    unfolding reading_beginning
-    begin_body e f = if_yes _ _ good_length ∙ if_yes _ _ e ∙ if_yes _ _ f
-
   -- a body is the answer's bytes before the status, 256 at most
-  pub begin_size : (n : ℕ) → reading_beginning a s ≡ begins.Body n → (n ≡ length s - 2) × (n ≤ 256)
+  pub begin_size : (n : ℕ) → reading_beginning a s ≡ Ok n → (n ≡ length s - 2) × (n ≤ 256)
   unfolding reading_beginning response_length_is2_to258
   begin_size n =
-      let P : ReadingBeginning → Type 0 = λ x. x ≡ begins.Body n → (n ≡ length s - 2) × (n ≤ 256) in
+      let P : Result ℕ ResponseVerdict → Type 0 = λ x. x ≡ Ok n → (n ≡ length s - 2) × (n ≤ 256) in
       if_ind P _ _ _
       (λ t. if_ind P _ _ _
       (λ u. if_ind P _ _ _ (λ v e. let z : length s - 2 ≡ n = cc in let m : length s ≤ 258 = leb-true _ _
@@ -93,14 +65,14 @@ module _ (a : Awaited) (s : List ℕ) where
       (λ u e. none_here BadStatus e))
       (λ t e. none_here Malformed e)
     where
-      none_here : (v : ResponseVerdict) → begins.Decided v ≡ begins.Body n → (n ≡ length s - 2) × (n ≤ 256)
+      none_here : (v : ResponseVerdict) → Err v ≡ Ok n → (n ≡ length s - 2) × (n ≤ 256)
       none_here v e = let z : ◌≡◌ {A = ℕ} 0 1 = cc in absurd (omega arith)
 
   -- what a beginning leads to, into the store b
   module _ (b : List ℕ) where
-    abbrev begun : ReadingBeginning → ReadingOutcome
-    begun (begins.Body n) = read_body a b (take n s)
-    begun (begins.Decided v) = reading_outcome (verdict_number v) 0 b
+    abbrev begun : Result ℕ ResponseVerdict → ReadingOutcome
+    begun (Ok n) = read_body a b (take n s)
+    begun (Err v) = reading_outcome (verdict_number v) 0 b
 
     answer_begun : read_answer a b s ≡ begun (reading_beginning a s)
     unfolding read_answer reading_beginning if
@@ -109,8 +81,8 @@ module _ (a : Awaited) (s : List ℕ) where
         by_tests : (l t r : Bool)
             → if l (if t (if r (read_body a b (take (length s - 2) s)) (reading_outcome 0 0 b)) (reading_outcome 1 0 b))
             (reading_outcome 2 0 b)
-            ≡ begun (if l (if t (if r (begins.Body (length s - 2)) (begins.Decided Accepted))
-            (begins.Decided BadStatus)) (begins.Decided Malformed))
+            ≡ begun (if l (if t (if r (Ok (length s - 2)) (Err Accepted))
+            (Err BadStatus)) (Err Malformed))
         by_tests true true true = refl
         by_tests true true false = refl
         by_tests true false r = refl
@@ -119,75 +91,58 @@ module _ (a : Awaited) (s : List ℕ) where
     pub answer_long : 258 < length s → read_answer a b s ≡ reading_outcome 2 0 b
     answer_long h = answer_begun ∙ ap begun (begin_long h)
 
--- what a whole reading promises: the reading r, and the store c that it leaves of b
-abbrev pub Whole : Awaited → List ℕ → List ℕ → Reading → List ℕ → Type 0
-Whole a s b r c = ReadingAndStoreMatchOutcome r c (read_answer a b s)
-    × ((length c ≡ store_size) × ((2 * r.objects ≤ length s - 2) × (r.objects ≡ object_count_in_answer a s)))
-
 -- ---- the body's one object
 
 module _ (s : List ℕ) where
   -- a body that is one object has no byte after it
-  abbrev Fits : OuterObject → Type 0
-  Fits outer.Broken = Unit {0}
-  Fits (outer.Template h) = (header_of s ≡ Object h) × (h.start + h.len ≡ length s)
-  Fits (outer.Primitive h) = (header_of s ≡ Object h) × (h.start + h.len ≡ length s)
+  abbrev Fits : Option TlvHeader → Type 0
+  Fits None = Unit {0}
+  Fits (Some h) = (header_of s ≡ Some h) × (h.start + h.len ≡ length s)
 
   fits_outer : Fits (outer_object s)
   unfolding outer_object
   fits_outer = go (header_of s) refl
     where
-      go : (x : ObjectFront) → header_of s ≡ x → Fits (outer_object_of_front s x)
-      go Broken e = tt
-      go (Object h) e =
-          if_ind Fits _ _ _ (λ t. let f : (header_of s ≡ Object h) × (h.start + h.len ≡ length s) = (
-            e,
-            eqb-true _ _ t,
-          ) in if_ind Fits _ _ _ (λ u. f) (λ u. f)) (λ t. tt)
-
-  pub outer_fits : {x y : OuterObject} → x ≡ outer_object s → x ≡ y → Fits y
-  outer_fits p q = subst Fits (sym p ∙ q) fits_outer
+      go : (x : Option TlvHeader) → header_of s ≡ x → Fits (outer_object_of_front s x)
+      go None e = tt
+      go (Some h) e = if_ind Fits _ _ _ (λ t. (e, eqb-true _ _ t)) (λ t. tt)
 
   -- what an object leads to, into the store b
   module _ (a : Awaited) (b : List ℕ) where
-    abbrev object_read : OuterObject → ReadingOutcome
-    object_read outer.Broken = reading_outcome 2 0 b
-    object_read (outer.Template h) = read_template a h.tag (header_value s h) b
-    object_read (outer.Primitive h) = read_parsed_body a b (some (primitive h.tag (header_value s h)))
+    abbrev object_read : Option TlvHeader → ReadingOutcome
+    object_read None = reading_outcome 2 0 b
+    object_read (Some h) = read_object a h (header_value s h) b
 
     outer_object_lem : read_body a b s ≡ object_read (outer_object s)
     unfolding read_body parse_response_body outer_object if
     outer_object_lem = go (header_of s)
       where
-        by_tests : (h : TlvHeader) (t u : Bool)
+        by_test : (h : TlvHeader) (t : Bool)
             → read_parsed_body a b
-            (if t (if u (template_body h.tag (parse_tree 3 (header_value s h)))
-            (some (primitive h.tag (header_value s h)))) none)
-            ≡ object_read (if t (if u (outer.Template h) (outer.Primitive h)) outer.Broken)
-        by_tests h true true = refl
-        by_tests h true false = refl
-        by_tests h false u = refl
+            (if t (if h.template (template_body h.tag (parse_tree 3 (header_value s h)))
+            (Some (primitive h.tag (header_value s h)))) None)
+            ≡ object_read (if t (Some h) None)
+        by_test h true = refl
+        by_test h false = refl
 
-        go : (x : ObjectFront) → read_parsed_body a b (body_of_one_object s x) ≡ object_read (outer_object_of_front s x)
-        go Broken = refl
-        go (Object h) = by_tests h (eqb (h.start + h.len) (length s)) h.template
+        go : (x : Option TlvHeader) → read_parsed_body a b (body_of_one_object s x) ≡ object_read (outer_object_of_front s x)
+        go None = refl
+        go (Some h) = by_test h (eqb (h.start + h.len) (length s))
 
 -- what is read of an answer whose body is read: by its one object, with its places in the whole answer
-module _ (a : Awaited) (s : List ℕ) (n : ℕ) (q : reading_beginning a s ≡ begins.Body n) where
+module _ (a : Awaited) (s : List ℕ) (n : ℕ) (q : reading_beginning a s ≡ Ok n) where
   abbrev body : List ℕ
   body = take n s
 
   pub body_length : length body ≡ n
   body_length = let z = (begin_size a s n q).0 in simp length-take (omega arith)
 
-  answer_object : {x : OuterObject} (y : OuterObject) → x ≡ outer_object body → x ≡ y → (b : List ℕ)
-      → read_answer a b s ≡ object_read body a b y
-  answer_object y p e b = answer_begun a s b ∙ ap (begun a s b) q ∙ outer_object_lem body a b
-      ∙ ap (object_read body a b) (sym p ∙ e)
+  answer_object : (b : List ℕ) → read_answer a b s ≡ object_read body a b (outer_object body)
+  answer_object b = answer_begun a s b ∙ ap (begun a s b) q ∙ outer_object_lem body a b
 
-  module _ (h : TlvHeader) (e : header_of body ≡ Object h) where
+  module _ (h : TlvHeader) (e : header_of body ≡ Some h) where
     -- an object's places
-    pub object_places : (2 ≤ h.start) × ((h.start + h.len ≤ length s) × (h.start + h.len ≤ 256))
+    object_places : (2 ≤ h.start) × ((h.start + h.len ≤ length s) × (h.start + h.len ≤ 256))
     object_places =
         let f = header_fits body h e in
         let l = body_length in
@@ -201,56 +156,53 @@ module _ (a : Awaited) (s : List ℕ) (n : ℕ) (q : reading_beginning a s ≡ b
         let m : h.len ≤ n - h.start = omega (arith, f.inside) in
         ap (take h.len) (drop-take h.start n s) ∙ take-take h.len (n - h.start) (drop h.start s) m
 
-  module _ {x : OuterObject} (p : x ≡ outer_object body) where
-    pub broken_opened : x ≡ outer.Broken → {y : ItemListing} (l : List ℕ) → y ≡ Decided (reading_of Malformed 0)
-        → ListingGivesReading a s (λ b. read_answer a b s) y l
-    broken_opened e l d = rw d (record { gives = λ b. answer_object outer.Broken p e b; fits = tt })
+  -- by the body's one object
+  pub object_opened : Bytes s → {x : Option TlvHeader} → x ≡ outer_object body → {m : Reading}
+      → m ≡ reading_of Malformed 0 → {y : Result TlvHeader Reading} → y ≡ ok_or x m
+      → OpenedResponseDescribesResponse a s y
+  object_opened i {x} p {m} q {y} r = rw (r, q) (go x (sym p) (subst (Fits body) (sym p) (fits_outer body)))
+    where
+      go : (x : Option TlvHeader) → outer_object body ≡ x → Fits body x
+          → OpenedResponseDescribesResponse a s (ok_or x (reading_of Malformed 0))
+      go None e f = λ b. answer_object b ∙ ap (object_read body a b) e
+      go (Some h) e f =
+          let o = object_places h f.0 in
+          record {
+            gives = λ b. answer_object b ∙ ap (object_read body a b) e
+                ∙ ap (λ (v : List ℕ). read_object a h v b) (value_here h f.0);
+            two = o.0;
+            ends = o.1.0;
+            short = o.1.1;
+            tag = tag_small body h (front_bytes s n i) f.0;
+          }
 
-    pub template_opened : (h : TlvHeader) → x ≡ outer.Template h → Bytes s → ResponseIsTemplate a s h
-    template_opened h e i =
-        let f = outer_fits body p e in
-        let o = object_places h f.0 in
-        record {
-          gives = λ b. answer_object (outer.Template h) p e b
-              ∙ ap (λ (v : List ℕ). read_template a h.tag v b) (value_here h f.0);
-          two = o.0;
-          ends = o.1.0;
-          short = o.1.1;
-          tag = tag_small body h (front_bytes s n i) f.0;
-        }
-
-    pub primitive_opened : (h : TlvHeader) → x ≡ outer.Primitive h → {y : ItemListing} (l : List ℕ)
-        → ListingGivesPrimitiveBodyReading a (primitive_body_items a h.tag) h.start h.len y l
-        → ListingGivesReading a s (λ b. read_answer a b s) y l
-    primitive_opened h e l g =
-        let f = outer_fits body p e in
-        let w = g s (object_places h f.0).1.0 in
-        record {
-          gives = λ b. answer_object (outer.Primitive h) p e b
-              ∙ ap (λ (v : List ℕ). read_parsed_body a b (some (primitive h.tag v))) (value_here h f.0) ∙ w.gives
-              b;
-          fits = w.fits;
-        }
+-- an answer that is decided by how it begins
+pub begin_opened : (a : Awaited) (s : List ℕ) (v : ResponseVerdict) → reading_beginning a s ≡ Err v
+    → OpenedResponseDescribesResponse a s (Err (reading_of v 0))
+begin_opened a s v q b = answer_begun a s b ∙ ap (begun a s b) q
 
 -- ---- the objects as they are listed
 
--- an answer that is decided by how it begins
-pub decided_opened : (a : Awaited) (s : List ℕ) (v : ResponseVerdict) → reading_beginning a s ≡ begins.Decided v
-    → {y : ItemListing} (l : List ℕ)
-    → y ≡ Decided (reading_of v 0) → ListingGivesReading a s (λ b. read_answer a b s) y l
-decided_opened a s v q l d = rw d (record { gives = λ b. answer_begun a s b ∙ ap (begun a s b) q; fits = tt })
+-- the outer object where it is primitive, by its parts
+pub parts_listed : (a : Awaited) (s : List ℕ) (h : TlvHeader) (l : List ℕ) → ResponseIsObject a s h
+    → h.template ≡ false → {y : Result VisitTally Reading}
+    → ListingGivesPrimitiveBodyReading a (primitive_body_items a h.tag) h.start h.len y l
+    → ListingGivesReading a s (λ b. read_answer a b s) y l
+parts_listed a s h l i p g =
+    let w = g s i.ends in
+    record { gives = λ b. i.gives b ∙ ap (read_parsed_body a b) (if_no _ _ p) ∙ w.gives b; fits = w.fits }
 
 -- a template by what the walk over its contents reports
 module _ (a : Awaited) (t : ℕ) (s v l : List ℕ) where
-  by_tree : (x : Option Forest) (w : TemplateWalkResult) → ListsTreeThen t x w (WalkListedItems s l w) 1 []
+  by_tree : (x : Option Forest) (w : Option VisitTally) → ListsTreeThen t x w (WalkListedItems s l w) 1 []
       → ListingGivesReading a s (λ b. read_parsed_body a b (template_body t x)) (listing_of_template a t w) l
   unfolding listing_of_template
-  by_tree none w g = subst (λ (z : TemplateWalkResult). ListingGivesReading a s (λ b. read_parsed_body a b none)
+  by_tree None w g = subst (λ (z : Option VisitTally). ListingGivesReading a s (λ b. read_parsed_body a b None)
       (listing_of_template a t z) l) (sym g)
       (record { gives = λ b. refl; fits = tt })
-  by_tree (some f) w g =
-      let Q : ItemListing → Type 0 = λ y. ListingGivesReading a s (λ b. read_parsed_body a b (some (template t f))) y l in
-      subst (λ (z : TemplateWalkResult). Q (listing_of_template a t z)) (sym g.reports)
+  by_tree (Some f) w g =
+      let Q : Result VisitTally Reading → Type 0 = λ y. ListingGivesReading a s (λ b. read_parsed_body a b (Some (template t f))) y l in
+      subst (λ (z : Option VisitTally). Q (listing_of_template a t z)) (sym g.reports)
       (if_ind Q _ _ _
       (λ e. record {
         gives = λ b.
@@ -264,21 +216,21 @@ module _ (a : Awaited) (t : ℕ) (s v l : List ℕ) where
         fits = tt;
       }))
 
-  pub closed_listed : (w : TemplateWalkResult) {y : ItemListing}
+  pub closed_listed : (w : Option VisitTally) {y : Result VisitTally Reading}
       → ListsTreeThen t (parse_tree 3 v) w (WalkListedItems s l w) 1 []
       → y ≡ listing_of_template a t w → ListingGivesReading a s (read_template a t v) y l
   closed_listed w g d = rw d (by_tree (parse_tree 3 v) w g)
 
--- the outer template of an answer
-pub template_listed : (a : Awaited) (s : List ℕ) (h : TlvHeader) (l : List ℕ) → ResponseIsTemplate a s h
-    → (w : TemplateWalkResult) {y : ItemListing}
+-- the outer object of an answer where it is a template
+pub template_listed : (a : Awaited) (s : List ℕ) (h : TlvHeader) (l : List ℕ) → ResponseIsObject a s h
+    → h.template ≡ true → (w : Option VisitTally) {y : Result VisitTally Reading}
     → ListsTreeThen h.tag (parse_tree 3 (contents s h.start h.len)) w (WalkListedItems s l w) 1 []
     → y ≡ listing_of_template a h.tag w → ListingGivesReading a s (λ b. read_answer a b s) y l
-template_listed a s h l i w g d =
+template_listed a s h l i p w g d =
     let c = closed_listed a h.tag s (contents s h.start h.len) l w g d in
     record {
-      gives = λ b. i.gives b ∙ ap (λ (v : List ℕ). read_template a h.tag v b)
-          (sym (contents_is s h.start h.len)) ∙ c.gives b;
+      gives = λ b. i.gives b ∙ ap (read_parsed_body a b) (if_yes _ _ p)
+          ∙ ap (λ (v : List ℕ). read_template a h.tag v b) (sym (contents_is s h.start h.len)) ∙ c.gives b;
       fits = c.fits;
     }
 
@@ -351,14 +303,14 @@ module _ (s : List ℕ) (start n : ℕ) where
           (drop m value) (sym behind)
 
 module _ (a : Awaited) (f : List ℕ → Option (List PrimitiveItem)) (start n : ℕ) (l : List ℕ) where
-  pub parts_none : {y : ItemListing} → ((v : List ℕ) → length v ≡ n → f v ≡ none) → y ≡ Decided (reading_of Malformed 1)
-      → ListingGivesPrimitiveBodyReading a f start n y l
+  pub parts_none : {r : Reading} → ((v : List ℕ) → length v ≡ n → f v ≡ None) → r ≡ reading_of Malformed 1
+      → ListingGivesPrimitiveBodyReading a f start n (Err r) l
   parts_none h d s i =
       rw d (record { gives = λ b. ap (read_body_items a b 1) (h (value s start n) (value_size s start n i)); fits = tt })
 
-  pub parts_some : (k : ℕ) (is : List ℕ → List PrimitiveItem) → ((v : List ℕ) → length v ≡ n → f v ≡ some (is v))
+  pub parts_some : (k : ℕ) (is : List ℕ → List PrimitiveItem) → ((v : List ℕ) → length v ≡ n → f v ≡ Some (is v))
       → ((s : List ℕ) → start + n ≤ length s → PartList s k l (is (value s start n)))
-      → ListingGivesPrimitiveBodyReading a f start n (Objects (tally 1 k)) l
+      → ListingGivesPrimitiveBodyReading a f start n (Ok (tally 1 k)) l
   parts_some k is h g s i =
       let w = g s i in
       record {
@@ -371,7 +323,7 @@ module _ (a : Awaited) (f : List ℕ → Option (List PrimitiveItem)) (start n :
       }
 
 -- the parts of the answer c, where c is awaited
-pub parts_for : {a c : Awaited} {f : List ℕ → Option (List PrimitiveItem)} (t start n : ℕ) {y : ItemListing}
+pub parts_for : {a c : Awaited} {f : List ℕ → Option (List PrimitiveItem)} (t start n : ℕ) {y : Result VisitTally Reading}
     {l : List ℕ}
     → a ≡ c
     → ((v : List ℕ) → primitive_body_items c t v ≡ f v) → ListingGivesPrimitiveBodyReading c f start n y l
@@ -399,17 +351,20 @@ gives v n c e f = record {
 abbrev taken : Awaited → List ℕ → List ℕ → List ℕ → VisitTally → StoringState
 taken a s b l t = store_all_items (response_bit a) (storing_state true b) (unpacked_first_items s t.items l)
 
-module _ (a : Awaited) (s b l l' : List ℕ) {x : ItemListing} where
-  pub decided_given : (r : Reading) → x ≡ Decided r
+module _ (a : Awaited) (s b l l' : List ℕ) {x : Result VisitTally Reading} where
+  pub decided_given : (r : Reading) → x ≡ Err r
       → ReadingAndStoreMatchOutcome r (store_with_pending s b (take 0 l')) (reading_outcome_of_listing a s b x l)
   unfolding store_with_pending
   decided_given r e = rw e (record { reason = refl; objects = refl; store = refl })
 
-  module _ (t : VisitTally) (e : x ≡ Objects t) {r : Reading} {p : ℕ} where
-    pub refused_given : (taken a s b l t).good ≡ false → r ≡ reading_of NotAllowed t.objects → p ≡ 0
+  module _ (t : VisitTally) (e : x ≡ Ok t) {r : Reading} {p : ℕ} where
+    pub refused_given : {v : ResponseVerdict} → (v ≡ NotAllowed) × ((taken a s b l t).good ≡ false)
+        → r ≡ reading_of v t.objects → p ≡ 0
         → ReadingAndStoreMatchOutcome r (store_with_pending s b (take p l')) (reading_outcome_of_listing a s b x l)
     unfolding store_with_pending
-    refused_given g d z = rw (z, e) (gives NotAllowed t.objects b d (if_no _ _ g))
+    refused_given g d z =
+        rw (z, e)
+        (gives NotAllowed t.objects b (d ∙ ap (λ (w : ResponseVerdict). reading_of w t.objects) g.0) (if_no _ _ g.1))
 
     pub accepted_given : (k : ℕ) → taken a s b l t ≡ storing_state true (store_with_pending s b (take k l'))
         → r ≡ reading_of Accepted t.objects → p ≡ k
@@ -419,12 +374,14 @@ module _ (a : Awaited) (s b l l' : List ℕ) {x : ItemListing} where
 
 -- ---- the whole reading
 
-module _ (a : Awaited) (s b : List ℕ) {x : ItemListing} {l : List ℕ}
+module _ (a : Awaited) (s b : List ℕ) {x : Result VisitTally Reading} {l : List ℕ}
     (w : ListingGivesReading a s (λ b. read_answer a b s) x l)
     {r : Reading} {c : List ℕ}
     (g : ReadingAndStoreMatchOutcome r c (reading_outcome_of_listing a s b x l)) where
   pub answer_given : ReadingAndStoreMatchOutcome r c (read_answer a b s)
   answer_given = regive (sym (w.gives b)) g
 
-  pub whole : length c ≡ store_size → Whole a s b r c
-  whole z = let t = answer_tree a b s answer_given in (answer_given, (z, (rw t (answer_half a s), t)))
+  pub whole : length c ≡ store_size → ReadAnswerPromises a s b r c
+  whole z =
+      let t = answer_tree a b s answer_given in
+      record { given = answer_given; sized = z; half = rw t (answer_half a s); tree = t }

@@ -1,14 +1,13 @@
 -- Reading a card's answer (document 01, "Reading an answer", "Commands and steps" and the order of reasons): the
 -- length, the status, the encoding, the outer tag and body, the objects. The store is whole or as it was.
 -- Assumes nothing.
+use Rattle.std.specs.Prelude.{Option, Some, None}
+use Rattle.tlv.specs.declared.TlvHeader.{TlvHeader}
 use Rattle.std.specs.Prelude.{◌≡◌, Bool, true, List, [], ◌∷◌, ℕ, ◌+◌, ◌-◌, ◌%◌, length, get_or, take, drop}
-use Rattle.std.proofs.Math.Option.{Option, some, none}
 use Rattle.basics.specs.Choice.{when◌then◌else◌, ◌and◌, ◌≤?◌, ◌=?◌}
 use Rattle.basics.specs.Number.{between}
 use Rattle.basics.specs.Types.{Bytes, StoreBytes, Value, Response, Tag, Length, Count, Reason}
 use Rattle.basics.specs.Reason.{reason_none, reason_status_not9000, reason_malformed, reason_object_not_allowed}
-use Rattle.tlv.specs.declared.ObjectFront.{ObjectFront}
-use Rattle.tlv.specs.declared.ObjectFront.TheVariants.{Object, Broken}
 use Rattle.tlv.specs.Object.{header_of, header_value}
 use Rattle.tlv.specs.Tree.{Forest, object_count, parse_tree}
 use Rattle.dictionary.specs.Rows.{in_gpo_response, in_record_response, in_generate_ac_response, in_checksum_response}
@@ -55,17 +54,17 @@ pub data ResponseBody : Type 0 where
 
 -- a template whose contents are a tree
 abbrev pub template_body : Tag → Option Forest → Option ResponseBody
-template_body t none = none
-template_body t (some f) = some (template t f)
+template_body t None = None
+template_body t (Some f) = Some (template t f)
 
 -- an object that is the whole body; three levels of templates are left inside the outer one
-abbrev pub body_of_one_object : Bytes → ObjectFront → Option ResponseBody
-body_of_one_object s Broken = none
-body_of_one_object s (Object h) =
+abbrev pub body_of_one_object : Bytes → Option TlvHeader → Option ResponseBody
+body_of_one_object s None = None
+body_of_one_object s (Some h) =
     when h.start + h.len =? length s then
     when h.template then template_body h.tag (parse_tree 3 (header_value s h))
-    else some (primitive h.tag (header_value s h))
-    else none
+    else Some (primitive h.tag (header_value s h))
+    else None
 
 -- the body's tree, or none where the encoding is malformed
 unfoldable pub parse_response_body : Bytes → Option ResponseBody
@@ -111,8 +110,8 @@ most_generate_ac_length_under80 = 43
 unfoldable pub gpo_items_under80 : Value → Option (List PrimitiveItem)
 gpo_items_under80 v =
     when between least_gpo_length_under80 (length v) most_gpo_length_under80 and (length v - 2) % 4 =? 0 then
-    some (primitive_item 0x77 0x82 (take 2 v) ∷ primitive_item 0x77 0x94 (drop 2 v) ∷ [])
-    else none
+    Some (primitive_item 0x77 0x82 (take 2 v) ∷ primitive_item 0x77 0x94 (drop 2 v) ∷ [])
+    else None
 
 -- what is left of a cryptogram's body is 9F10, if anything is
 unfoldable pub iad_item_if_any : Value → List PrimitiveItem
@@ -123,30 +122,30 @@ iad_item_if_any (a ∷ v) = primitive_item 0x77 0x9F10 (a ∷ v) ∷ []
 unfoldable pub cryptogram_items_under80 : Value → Option (List PrimitiveItem)
 cryptogram_items_under80 v =
     when between least_generate_ac_length_under80 (length v) most_generate_ac_length_under80 then
-    some
+    Some
     (primitive_item 0x77 0x9F27 (take 1 v) ∷
     primitive_item 0x77 0x9F36 (take 2 (drop 1 v)) ∷
     primitive_item 0x77 0x9F26 (take 8 (drop 3 v)) ∷
     iad_item_if_any (drop least_generate_ac_length_under80 v))
-    else none
+    else None
 
 -- what a primitive body brings, or none where the outer tag or body is wrong; a record and the checksum (Book C-2,
 -- 5.2.3) have no form under 80
 unfoldable pub primitive_body_items : Awaited → Tag → Value → Option (List PrimitiveItem)
 primitive_body_items Gpo t v =
     when t =? 0x80 then gpo_items_under80 v
-    else none
-primitive_body_items (Record f) t v = none
+    else None
+primitive_body_items (Record f) t v = None
 primitive_body_items Cryptogram t v =
     when t =? 0x80 then cryptogram_items_under80 v
-    else none
-primitive_body_items Checksum t v = none
+    else None
+primitive_body_items Checksum t v = None
 
 -- what a template brings: its primitive objects at every level, or none where the outer tag is wrong
 unfoldable pub template_body_items : Awaited → Tag → Forest → Option (List PrimitiveItem)
 template_body_items a t f =
-    when t =? response_template_tag a then some (primitive_items t f)
-    else none
+    when t =? response_template_tag a then Some (primitive_items t f)
+    else None
 
 -- by the kind of body
 abbrev pub response_body_items : Awaited → ResponseBody → Option (List PrimitiveItem)
@@ -163,13 +162,13 @@ reading_if_all_allowed b n w =
 
 -- a wrong outer tag or body is reason 2, its count the tree's; else the objects are taken in order
 abbrev pub read_body_items : Awaited → StoreBytes → Count → Option (List PrimitiveItem) → ReadingOutcome
-read_body_items a b n none = reading_outcome reason_malformed n b
-read_body_items a b n (some is) = reading_if_all_allowed b n (store_all_items (response_bit a) (storing_state true b) is)
+read_body_items a b n None = reading_outcome reason_malformed n b
+read_body_items a b n (Some is) = reading_if_all_allowed b n (store_all_items (response_bit a) (storing_state true b) is)
 
 -- a malformed encoding is reason 2 with count 0
 abbrev pub read_parsed_body : Awaited → StoreBytes → Option ResponseBody → ReadingOutcome
-read_parsed_body a b none = reading_outcome reason_malformed 0 b
-read_parsed_body a b (some body) = read_body_items a b (body_object_count body) (response_body_items a body)
+read_parsed_body a b None = reading_outcome reason_malformed 0 b
+read_parsed_body a b (Some body) = read_body_items a b (body_object_count body) (response_body_items a body)
 
 -- the body of an answer, into the store b
 unfoldable pub read_body : Awaited → StoreBytes → Bytes → ReadingOutcome

@@ -3,13 +3,11 @@
 -- This file states no rule of document 01: a reader of the rules can skip it. It is for private functions and their
 -- callers' proofs; `primitive_items` of specs/Taking is the list that the rules speak of.
 -- Assumes nothing.
+use Rattle.std.specs.Prelude.{Option, Some, None}
 use Rattle.std.specs.Prelude.{◌≡◌, List, [], ◌∷◌, ◌++◌, ℕ, ◌+◌, ◌-◌, ◌*◌, ◌/◌, ◌%◌, ◌≤◌, length, take, drop}
-use Rattle.std.proofs.Math.Option.{Option, some, none}
 use Rattle.basics.specs.Types.{Bytes, Value, Tag, Length, Offset, Count}
 use Rattle.tlv.specs.Tree.{Forest, object_count}
 use Rattle.reading.specs.declared.VisitTally.{VisitTally}
-use Rattle.reading.specs.declared.TemplateWalkResult.{TemplateWalkResult}
-use Rattle.reading.specs.declared.TemplateWalkResult.TheVariants.{Whole, Broken}
 use Rattle.reading.specs.Taking.{PrimitiveItem, primitive_item, primitive_items}
 
 -- ---- an object in one number: 2^40 times its tag, 2^16 times the tag around it, 256 times the place of the byte
@@ -86,20 +84,20 @@ pub record TemplateWalkHasRoom (answer_bytes : Bytes) (from to : Offset) (visite
   pub inside : AllItemValuesInside answer_bytes (take listed_count packed_items)
 
 -- n objects visited, of which l lists `is`: r is reported
-pub record WalkListedItems (answer_bytes : Bytes) (packed_items : List ℕ) (walk_result : TemplateWalkResult)
+pub record WalkListedItems (answer_bytes : Bytes) (packed_items : List ℕ) (walk_result : Option VisitTally)
     (visited_count : Count) (listed : List PrimitiveItem) : Type 0 where
-  pub reports : walk_result ≡ Whole (tally visited_count (length listed))
+  pub reports : walk_result ≡ Some (tally visited_count (length listed))
   pub items : IsItemList answer_bytes (length listed) packed_items
   pub are : unpacked_first_items answer_bytes (length listed) packed_items ≡ listed
 
 -- a tree directly inside the template `around`, after n objects of which `is` are listed: its count is added, its
 -- objects are listed behind them, and k holds of both; r is what is reported where there is no tree
-abbrev pub ListsTreeThen : Tag → Option Forest → TemplateWalkResult → (Count → List PrimitiveItem → Type 0) → Count
+abbrev pub ListsTreeThen : Tag → Option Forest → Option VisitTally → (Count → List PrimitiveItem → Type 0) → Count
     → List PrimitiveItem
     → Type 0
-ListsTreeThen around none r k n is = r ≡ Broken
-ListsTreeThen around (some f) r k n is = k (n + object_count f) (is ++ primitive_items around f)
+ListsTreeThen around None r k n is = r ≡ None
+ListsTreeThen around (Some f) r k n is = k (n + object_count f) (is ++ primitive_items around f)
 
 -- a walk after n objects, of which l lists k, reports r and leaves l'
-abbrev pub WalkListsTree : Bytes → Tag → Option Forest → Count → Count → List ℕ → TemplateWalkResult → List ℕ → Type 0
+abbrev pub WalkListsTree : Bytes → Tag → Option Forest → Count → Count → List ℕ → Option VisitTally → List ℕ → Type 0
 WalkListsTree s around f n k l r l' = ListsTreeThen around f r (WalkListedItems s l' r) n (unpacked_first_items s k l)

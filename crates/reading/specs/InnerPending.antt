@@ -3,44 +3,42 @@
 -- This file states no rule of document 01: a reader of the rules can skip it. It is for private functions and their
 -- callers' proofs.
 -- Assumes nothing.
+use Rattle.std.specs.Prelude.{Option, Some, None, Result, Ok, Err}
 use Rattle.std.specs.Prelude.{◌≡◌, true, false, not, List, [], ◌∷◌, ℕ, ◌+◌, ◌*◌, ◌/◌, ◌%◌, ◌≤◌, ◌<◌, length, get_or, set, take}
 use Rattle.basics.specs.Choice.{when◌then◌else◌, ◌and◌, ◌=?◌}
 use Rattle.basics.specs.Types.{Bytes, StoreBytes, RowNumber, Length, Count}
 use Rattle.tlv.specs.Tag.{is_private}
-use Rattle.dictionary.specs.declared.RowFound.{RowFound}
-use Rattle.dictionary.specs.declared.RowFound.TheVariants.{At, Unknown}
 use Rattle.dictionary.specs.Rows.{dictionary_rows, row_at, row_count, find_row, store_size}
 use Rattle.store.specs.Place.{is_row_absent_or_empty, put_row}
-use Rattle.reading.specs.declared.ItemVerdict.{ItemVerdict}
-use Rattle.reading.specs.declared.ItemVerdict.TheVariants.{Skipped, NotAllowed, ForRow}
-use Rattle.reading.specs.declared.ItemsVerdict.{ItemsVerdict}
-use Rattle.reading.specs.declared.ItemsVerdict.TheVariants as items
+use Rattle.reading.specs.declared.ResponseVerdict.{ResponseVerdict}
+use Rattle.reading.specs.declared.ResponseVerdict.TheVariants.{NotAllowed}
 use Rattle.reading.specs.Taking.{PrimitiveItem, card_may_set, row_allows_value_from_card, StoringState, storing_state}
 use Rattle.reading.specs.Taking.{store_all_items}
 use Rattle.reading.specs.InnerItems.{packed_item_value_in, packed_item_value_length, ItemValueInside, most_listed_items}
 
 -- ---- one object, before the store is asked
 
--- a known object is skipped if it is private and not for the card to set, else for its row if it is allowed here
-unfoldable pub judge_known_item : ℕ → PrimitiveItem → RowNumber → ItemVerdict
+-- a known object is skipped, with no row, if it is private and not for the card to set, else for its row if it is allowed
+-- here
+unfoldable pub judge_known_item : ℕ → PrimitiveItem → RowNumber → Result (Option RowNumber) ResponseVerdict
 judge_known_item answer i k =
-    when is_private i.tag and not (card_may_set (row_at k)) then Skipped
-    else when row_allows_value_from_card answer (row_at k) i.around i.value then ForRow k
-    else NotAllowed
+    when is_private i.tag and not (card_may_set (row_at k)) then Ok None
+    else when row_allows_value_from_card answer (row_at k) i.around i.value then Ok (Some k)
+    else Err NotAllowed
 
 -- by its row in the table; an unknown one is skipped
-abbrev pub judge_item_of_row_found : ℕ → PrimitiveItem → RowFound → ItemVerdict
-judge_item_of_row_found answer i Unknown = Skipped
-judge_item_of_row_found answer i (At k) = judge_known_item answer i k
+abbrev pub judge_item_of_row_found : ℕ → PrimitiveItem → Option ℕ → Result (Option RowNumber) ResponseVerdict
+judge_item_of_row_found answer i None = Ok None
+judge_item_of_row_found answer i (Some k) = judge_known_item answer i k
 
-abbrev pub judge_item : ℕ → PrimitiveItem → ItemVerdict
+abbrev pub judge_item : ℕ → PrimitiveItem → Result (Option RowNumber) ResponseVerdict
 judge_item answer i = judge_item_of_row_found answer i (find_row dictionary_rows i.tag)
 
 -- and into the store b: an object for row k is put where no non-empty one is present
-abbrev pub store_judged_item : StoreBytes → PrimitiveItem → ItemVerdict → StoringState
-store_judged_item b i Skipped = storing_state true b
-store_judged_item b i NotAllowed = storing_state false b
-store_judged_item b i (ForRow k) =
+abbrev pub store_judged_item : StoreBytes → PrimitiveItem → Result (Option RowNumber) ResponseVerdict → StoringState
+store_judged_item b i (Ok None) = storing_state true b
+store_judged_item b i (Err v) = storing_state false b
+store_judged_item b i (Ok (Some k)) =
     when is_row_absent_or_empty dictionary_rows b k then storing_state true (put_row dictionary_rows b k i.value)
     else storing_state false b
 
@@ -94,10 +92,10 @@ pub record PendingEntriesAndMarksForStore (answer_bytes : Bytes) (store_before :
 -- ---- all objects
 
 -- the objects `is` in an answer to the store b: r is said of them, and l lists what is pending
-abbrev pub ItemsVerdictMatchesStoringItems : ℕ → Bytes → StoreBytes → List PrimitiveItem → ItemsVerdict → List ℕ
+abbrev pub ItemsVerdictMatchesStoringItems : ℕ → Bytes → StoreBytes → List PrimitiveItem → Result ℕ ResponseVerdict → List ℕ
     → Type 0
-ItemsVerdictMatchesStoringItems answer s b is items.NotAllowed l =
-    (store_all_items answer (storing_state true b) is).good ≡ false
-ItemsVerdictMatchesStoringItems answer s b is (items.Pending k) l =
+ItemsVerdictMatchesStoringItems answer s b is (Err v) l =
+    (v ≡ NotAllowed) × ((store_all_items answer (storing_state true b) is).good ≡ false)
+ItemsVerdictMatchesStoringItems answer s b is (Ok k) l =
     (store_all_items answer (storing_state true b) is ≡ storing_state true (store_with_pending s b (take k l)))
     × IsPendingList s k l

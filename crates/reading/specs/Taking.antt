@@ -1,14 +1,12 @@
 -- Taking a card's primitive objects into a store (document 01, "Reading an answer"; Book C-2, 4.1.3): in the order of
 -- the bytes, each skipped, stored, or not allowed.
 -- Assumes nothing.
-use Rattle.std.specs.Prelude.{Bool, true, false, not, List, [], ◌∷◌, ◌++◌, ℕ}
+use Rattle.std.specs.Prelude.{Bool, true, false, not, List, [], ◌∷◌, ◌++◌, ℕ, Option, Some, None}
 use Rattle.basics.specs.Types.{StoreBytes, Value, Tag, RowNumber}
 use Rattle.basics.specs.Choice.{when◌then◌else◌, ◌and◌, ◌=?◌}
 use Rattle.basics.specs.Number.{has_bit_of_weight}
 use Rattle.tlv.specs.Tag.{is_private}
 use Rattle.tlv.specs.Tree.{Forest, end, leaf, node}
-use Rattle.dictionary.specs.declared.RowFound.{RowFound}
-use Rattle.dictionary.specs.declared.RowFound.TheVariants.{At, Unknown}
 use Rattle.dictionary.specs.Rows.{Row, dictionary_rows, row_at, find_row, set_by_card, in_template70, in_template77}
 use Rattle.dictionary.specs.Rows.{in_template_a5, in_template_bf0c, in_template6f}
 use Rattle.dictionary.specs.Form.{length_and_digits_fit_row}
@@ -79,9 +77,9 @@ store_known_item answer b i k =
     else storing_state false b
 
 -- by its row in the table; an unknown one is skipped
-abbrev pub store_item_of_row_found : ℕ → StoreBytes → PrimitiveItem → RowFound → StoringState
-store_item_of_row_found answer b i Unknown = storing_state true b
-store_item_of_row_found answer b i (At k) = store_known_item answer b i k
+abbrev pub store_item_of_row_found : ℕ → StoreBytes → PrimitiveItem → Option ℕ → StoringState
+store_item_of_row_found answer b i None = storing_state true b
+store_item_of_row_found answer b i (Some k) = store_known_item answer b i k
 
 -- one object
 unfoldable pub store_item : ℕ → StoreBytes → PrimitiveItem → StoringState

@@ -16,19 +16,18 @@ ghost use Rattle.basics.specs.Choice.{both};
 ghost use Rattle.basics.specs.Number.{has_bit_of_weight};
 ghost use Rattle.dictionary.specs.Rows.{dictionary_rows, row_count, store_size};
 ghost use Rattle.dictionary.specs.Packing.{row_with_attributes_and_tag_zero};
-ghost use Rattle.dictionary.specs.Tables.{AreDictionaryTables};
 ghost use Rattle.store.specs.Place.{is_row_absent_or_empty};
 ghost use Rattle.tlv.specs.Tag.{is_private};
 ghost use Rattle.tlv.specs.Tree.{parse_tree};
 ghost use Rattle.reading.specs.declared.Awaited.{Awaited};
-ghost use Rattle.reading.specs.declared.ItemListing.{ItemListing};
+ghost use Rattle.reading.specs.declared.ResponseVerdict.TheVariants.{Malformed};
 ghost use Rattle.reading.specs.Taking.{row_allows_value_from_card, card_may_set, is_template_in_set};
 ghost use Rattle.reading.specs.Count.{object_count_in_answer};
 ghost use Rattle.reading.specs.Both.{ReadAnswerPromises, ReadersAgree};
 ghost use Rattle.reading.specs.InnerItems.{packed_item, packed_item_tag, packed_item_template_tag, packed_item_value_start, packed_item_value_length, ItemValueInside};
 ghost use Rattle.reading.specs.InnerItems.{unpacked_item};
 ghost use Rattle.reading.specs.InnerItems.{most_listed_items, IsItemList, unpacked_first_items, TemplateWalkHasRoom, WalkListsTree};
-ghost use Rattle.reading.specs.InnerPending.{judge_item, packed_pending_entry, pending_entry_row, mark_row_filled_if_non_empty, IsPendingList, store_with_pending};
+ghost use Rattle.reading.specs.InnerPending.{judge_item, packed_pending_entry, pending_entry_row, mark_row_filled_if_non_empty, IsPendingList, AllPendingEntriesFitRowAndBytes, store_with_pending};
 ghost use Rattle.reading.specs.InnerPending.{ItemsVerdictMatchesStoringItems};
 ghost use Rattle.reading.specs.Inner.{reading_of, reading_beginning, outer_object, reading_outcome_of_listing, ListedItemsLieInResponse};
 ghost use Rattle.reading.specs.Inner.{ListingGivesReading};
@@ -37,8 +36,9 @@ ghost use Rattle.reading.specs.Answer.{ReadingAndStoreMatchOutcome, verdict_numb
 ghost use Rattle.reading.specs.Answer.{cryptogram_items_under80};
 ghost use Rattle.reading.specs.Answer.{primitive_body_items, is_body_to_be_read, is_status9000, read_answer};
 
-use dictionary::{ROWS, RowAttributes, RowFound};
-use tlv::{ObjectFront, TlvHeader};
+use dictionary::{DictionaryTables, ROWS, RowAttributes, SIZE};
+use std::ops::Range;
+use tlv::TlvHeader;
 
 // An answer has at most 256 bytes and the two status bytes.
 const MOST_ANSWER: usize = 258;
@@ -58,6 +58,7 @@ const ITEMS: usize = 128;
 
 // An object in one number: its tag, the tag of the template directly around it, the place of the byte before its value,
 // and its length. A pending value in one number: its row, the same place and length.
+// Kept: packed, as the list takes the place of its pending values; `packed_item` of specs/InnerItems names the parts.
 const TAG: u64 = 0x10000000000;
 
 const AROUND: u64 = 0x10000;
@@ -82,6 +83,8 @@ pub enum Awaited {
 }
 
 // What a reading reports of an answer.
+// Kept: four verdicts and no Result: a record that is not read is accepted before its body, so `Accepted` is decided early
+// as the others are, and `Err(Ok(()))` would say so there.
 #[derive(Clone, Copy)]
 pub enum ResponseVerdict {
     Accepted,
@@ -104,73 +107,16 @@ pub struct BothReadings {
     pub flat: Reading,
 }
 
-// How the reading of an answer begins: with so many bytes of body, or with a verdict where length, status or
-// file decides.
-#[derive(Clone, Copy)]
-pub enum ReadingBeginning {
-    Body(usize),
-    Decided(ResponseVerdict),
-}
-
-// The one object that a body is, with no byte after it.
-#[derive(Clone, Copy)]
-pub enum OuterObject {
-    Template(TlvHeader),
-    Primitive(TlvHeader),
-    Broken,
-}
-
-// A template's contents: where they start and end in the bytes.
-#[derive(Clone, Copy)]
-pub struct ContentsRange {
-    pub start: usize,
-    pub end: usize,
-}
-
 // How many objects were visited, templates included, and how many of them, the primitive ones, are listed.
+// Kept: the list is an array with its count beside it, as the project has no heap.
 #[derive(Clone, Copy)]
 pub struct VisitTally {
     pub objects: usize,
     pub items: usize,
 }
 
-// What a walk over a template's contents reports.
-#[derive(Clone, Copy)]
-pub enum TemplateWalkResult {
-    Whole(VisitTally),
-    Broken,
-}
-
-// The objects of an answer, which are to be judged; or a reading where the answer is decided without them.
-#[derive(Clone, Copy)]
-pub enum ItemListing {
-    Objects(VisitTally),
-    Decided(Reading),
-}
-
-// What an answer is before a walk: a template, whose contents are to be walked, or listed without one.
-#[derive(Clone, Copy)]
-pub enum OpenedResponse {
-    Template(TlvHeader),
-    Listed(ItemListing),
-}
-
-// The verdict on an object before the store is asked: skipped, not allowed, or a value for a row.
-#[derive(Clone, Copy)]
-pub enum ItemVerdict {
-    Skipped,
-    NotAllowed,
-    ForRow(usize),
-}
-
-// The verdict on all objects: so many values are pending, or one object is not allowed.
-#[derive(Clone, Copy)]
-pub enum ItemsVerdict {
-    Pending(usize),
-    NotAllowed,
-}
-
 // A reading, and how many values are pending: none, unless all objects are allowed.
+// Kept: a reading of any verdict with a count, and no Result: both callers take the reading whatever its verdict is.
 #[derive(Clone, Copy)]
 pub struct PendingReading {
     pub reading: Reading,
@@ -178,40 +124,29 @@ pub struct PendingReading {
 }
 
 // The whole answer to the command that was handed out, status bytes included.
-pub fn read_answer(store: &mut [u8], awaited: Awaited, answer: &[u8]) -> Reading
-    requires { length store.old ≡ store_size }
+pub fn read_answer(store: &mut [u8; SIZE], awaited: Awaited, answer: &[u8]) -> Reading
     ensures given { ReadingAndStoreMatchOutcome result store.new (read_answer awaited store.old answer.now) }
-    ensures sized { length store.new ≡ store_size }
     ensures half { 2 * result.objects ≤ length answer.now - 2 }
     ensures tree { result.objects ≡ object_count_in_answer awaited answer.now }
 {
-    let mut items = [0u64; ITEMS];
-    let listing = list_objects(awaited, answer, &mut items);
-    take_listed(store, awaited, answer, listing, &mut items)
+    read_answer_by::<RecursiveWalk>(store, awaited, answer)
 }
 
 // What a reading reports of an answer; the store stays.
-pub fn judge_answer(store: &[u8], awaited: Awaited, answer: &[u8]) -> ResponseVerdict
-    requires { length store.now ≡ store_size }
+pub fn judge_answer(store: &[u8; SIZE], awaited: Awaited, answer: &[u8]) -> ResponseVerdict
     ensures { verdict_number result ≡ (read_answer awaited store.now answer.now).reason }
 {
-    let mut items = [0u64; ITEMS];
-    let listing = list_objects(awaited, answer, &mut items);
-    let judged = judge_listed(store, awaited, answer, listing, &mut items);
-    let reading = judged.reading;
-    reading.verdict
+    judge_answer_by::<RecursiveWalk>(store, awaited, answer)
 }
 
 // The answer by both readers, each with a store of its own; where the stores are equal, so are the readings and
 // what they leave.
 pub fn read_both(
-    recursive: &mut [u8],
-    flat: &mut [u8],
+    recursive: &mut [u8; SIZE],
+    flat: &mut [u8; SIZE],
     awaited: Awaited,
     answer: &[u8],
 ) -> BothReadings
-    requires recursive_len { length recursive.old ≡ store_size }
-    requires flat_len { length flat.old ≡ store_size }
     ensures recursive { ReadAnswerPromises awaited answer.now recursive.old result.recursive recursive.new }
     ensures flat { ReadAnswerPromises awaited answer.now flat.old result.flat flat.new }
     ensures same { recursive.old ≡ flat.old → ReadersAgree result recursive.new flat.new }
@@ -236,32 +171,82 @@ pub fn verdict_number(verdict: ResponseVerdict) -> u8
     }
 }
 
-// The objects of an answer, a template's by the walk that calls itself.
-fn list_objects(awaited: Awaited, answer: &[u8], items: &mut [u64; ITEMS]) -> ItemListing
-    requires { length items.old ≡ most_listed_items }
-    ensures lists { ListingGivesReading awaited answer.now (λ b. read_answer awaited b answer.now)
-        result items.new }
-    ensures room { length items.new ≡ most_listed_items }
+// A walk over the contents of an answer's outer template, whose tag this is: it lists the primitive objects.
+trait TemplateWalk {
+    fn walk(
+        bytes: &[u8],
+        contents: Range<usize>,
+        tag: u32,
+        items: &mut [u64; ITEMS],
+    ) -> Option<VisitTally>
+        requires template_walk_has_room { TemplateWalkHasRoom bytes.now contents.start contents.end 1 0 items.old }
+        requires tag_bound { tag < 0x1000000 }
+        ensures { WalkListsTree bytes.now tag
+            (parse_tree 3 (take (contents.end - contents.start) (drop contents.start bytes.now)))
+            1 0 items.old result items.new };
+}
+
+// The walk that calls itself.
+struct RecursiveWalk;
+
+impl TemplateWalk for RecursiveWalk {
+    fn walk(
+        bytes: &[u8],
+        contents: Range<usize>,
+        tag: u32,
+        items: &mut [u64; ITEMS],
+    ) -> Option<VisitTally> {
+        let outer = VisitTally {
+            objects: 1,
+            items: 0,
+        };
+        walk(bytes, contents, tag, 3, outer, items)
+    }
+}
+
+// `read_answer` by a walk.
+fn read_answer_by<W: TemplateWalk>(
+    store: &mut [u8; SIZE],
+    awaited: Awaited,
+    answer: &[u8],
+) -> Reading
+    ensures { ReadAnswerPromises awaited answer.now store.old result store.new }
 {
-    let opened = open(awaited, answer, items);
-    match opened {
-        OpenedResponse::Listed(listing) => listing,
-        OpenedResponse::Template(h) => {
-            let start = h.start;
-            let end = start + h.len;
-            let walked = walk(
-                answer,
-                ContentsRange { start, end },
-                h.tag,
-                3,
-                VisitTally {
-                    objects: 1,
-                    items: 0,
-                },
-                items,
-            );
-            close(awaited, h.tag, walked)
-        }
+    let mut items = [0u64; ITEMS];
+    let listing = list_objects::<W>(awaited, answer, &mut items);
+    take_listed(store, awaited, answer, listing, &mut items)
+}
+
+// `judge_answer` by a walk.
+fn judge_answer_by<W: TemplateWalk>(
+    store: &[u8; SIZE],
+    awaited: Awaited,
+    answer: &[u8],
+) -> ResponseVerdict
+    ensures { verdict_number result ≡ (read_answer awaited store.now answer.now).reason }
+{
+    let mut items = [0u64; ITEMS];
+    let listing = list_objects::<W>(awaited, answer, &mut items);
+    judge_listed(store, awaited, answer, listing, &mut items)
+        .reading
+        .verdict
+}
+
+// The objects of an answer, a template's by a walk.
+fn list_objects<W: TemplateWalk>(
+    awaited: Awaited,
+    answer: &[u8],
+    items: &mut [u64; ITEMS],
+) -> Result<VisitTally, Reading>
+    ensures { ListingGivesReading awaited answer.now (λ b. read_answer awaited b answer.now)
+        result items.new }
+{
+    let h = open(awaited, answer)?;
+    if h.template {
+        let end = h.start + h.len;
+        close(awaited, h.tag, W::walk(answer, h.start..end, h.tag, items))
+    } else {
+        list_parts(awaited, h, items)
     }
 }
 
@@ -270,119 +255,85 @@ fn list_objects(awaited: Awaited, answer: &[u8], items: &mut [u64; ITEMS]) -> It
 // and after the objects are padding, passed one at a time.
 fn walk(
     bytes: &[u8],
-    contents: ContentsRange,
+    contents: Range<usize>,
     around: u32,
     levels: usize,
     tally: VisitTally,
     items: &mut [u64; ITEMS],
-) -> TemplateWalkResult
+) -> Option<VisitTally>
     requires template_walk_has_room { TemplateWalkHasRoom bytes.now contents.start contents.end tally.objects tally.items items.old }
     requires around_bound { around < 0x1000000 }
-    ensures walks { WalkListsTree bytes.now around
+    ensures { WalkListsTree bytes.now around
         (parse_tree levels (take (contents.end - contents.start) (drop contents.start bytes.now)))
         tally.objects tally.items items.old result items.new }
-    ensures room { length items.new ≡ most_listed_items }
 {
     let end = contents.end;
     let mut at = contents.start;
-    let mut n = tally.objects;
-    let mut k = tally.items;
+    let mut so_far = tally;
+    // Kept: a `while`, as it steps by sizes that it reads from the bytes.
     while at < end {
         if bytes[at] == 0 {
             at += 1;
         } else {
-            let front = tlv::object_header(&bytes[at..end]);
-            let ObjectFront::Object(h) = front else {
-                return TemplateWalkResult::Broken; // no whole object is next
-            };
+            let h = tlv::object_header(&bytes[at..end])?;
             let from = at + h.start;
             let e = from + h.len;
-            n += 1;
+            so_far.objects += 1;
             if h.template {
                 if levels == 0 {
-                    return TemplateWalkResult::Broken;
+                    return None;
                 }
-                let within = ContentsRange {
-                    start: from,
-                    end: e,
-                };
-                let so_far = VisitTally {
-                    objects: n,
-                    items: k,
-                };
-                let inside = walk(bytes, within, h.tag, levels - 1, so_far, items);
-                let TemplateWalkResult::Whole(t) = inside else {
-                    return TemplateWalkResult::Broken;
-                };
-                n = t.objects;
-                k = t.items;
+                so_far = walk(bytes, from..e, h.tag, levels - 1, so_far, items)?;
             } else {
-                items[k] = packed_item(h.tag, around, from, h.len);
-                k += 1;
+                items[so_far.items] = packed_item(h.tag, around, from, h.len);
+                so_far.items += 1;
             }
             at = e;
         }
     }
-    TemplateWalkResult::Whole(VisitTally {
-        objects: n,
-        items: k,
-    })
+    Some(so_far)
 }
 
 // The listed objects are judged, and the pending values put into the store.
 fn take_listed(
-    store: &mut [u8],
+    store: &mut [u8; SIZE],
     awaited: Awaited,
     answer: &[u8],
-    listing: ItemListing,
+    listing: Result<VisitTally, Reading>,
     items: &mut [u64; ITEMS],
 ) -> Reading
-    requires store_len { (length store.old ≡ store_size) × (length items.old ≡ most_listed_items) }
-    requires listed_items_lie_in_response { ListedItemsLieInResponse answer.now listing items.old }
-    ensures given { ReadingAndStoreMatchOutcome result store.new
+    requires { ListedItemsLieInResponse answer.now listing items.old }
+    ensures { ReadingAndStoreMatchOutcome result store.new
         (reading_outcome_of_listing awaited answer.now store.old listing items.old) }
-    ensures sized { length store.new ≡ store_size }
 {
     let judged = judge_listed(store, awaited, answer, listing, items);
-    store_pending(store, answer, items, judged.pending);
+    store_pending(store, answer, &items[..judged.pending]);
     judged.reading
 }
 
 // The reading of an answer, and how many values are pending.
 fn judge_listed(
-    store: &[u8],
+    store: &[u8; SIZE],
     awaited: Awaited,
     answer: &[u8],
-    listing: ItemListing,
+    listing: Result<VisitTally, Reading>,
     items: &mut [u64; ITEMS],
 ) -> PendingReading
-    requires store_len { (length store.now ≡ store_size) × (length items.old ≡ most_listed_items) }
-    requires listed_items_lie_in_response { ListedItemsLieInResponse answer.now listing items.old }
+    requires { ListedItemsLieInResponse answer.now listing items.old }
     ensures given { ReadingAndStoreMatchOutcome result.reading
         (store_with_pending answer.now store.now (take result.pending items.new))
         (reading_outcome_of_listing awaited answer.now store.now listing items.old) }
     ensures pending { IsPendingList answer.now result.pending items.new }
 {
     match listing {
-        ItemListing::Decided(reading) => PendingReading {
+        Err(reading) => PendingReading {
             reading,
             pending: 0,
         },
-        ItemListing::Objects(tally) => {
-            let judged = judge_items(items, tally.items, answer_bit(awaited), answer, store);
-            match judged {
-                ItemsVerdict::NotAllowed => pending_reading(
-                    ResponseVerdict::NotAllowed,
-                    tally.objects,
-                    0,
-                ),
-                ItemsVerdict::Pending(n) => pending_reading(
-                    ResponseVerdict::Accepted,
-                    tally.objects,
-                    n,
-                ),
-            }
-        }
+        Ok(tally) => match judge_items(items, tally.items, answer_bit(awaited), answer, store) {
+            Ok(n) => pending_reading(ResponseVerdict::Accepted, tally.objects, n),
+            Err(verdict) => pending_reading(verdict, tally.objects, 0),
+        },
     }
 }
 
@@ -395,63 +346,53 @@ fn pending_reading(verdict: ResponseVerdict, objects: usize, pending: usize) -> 
 }
 
 // Puts the pending values into the store, one after the other.
-fn store_pending(store: &mut [u8], bytes: &[u8], pending: &[u64; ITEMS], n: usize)
-    requires { (length store.old ≡ store_size) × IsPendingList bytes.now n pending.now }
-    ensures put { store.new ≡ store_with_pending bytes.now store.old
-        (take n pending.now) }
-    ensures sized { length store.new ≡ store_size }
+fn store_pending(store: &mut [u8; SIZE], bytes: &[u8], pending: &[u64])
+    requires { AllPendingEntriesFitRowAndBytes bytes.now pending.now }
+    ensures { store.new ≡ store_with_pending bytes.now store.old pending.now }
 {
-    let mut i = 0;
-    while i < n {
-        let value = pending[i];
-        let start = start_in(value);
-        let e = start + len_in(value);
-        store::put(store, row_in(value), &bytes[start..e]);
-        i += 1;
+    for value in pending {
+        let start = start_in(*value);
+        let e = start + len_in(*value);
+        store::put(store, row_in(*value), &bytes[start..e]);
     }
 }
 
 // Length and status, and whether the body is read.
-fn begin(awaited: Awaited, answer: &[u8]) -> ReadingBeginning
+#[tactic(auto, using(basics::proofs::Laws::if_yes, basics::proofs::Laws::if_no), unfolding(crate::specs::Inner::reading_beginning, crate::specs::Answer::response_length_is2_to258, basics::specs::Choice::both))]
+fn begin(awaited: Awaited, answer: &[u8]) -> Result<usize, ResponseVerdict>
     ensures { result ≡ reading_beginning awaited answer.now }
 {
     let n = answer.len();
-    if n < 2 {
-        return ReadingBeginning::Decided(ResponseVerdict::Malformed);
-    }
-    if MOST_ANSWER < n {
-        return ReadingBeginning::Decided(ResponseVerdict::Malformed);
+    if n < 2 || MOST_ANSWER < n {
+        return Err(ResponseVerdict::Malformed);
     }
     if !is_good(answer) {
-        return ReadingBeginning::Decided(ResponseVerdict::BadStatus);
+        return Err(ResponseVerdict::BadStatus);
     }
     if !is_read(awaited) {
-        return ReadingBeginning::Decided(ResponseVerdict::Accepted);
+        return Err(ResponseVerdict::Accepted);
     }
-    ReadingBeginning::Body(n - 2)
+    Ok(n - 2)
 }
 
 // Whether the two bytes at the end are 90 00.
+#[tactic(auto, unfolding(crate::specs::Answer::is_status9000, basics::specs::Choice::both))]
 fn is_good(answer: &[u8]) -> bool
     requires { 2 ≤ length answer.now }
     ensures { result ≡ is_status9000 answer.now }
 {
     let n = answer.len();
-    if answer[n - 2] == 0x90 {
-        return answer[n - 1] == 0;
-    }
-    false
+    answer[n - 2] == 0x90 && answer[n - 1] == 0
 }
 
 // Whether more than the status is read: of files 11 to 30 nothing is.
+#[tactic(auto, unfolding(crate::specs::Answer::is_body_to_be_read))]
 fn is_read(awaited: Awaited) -> bool
     ensures { result ≡ is_body_to_be_read awaited }
 {
     match awaited {
-        Awaited::Gpo => true,
         Awaited::Record(f) => f.number <= 10,
-        Awaited::Cryptogram => true,
-        Awaited::Checksum => true,
+        Awaited::Gpo | Awaited::Cryptogram | Awaited::Checksum => true,
     }
 }
 
@@ -473,223 +414,194 @@ fn template_tag(awaited: Awaited) -> u32
     ensures { result ≡ response_template_tag awaited }
 {
     match awaited {
-        Awaited::Gpo => 0x77,
         Awaited::Record(_) => 0x70,
-        Awaited::Cryptogram => 0x77,
-        Awaited::Checksum => 0x77,
+        Awaited::Gpo | Awaited::Cryptogram | Awaited::Checksum => 0x77,
     }
 }
 
-// The body's one object.
-fn outer_of(body: &[u8]) -> OuterObject
+// The body's one object, with no byte after it.
+#[tactic(auto, using(basics::proofs::Laws::if_yes, basics::proofs::Laws::if_no), unfolding(crate::specs::Inner::outer_object))]
+fn outer_of(body: &[u8]) -> Option<TlvHeader>
     ensures { result ≡ outer_object body.now }
 {
-    let front = tlv::object_header(body);
-    let ObjectFront::Object(h) = front else {
-        return OuterObject::Broken;
-    };
-    if h.start + h.len != body.len() {
-        return OuterObject::Broken;
-    }
-    if h.template {
-        return OuterObject::Template(h);
-    }
-    OuterObject::Primitive(h)
-}
-
-// Length, status and the body's one object: a template, or the parts of a body under 80.
-fn open(awaited: Awaited, answer: &[u8], items: &mut [u64; ITEMS]) -> OpenedResponse
-    requires { length items.old ≡ most_listed_items }
-    ensures opens { OpenedResponseDescribesResponse awaited answer.now result items.new }
-    ensures room { length items.new ≡ most_listed_items }
-{
-    let beginning = begin(awaited, answer);
-    match beginning {
-        ReadingBeginning::Decided(verdict) => OpenedResponse::Listed(decided(verdict, 0)),
-        ReadingBeginning::Body(n) => {
-            let outer = outer_of(&answer[..n]);
-            match outer {
-                OuterObject::Broken => OpenedResponse::Listed(decided(
-                    ResponseVerdict::Malformed,
-                    0,
-                )),
-                OuterObject::Template(h) => OpenedResponse::Template(h),
-                OuterObject::Primitive(h) => OpenedResponse::Listed(list_parts(awaited, h, items)),
-            }
-        }
+    let h = tlv::object_header(body)?;
+    if h.start + h.len == body.len() {
+        Some(h)
+    } else {
+        None
     }
 }
 
-// An answer that is decided without its objects.
-fn decided(verdict: ResponseVerdict, objects: usize) -> ItemListing
-    ensures { result ≡ ItemListing.Decided (reading_of verdict objects) }
+// Length, status and the body's one object.
+fn open(awaited: Awaited, answer: &[u8]) -> Result<TlvHeader, Reading>
+    ensures { OpenedResponseDescribesResponse awaited answer.now result }
 {
-    ItemListing::Decided(Reading { verdict, objects })
+    // Kept: a `match` and no `map_err(..)?`, whose closure would be as long as the arm.
+    match begin(awaited, answer) {
+        Err(verdict) => Err(Reading {
+            verdict,
+            objects: 0,
+        }),
+        Ok(n) => outer_of(&answer[..n]).ok_or(malformed(0)),
+    }
+}
+
+// The reading of a malformed answer that has so many objects.
+fn malformed(objects: usize) -> Reading
+    ensures { result ≡ reading_of Malformed objects }
+{
+    Reading {
+        verdict: ResponseVerdict::Malformed,
+        objects,
+    }
 }
 
 // The objects of a template by what the walk over its contents reports.
-fn close(awaited: Awaited, tag: u32, walked: TemplateWalkResult) -> ItemListing
+#[tactic(auto, using(basics::proofs::Laws::if_yes, basics::proofs::Laws::if_no), unfolding(crate::specs::Inner::listing_of_template))]
+fn close(awaited: Awaited, tag: u32, walked: Option<VisitTally>) -> Result<VisitTally, Reading>
     ensures { result ≡ listing_of_template awaited tag walked }
 {
-    let TemplateWalkResult::Whole(t) = walked else {
-        return decided(ResponseVerdict::Malformed, 0);
-    };
-    if tag != template_tag(awaited) {
-        return decided(ResponseVerdict::Malformed, t.objects);
+    let t = walked.ok_or(malformed(0))?;
+    if tag == template_tag(awaited) {
+        Ok(t)
+    } else {
+        Err(malformed(t.objects))
     }
-    ItemListing::Objects(t)
 }
 
 // The parts of a primitive body, which must be under 80.
-fn list_parts(awaited: Awaited, h: TlvHeader, items: &mut [u64; ITEMS]) -> ItemListing
-    requires { (length items.old ≡ most_listed_items) × (2 ≤ h.start) × (h.start + h.len ≤ 256) }
-    ensures lists { ListingGivesPrimitiveBodyReading awaited (primitive_body_items awaited h.tag) h.start h.len
+fn list_parts(
+    awaited: Awaited,
+    h: TlvHeader,
+    items: &mut [u64; ITEMS],
+) -> Result<VisitTally, Reading>
+    requires { (2 ≤ h.start) × (h.start + h.len ≤ 256) }
+    ensures { ListingGivesPrimitiveBodyReading awaited (primitive_body_items awaited h.tag) h.start h.len
         result items.new }
-    ensures room { length items.new ≡ most_listed_items }
 {
     if h.tag != 0x80 {
-        return decided(ResponseVerdict::Malformed, 1);
+        return Err(malformed(1));
     }
     match awaited {
         Awaited::Gpo => list_gpo(h.start, h.len, items),
-        Awaited::Record(_) => decided(ResponseVerdict::Malformed, 1),
         Awaited::Cryptogram => list_cryptogram(h.start, h.len, items),
-        Awaited::Checksum => decided(ResponseVerdict::Malformed, 1),
+        Awaited::Record(_) | Awaited::Checksum => Err(malformed(1)),
     }
 }
 
 // The parts of a GPO body under 80: the AIP, then the AFL.
-fn list_gpo(start: usize, n: usize, items: &mut [u64; ITEMS]) -> ItemListing
-    requires { (length items.old ≡ most_listed_items) × (2 ≤ start) × (start + n ≤ 256) }
-    ensures lists { ListingGivesPrimitiveBodyReading Awaited.Gpo gpo_items_under80 start n result items.new }
-    ensures room { length items.new ≡ most_listed_items }
+fn list_gpo(start: usize, n: usize, items: &mut [u64; ITEMS]) -> Result<VisitTally, Reading>
+    requires { (2 ≤ start) × (start + n ≤ 256) }
+    ensures { ListingGivesPrimitiveBodyReading Awaited.Gpo gpo_items_under80 start n result items.new }
 {
-    if n < LEAST_GPO_BODY {
-        return decided(ResponseVerdict::Malformed, 1);
+    if n < LEAST_GPO_BODY || MOST_GPO_BODY < n || (n - 2) % 4 != 0 {
+        return Err(malformed(1));
     }
-    if MOST_GPO_BODY < n {
-        return decided(ResponseVerdict::Malformed, 1);
-    }
-    if (n - 2) % 4 != 0 {
-        return decided(ResponseVerdict::Malformed, 1);
-    }
+    // Kept: two lines and no table of parts, as the last part's length depends on the value's.
     items[0] = packed_item(0x82, 0x77, start, 2);
     items[1] = packed_item(0x94, 0x77, start + 2, n - 2);
-    ItemListing::Objects(VisitTally {
+    Ok(VisitTally {
         objects: 1,
         items: 2,
     })
 }
 
 // 9F27, 9F36 and 9F26, and 9F10 if any bytes are left.
-fn list_cryptogram(start: usize, n: usize, items: &mut [u64; ITEMS]) -> ItemListing
-    requires { (length items.old ≡ most_listed_items) × (2 ≤ start) × (start + n ≤ 256) }
-    ensures lists { ListingGivesPrimitiveBodyReading Awaited.Cryptogram cryptogram_items_under80 start n result items.new }
-    ensures room { length items.new ≡ most_listed_items }
+fn list_cryptogram(start: usize, n: usize, items: &mut [u64; ITEMS]) -> Result<VisitTally, Reading>
+    requires { (2 ≤ start) × (start + n ≤ 256) }
+    ensures { ListingGivesPrimitiveBodyReading Awaited.Cryptogram cryptogram_items_under80 start n result items.new }
 {
-    if n < LEAST_AC_BODY {
-        return decided(ResponseVerdict::Malformed, 1);
+    if n < LEAST_AC_BODY || MOST_AC_BODY < n {
+        return Err(malformed(1));
     }
-    if MOST_AC_BODY < n {
-        return decided(ResponseVerdict::Malformed, 1);
-    }
+    // Kept: a line for each part and no table, as the last part's length depends on the value's.
     items[0] = packed_item(0x9F27, 0x77, start, 1);
     items[1] = packed_item(0x9F36, 0x77, start + 1, 2);
     items[2] = packed_item(0x9F26, 0x77, start + 3, 8);
     if n == LEAST_AC_BODY {
-        return ItemListing::Objects(VisitTally {
+        return Ok(VisitTally {
             objects: 1,
             items: 3,
         });
     }
     items[3] = packed_item(0x9F10, 0x77, start + 11, n - 11);
-    ItemListing::Objects(VisitTally {
+    Ok(VisitTally {
         objects: 1,
         items: 4,
     })
 }
 
 // The listed objects one after the other: the pending values take their place, from the front; or one is not allowed.
+// Kept: `0 < answer` is asked by four functions: a bit of a column that is made once for a reading. A type for it would
+// have one maker, `answer_bit`, and be taken apart at each test.
 fn judge_items(
     items: &mut [u64; ITEMS],
     n: usize,
     answer: u8,
     bytes: &[u8],
-    store: &[u8],
-) -> ItemsVerdict
-    requires store_len { (length store.now ≡ store_size) × IsItemList bytes.now n items.old }
+    store: &[u8; SIZE],
+) -> Result<usize, ResponseVerdict>
+    requires is_item_list { IsItemList bytes.now n items.old }
     requires answer_nonzero { 0 < answer }
-    ensures judges { ItemsVerdictMatchesStoringItems answer bytes.now store.now
+    ensures { ItemsVerdictMatchesStoringItems answer bytes.now store.now
         (unpacked_first_items bytes.now n items.old) result items.new }
-    ensures room { length items.new ≡ most_listed_items }
 {
     let mut filled = [0u8; ROWS];
-    let tags = dictionary::dictionary_tags();
-    let codes = dictionary::packed_row_attributes();
+    let tables = DictionaryTables::new();
     let mut pending = 0;
-    let mut i = 0;
-    while i < n {
+    // Kept: by index, as the pending values are written into the front of the list that is read.
+    for i in 0..n {
         let item = items[i];
-        i += 1;
-        let verdict = judge_item(item, answer, bytes, &tags, &codes);
-        match verdict {
-            ItemVerdict::Skipped => {}
-            ItemVerdict::NotAllowed => return ItemsVerdict::NotAllowed,
-            ItemVerdict::ForRow(row) => {
-                if !is_free(row, store, &filled) {
-                    return ItemsVerdict::NotAllowed;
-                }
-                add_pending(row, item, pending, items, &mut filled);
-                pending += 1;
+        if let Some(row) = judge_item(item, answer, bytes, &tables)? {
+            if !is_free(row, store, &filled) {
+                return Err(ResponseVerdict::NotAllowed);
             }
+            add_pending(row, item, pending, items, &mut filled);
+            pending += 1;
         }
     }
-    ItemsVerdict::Pending(pending)
+    Ok(pending)
 }
 
-// The verdict on one object, before the store is asked.
+// One object before the store is asked: its row, no row where it is skipped, or the verdict where it is not allowed.
 fn judge_item(
     item: u64,
     answer: u8,
     bytes: &[u8],
-    tags: &[u32; ROWS],
-    codes: &[u32; ROWS],
-) -> ItemVerdict
+    tables: &DictionaryTables,
+) -> Result<Option<usize>, ResponseVerdict>
     requires item_value_inside { ItemValueInside bytes.now item }
     requires answer_nonzero { 0 < answer }
-    requires are_dictionary_tables { AreDictionaryTables tags.now codes.now }
     ensures { result ≡ judge_item answer (unpacked_item bytes.now item) }
 {
     let tag = tag_in(item);
-    let found = dictionary::find_row(tags, tag).found;
-    let RowFound::At(row) = found else {
-        return ItemVerdict::Skipped;
+    let Some(row) = tables.find_row(tag).found else {
+        return Ok(None);
     };
-    let attributes = dictionary::unpack_row_attributes(codes[row]);
+    let attributes = tables.attributes_of(row);
     if is_skipped(tag, attributes) {
-        return ItemVerdict::Skipped;
+        return Ok(None);
     }
     let start = start_in(item);
     let e = start + len_in(item);
     if !may_come(attributes, around_in(item), answer, &bytes[start..e]) {
-        return ItemVerdict::NotAllowed;
+        return Err(ResponseVerdict::NotAllowed);
     }
-    ItemVerdict::ForRow(row)
+    Ok(Some(row))
 }
 
 // Whether no bytes are in a row's place of the store and none are pending for it.
-fn is_free(row: usize, store: &[u8], filled: &[u8; ROWS]) -> bool
-    requires { (row < row_count) × (length store.now ≡ store_size) × (length filled.now ≡ row_count) }
+#[tactic(auto, using(crate::proofs::Pending::marked, crate::proofs::Pending::unmarked))]
+fn is_free(row: usize, store: &[u8; SIZE], filled: &[u8; ROWS]) -> bool
+    requires { row < row_count }
     ensures { result ≡ both (is_row_absent_or_empty dictionary_rows store.now row)
         (eqb (get_or filled.now row 0) 0) }
 {
-    if filled[row] != 0 {
-        return false;
-    }
-    store::length_plus_one_or_zero(store, row) <= 1
+    filled[row] == 0 && store::length_plus_one_or_zero(store, row) <= 1
 }
 
 // An object's value is pending for a row, behind so many others; the row is marked where the value has bytes.
+#[tactic(auto, using(basics::proofs::Laws::if_yes, basics::proofs::Laws::if_no))]
 fn add_pending(
     row: usize,
     item: u64,
@@ -697,8 +609,7 @@ fn add_pending(
     items: &mut [u64; ITEMS],
     filled: &mut [u8; ROWS],
 )
-    requires row_lt_row_count { (row < row_count) × (pending < most_listed_items) }
-    requires len { (length items.old ≡ most_listed_items) × (length filled.old ≡ row_count) }
+    requires { (row < row_count) × (pending < most_listed_items) }
     ensures put { items.new ≡ set items.old pending (packed_pending_entry row item) }
     ensures marked { filled.new ≡ mark_row_filled_if_non_empty filled.old row (packed_item_value_length item) }
 {
@@ -756,65 +667,49 @@ fn row_in(value: u64) -> usize
 }
 
 // Whether a known object is skipped: of the private class, and not the card's to set.
+#[tactic(auto, unfolding(basics::specs::Choice::both))]
 fn is_skipped(tag: u32, attributes: RowAttributes) -> bool
     ensures { result ≡ both (is_private tag) (not (card_may_set (row_with_attributes_and_tag_zero attributes))) }
 {
-    if attributes.setters / dictionary::CARD % 2 == 1 {
-        return false;
-    }
-    tlv::is_private(tag)
+    !attributes.may_be_set_by(dictionary::CARD) && tlv::is_private(tag)
 }
 
 // Whether the card may bring an object of these attributes here, with this value.
+#[tactic(auto, unfolding(crate::specs::Taking::row_allows_value_from_card, crate::specs::Taking::allowed_in_template, basics::specs::Choice::both))]
 fn may_come(attributes: RowAttributes, around: u32, answer: u8, v: &[u8]) -> bool
     requires { 0 < answer }
     ensures { result ≡ row_allows_value_from_card answer (row_with_attributes_and_tag_zero attributes) around v.now }
 {
-    if attributes.setters / dictionary::CARD % 2 != 1 {
-        return false;
-    }
-    if !is_brought_by(attributes.answers, answer) {
-        return false;
-    }
-    if !may_stand(attributes.templates, around) {
-        return false;
-    }
-    dictionary::length_and_digits_fit_row(attributes, v)
+    attributes.may_be_set_by(dictionary::CARD)
+        && is_brought_by(attributes, answer)
+        && may_stand(attributes, around)
+        && dictionary::length_and_digits_fit_row(attributes, v)
 }
 
-// Whether an answer is one of those that may bring an object. The last test would do for all; the first
-// two spare a division.
-fn is_brought_by(answers: u8, answer: u8) -> bool
+// Whether an answer is one of those that may bring an object.
+// Kept: the last test would do for all, and the first two spare a division.
+fn is_brought_by(attributes: RowAttributes, answer: u8) -> bool
     requires { 0 < answer }
-    ensures { result ≡ has_bit_of_weight answers answer }
+    ensures { result ≡ has_bit_of_weight attributes.answers answer }
 {
-    if answer == dictionary::CARD_RECORD {
-        return answers / dictionary::CARD_RECORD % 2 == 1;
+    match answer {
+        dictionary::CARD_RECORD => attributes.may_be_brought_by(dictionary::CARD_RECORD),
+        dictionary::CRYPTOGRAM => attributes.may_be_brought_by(dictionary::CRYPTOGRAM),
+        _ => attributes.may_be_brought_by(answer),
     }
-    if answer == dictionary::CRYPTOGRAM {
-        return answers / dictionary::CRYPTOGRAM % 2 == 1;
-    }
-    answers / answer % 2 == 1
 }
 
 // Whether an object of these templates may be directly inside a template.
-fn may_stand(templates: u8, around: u32) -> bool
-    ensures { result ≡ is_template_in_set templates around }
+#[tactic(auto, using(basics::proofs::Laws::if_yes, basics::proofs::Laws::if_no))]
+fn may_stand(attributes: RowAttributes, around: u32) -> bool
+    ensures { result ≡ is_template_in_set attributes.templates around }
 {
-    if around == 0x70 {
-        return templates / dictionary::IN_70 % 2 == 1;
+    match around {
+        0x70 => attributes.may_be_in(dictionary::IN_70),
+        0x77 => attributes.may_be_in(dictionary::IN_77),
+        0xA5 => attributes.may_be_in(dictionary::IN_A5),
+        0xBF0C => attributes.may_be_in(dictionary::IN_BF0C),
+        0x6F => attributes.may_be_in(dictionary::IN_6F),
+        _ => false,
     }
-    if around == 0x77 {
-        return templates / dictionary::IN_77 % 2 == 1;
-    }
-    if around == 0xA5 {
-        return templates / dictionary::IN_A5 % 2 == 1;
-    }
-    if around == 0xBF0C {
-        return templates / dictionary::IN_BF0C % 2 == 1;
-    }
-    if around == 0x6F {
-        return templates / dictionary::IN_6F % 2 == 1;
-    }
-    false
 }

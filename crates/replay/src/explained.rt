@@ -4,58 +4,47 @@ use session_record::Session;
 
 // The stage that decided, the bit that forced the choice and who requested it; or what is in its place.
 pub fn print_explanation_line(rt: &impl Print, session: Session) {
-    let explanation = explain::explain(session);
     print::print_text(rt, b"explanation: ");
-    match explanation {
+    match explain::explain(session) {
         Explanation::Refused => print::print_text(rt, b"refused 25, the record does not tell why"),
-        Explanation::Reason(reason) => ended(rt, reason),
+        Explanation::Reason(reason) => {
+            let _ = print!(rt; "reason {reason}, ");
+            print::print_reason_words(rt, reason);
+        }
         Explanation::NoChoice => print::print_text(rt, b"no choice was made"),
         Explanation::LowerCryptogram => print::print_text(
             rt,
             b"the card gave a lower cryptogram than asked for",
         ),
         Explanation::Forced(cause) => forced(rt, cause),
-        Explanation::Unforced(stage) => unforced(rt, stage),
+        Explanation::Unforced(stage) => {
+            let _ = print!(rt; "{}, no bit forced the choice", stage_words(stage));
+        }
     }
     print::print_text(rt, b"\n");
 }
 
-fn ended(rt: &impl Print, reason: u8) {
-    print::print_text(rt, b"reason ");
-    print::print_number(rt, basics::widen(reason));
-    print::print_text(rt, b", ");
-    print::print_reason_words(rt, reason);
-}
-
 fn forced(rt: &impl Print, cause: ForcedChoiceCause) {
-    let stage = cause.stage;
-    let holder = cause.holder;
-    stage_words(rt, stage);
-    print::print_text(rt, b", ");
-    print::bits::print_tvr_bit_name(rt, basics::widen(cause.bit));
-    print::print_text(rt, b", asked for by ");
-    holder_words(rt, holder);
+    let _ = print!(rt; "{}, ", stage_words(cause.stage));
+    print::bits::print_tvr_bit_name(rt, usize::from(cause.bit));
+    let _ = print!(rt; ", asked for by {}", holder_words(cause.holder));
 }
 
-fn unforced(rt: &impl Print, stage: Stage) {
-    stage_words(rt, stage);
-    print::print_text(rt, b", no bit forced the choice");
-}
-
-fn stage_words(rt: &impl Print, stage: Stage) {
+// Kept: a stage and a holder are types of `explain`, so a `Display` of them cannot stand here.
+fn stage_words(stage: Stage) -> &'static str {
     match stage {
-        Stage::Denial => print::print_text(rt, b"denial stage"),
-        Stage::OnlineOnly => print::print_text(rt, b"terminal type that is online only"),
-        Stage::Default => print::print_text(rt, b"default stage"),
-        Stage::Online => print::print_text(rt, b"online stage"),
+        Stage::Denial => "denial stage",
+        Stage::OnlineOnly => "terminal type that is online only",
+        Stage::Default => "default stage",
+        Stage::Online => "online stage",
     }
 }
 
-fn holder_words(rt: &impl Print, holder: ActionCodeHolder) {
+fn holder_words(holder: ActionCodeHolder) -> &'static str {
     match holder {
-        ActionCodeHolder::Nobody => print::print_text(rt, b"nobody"),
-        ActionCodeHolder::Card => print::print_text(rt, b"the card"),
-        ActionCodeHolder::Terminal => print::print_text(rt, b"the terminal"),
-        ActionCodeHolder::Both => print::print_text(rt, b"the card and the terminal"),
+        ActionCodeHolder::Nobody => "nobody",
+        ActionCodeHolder::Card => "the card",
+        ActionCodeHolder::Terminal => "the terminal",
+        ActionCodeHolder::Both => "the card and the terminal",
     }
 }

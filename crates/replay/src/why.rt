@@ -3,10 +3,7 @@
 ghost use Rattle.std.specs.Prelude.{◌≤◌, length};
 
 use dictionary::ROWS;
-use print::tree;
-use print::tree::{TreeView, TreeWalk};
-use start_data::LoadResult;
-use tlv::ObjectFront;
+use print::tree::{TreeView, TreeWalk, WalkEnd};
 
 // The first object of a run: its tag and how many bytes it has, no byte where there is none.
 #[derive(Clone, Copy)]
@@ -22,13 +19,14 @@ pub fn print_start_refusal(rt: &impl Print, start: &[u8], number: u8) {
     match number {
         basics::REFUSED_OBJECT => refused(rt, start),
         basics::REFUSED_ABSENT => absent(rt, start),
-        _ => print::print_text(rt, b""),
+        _ => {}
     }
 }
 
 // The first object that a start may not set: the bytes up to its end are refused for an object, those
 // before it are not.
 fn refused(rt: &impl Print, start: &[u8]) {
+    // Kept: a step is as long as the object at its place, which the bytes tell; so is that of `brings`.
     let mut at: usize = 0;
     while at < start.len() {
         let first = first_of(&start[at..]);
@@ -48,25 +46,19 @@ fn refused(rt: &impl Print, start: &[u8]) {
 fn is_refused(start: &[u8]) -> bool {
     let store = store::empty();
     let mut bytes = store.bytes;
-    let said = start_data::load(&mut bytes, start);
-    match said {
-        LoadResult::Loaded => false,
-        LoadResult::Refused(refusal) => refusal.number == basics::REFUSED_OBJECT,
+    match start_data::load(&mut bytes, start) {
+        Ok(()) => false,
+        Err(refusal) => refusal.number == basics::REFUSED_OBJECT,
     }
 }
 
 // The objects that a start must bring and that are not among its bytes.
 fn absent(rt: &impl Print, start: &[u8]) {
     for row in 0..ROWS {
-        if dictionary::attributes_of(row).must != 0 {
-            absent_row(rt, start, dictionary::row_tag(row));
+        let tag = dictionary::row_tag(row);
+        if dictionary::attributes_of(row).must != 0 && !brings(start, tag) {
+            tag_line(rt, b"absent: ", tag);
         }
-    }
-}
-
-fn absent_row(rt: &impl Print, start: &[u8], tag: u32) {
-    if !brings(start, tag) {
-        tag_line(rt, b"absent: ", tag);
     }
 }
 
@@ -91,8 +83,7 @@ fn brings(start: &[u8], tag: u32) -> bool {
 fn first_of(s: &[u8]) -> FirstObject
     ensures { result.size ≤ length s.now }
 {
-    let front = tlv::primitive_at_front(s);
-    let ObjectFront::Object(h) = front else {
+    let Some(h) = tlv::primitive_at_front(s) else {
         return FirstObject { tag: 0, size: 0 };
     };
     FirstObject {
@@ -130,29 +121,18 @@ pub fn print_answer_details(rt: &impl Print, card: &[u8], reason: u8, view: Tree
 fn wrong_length(rt: &impl Print, size: usize, reason: u8) {
     if reason == basics::REASON_MALFORMED {
         print::print_indentation(rt, 0);
-        print::print_text(rt, b"malformed: length ");
-        print::print_number(rt, size);
-        print::print_text(rt, b", and an answer has 2 to 258 bytes\n");
+        let _ = print!(rt; "malformed: length {size}, and an answer has 2 to 258 bytes\n");
     }
 }
 
 // Where the answer cannot be read, counted from 0, and why. Where all its objects can be, the outer one is at fault.
 fn malformed(rt: &impl Print, walk: TreeWalk) {
-    let at = walk.at;
-    let ended = walk.ended;
-    match ended {
-        tree::BROKEN => malformed_at(rt, at, b"no whole object"),
-        tree::FIFTH => malformed_at(rt, at, b"template on the fifth level"),
-        tree::BEHIND => malformed_at(rt, at, b"behind the one object of an answer"),
-        _ => malformed_at(rt, 0, b"outer tag or body that this answer does not take"),
-    }
-}
-
-fn malformed_at(rt: &impl Print, place: usize, words: &[u8]) {
+    let (place, why) = match walk.ended {
+        Some(WalkEnd::Broken) => (walk.at, "no whole object"),
+        Some(WalkEnd::Fifth) => (walk.at, "template on the fifth level"),
+        Some(WalkEnd::Behind) => (walk.at, "behind the one object of an answer"),
+        _ => (0, "outer tag or body that this answer does not take"),
+    };
     print::print_indentation(rt, 0);
-    print::print_text(rt, b"malformed at byte ");
-    print::print_number(rt, place);
-    print::print_text(rt, b": ");
-    print::print_text(rt, words);
-    print::print_text(rt, b"\n");
+    let _ = print!(rt; "malformed at byte {place}: {why}\n");
 }

@@ -1,15 +1,15 @@
 -- How a step comes about: the refusals that every call checks first, an answer that is accepted or not, and each way
 -- out of a step. The proofs of the code cite these and do not unfold the steps.
 -- Assumes nothing.
+use Rattle.std.specs.Prelude.{Some, None, Option}
+use Rattle.command.specs.declared.DolCommandSize.{DolCommandSize}
 use mathlib.Core.Path.{◌≡◌, refl, sym, ap, ap₂, ◌∙◌}
-use mathlib.Core.Bool.{Bool, true, false, not}
+use mathlib.Core.Bool.{true, false, not}
 use mathlib.Core.List.{List, [], ◌∷◌}
-use mathlib.Core.Option.{Option, some, none}
-use Prim.Native.Nat.{ℕ, ◌+◌, ◌-◌, ◌/◌, ◌≤◌, ◌<◌}
+use Prim.Native.Nat.{ℕ, ◌+◌, ◌-◌, ◌≤◌, ◌<◌}
 use native.Mathlib.Omega.{arith}
 use lib.ListN.{length, take, drop, length-take}
-use borrow.Author.Tests.{lt-ltb, le-ltb, eq-eqb, ne_eqb, not-true, not-false}
-use Rattle.basics.specs.Choice.{if}
+use borrow.Author.Tests.{lt-ltb, le-ltb, eq-eqb, ne_eqb}
 use Rattle.basics.proofs.Laws.{if_yes, if_no, if_ind}
 use Rattle.dictionary.specs.Rows.{dictionary_rows, row_at}
 use Rattle.dictionary.specs.Named.{row_number_found_or_zero, row_number_of_tag_or_zero, row_afl, row_tvr, row_cvm_results}
@@ -19,11 +19,8 @@ use Rattle.store.specs.Place.{StoredValue, bytes_or_empty_if_absent, row_offset,
 use Rattle.store.specs.Place.{put_row}
 use Rattle.mag_stripe.specs.Digits.{track_with_digits_if_possible}
 use Rattle.afl.specs.declared.CardRecord.{CardRecord}
-use Rattle.afl.specs.declared.RecordFound.{RecordFound}
-use Rattle.afl.specs.Records.{accepts_afl, kth_record_of_accepted_afl}
+use Rattle.afl.specs.Records.{kth_record_of_accepted_afl}
 use Rattle.afl.proofs.Laws.{accepted_total, record_accepted, record_inside, record_named}
-use Rattle.command.specs.declared.DolCommand.{DolCommand}
-use Rattle.command.specs.declared.DolCommand.TheVariants.{Command, NoCommand}
 use Rattle.command.specs.declared.DolCommandSize.{DolCommandSize as Handed}
 use Rattle.command.specs.WithList.{dol_command_of, buffer_with_command}
 use Rattle.reading.specs.declared.Awaited.{Awaited}
@@ -33,47 +30,37 @@ use Rattle.reading.specs.declared.Reading.{Reading}
 use Rattle.reading.specs.Answer as reading
 use Rattle.reading.specs.Taking.{PrimitiveItem}
 use Rattle.analysis.specs.declared.choice.Choice.{Choice}
-use Rattle.analysis.specs.Action.{transaction_limit, stored_amount_above_limit, findings_of, choice_for_tvr}
-use Rattle.analysis.specs.Cvm.{cvm_number_not_applicable}
+use Rattle.analysis.specs.Action.{findings_of, choice_for_tvr}
 use Rattle.analysis.specs.declared.action.AnalysisFindings.{AnalysisFindings}
-use Rattle.session_record.specs.declared.Outcome.{Outcome}
 use Rattle.session_record.specs.declared.Ending.{Ending}
-use Rattle.session_record.specs.declared.RequestedCryptogram.{RequestedCryptogram}
-use Rattle.session_record.specs.declared.Refusal.{Refusal}
 use Rattle.session_record.specs.declared.AwaitedResponse.{AwaitedResponse}
 use Rattle.session_record.specs.declared.Phase.{Phase}
 use Rattle.session_record.specs.declared.Session.{Session}
 use Rattle.session_record.specs.declared.Reply.{Reply}
 use Rattle.session_record.specs.declared.Transition.{Transition}
-use Rattle.basics.specs.Reason.{refusal_wrong_phase, refusal_buffer_too_small, refusal_record_out_of_ranges, reason_none}
-use Rattle.basics.specs.Reason.{reason_object_not_allowed, reason_object_missing, reason_afl_invalid, reason_above_limit}
-use Rattle.basics.specs.Reason.{reason_dol_broken_or_bad_length, reason_cryptogram_type_not_allowed, reason_no_supported_mode}
-use Rattle.basics.specs.Reason.{reason_unless}
-use Rattle.session_record.specs.Session.{session_of, ending_of, ending_for_reason, reply_of, ending_transition}
-use Rattle.session_record.specs.Session.{failing_transition, command_transition}
-use Rattle.store.specs.Held.{has_object, stored_byte}
-use Rattle.session_record.specs.Ranges.{emv_mode, emv_or_mag_stripe_mode, stored_afl, expiry_pan_and_cdol1_non_empty}
-use Rattle.session_record.specs.Ranges.{track2_and_bitmaps_non_empty, zero_tvr, session_record_in_ranges}
+use Rattle.basics.specs.Reason.{refusal_wrong_phase, refusal_buffer_too_small, refusal_record_out_of_ranges}
+use Rattle.basics.specs.Reason.{reason_object_not_allowed}
+use Rattle.basics.specs.Reason.{reason_dol_broken_or_bad_length}
+use Rattle.session_record.specs.Session.{session_of, ending_for_reason, reply_of}
+use Rattle.session_record.specs.Ranges.{emv_mode, stored_afl}
+use Rattle.session_record.specs.Ranges.{zero_tvr, session_record_in_ranges}
 use Rattle.session_record.proofs.Tags.{bytes_are}
-use Rattle.start_data.specs.declared.LoadResult.{LoadResult}
+use Rattle.std.specs.Prelude.{Result, Ok, Err}
+use Rattle.session_record.specs.declared.Refusal.{Refusal}
 use Rattle.start_data.specs.StartData.{LoadedStore, LoadResultAndStoreMatchLoaded}
 use Rattle.start_data.proofs.Laws.{was_taken, was_refused}
-use Rattle.session.specs.declared.Check.{Check}
-use Rattle.session.specs.declared.CryptogramOutcome.{CryptogramOutcome}
-use Rattle.session.specs.declared.Decision.{Decision}
-use Rattle.session.specs.Steps.{NextAction, end, end_for_reason, held_cvm, request_command_or_end_for_dol}
+use Rattle.session.specs.declared.NextStep.{NextStep}
+use Rattle.session.specs.Steps.{ReturnsNext, next_step_of, store_after_next, buffer_after_next, transition_of_next}
+use Rattle.session.specs.Steps.{NextAction, ask, end, end_for_reason, held_cvm, request_command_or_end_for_dol}
 use Rattle.session.specs.Steps.{read_response_then, store_with_tvr, store_with_findings}
 use Rattle.session.specs.Steps.{Step, ReturnsStep, CallEffect, refuse, step_of_next, refused_step, step_of_effect}
 use Rattle.session.specs.Steps.{least_buffer, step_if_admitted}
 use Rattle.session.specs.Start.{request_gpo, start_effect_after_loading, start_effect}
-use Rattle.session.specs.Answer.{request_kth_record_if_found, aip_and_afl_present, next_after_gpo_read, request_cryptogram}
+use Rattle.session.specs.Answer.{request_cryptogram}
 use Rattle.session.specs.Answer.{requested_cryptogram, next_after_records_in_emv_mode, next_after_last_record}
-use Rattle.session.specs.Answer.{outcome_for_cryptogram_type, ending_for_decision, cid_atc_and_cryptogram_present}
-use Rattle.session.specs.Answer.{cryptogram_ending}
-use Rattle.session.specs.MagStripe.{request_checksum, next_after_records_in_mag_stripe_mode, stored_track2, stored_bitmaps}
+use Rattle.session.specs.MagStripe.{next_after_records_in_mag_stripe_mode, stored_track2, stored_bitmaps}
 use Rattle.session.specs.MagStripe.{stored_digit_values, stored_track_can_take_digits, store_with_track_digits}
 use Rattle.session.specs.MagStripe.{next_after_checksum_read, next_if_track_takes_digits, next_on_checksum_response}
-use Rattle.session.specs.Inner.{load_refusal_number_or_zero, reason_if_check_failed, cryptogram_outcome_ending}
 
 -- ---- a step by an equation
 
@@ -94,14 +81,25 @@ pub did_without_command : {t u : Transition} (b : List ℕ) {buf : List ℕ} {s 
 did_without_command b e f = did_as f (record { reply = reply_as b e; buffer = refl })
 
 -- what follows, by an equation
-pub did_next : {r : Reply} {c : List ℕ} (n : ℕ) (buf : List ℕ) {x y : NextAction} → x ≡ y
-    → ReturnsStep r c (step_of_next n buf y) → ReturnsStep r c (step_of_next n buf x)
-did_next n buf e d = did_as (ap (step_of_next n buf) e) d
+pub did_next : {r : NextStep} {b buf c : List ℕ} {x y : NextAction} → x ≡ y → ReturnsNext r b buf c y → ReturnsNext r b buf c x
+did_next {buf = buf} e d = record {
+  next = d.next ∙ ap next_step_of (sym e);
+  store = d.store ∙ ap store_after_next (sym e);
+  buffer = d.buffer ∙ ap (buffer_after_next buf) (sym e);
+}
 
 -- the session ends: the buffer stays
-pub did_end : (n : ℕ) (b buf : List ℕ) {t : Transition} {m : ℕ} {e : Ending} {x : NextAction}
-    → t ≡ ending_transition m n e → x ≡ end e m b → ReturnsStep (reply_of t b) buf (step_of_next n buf x)
-did_end n b buf h f = did_next n buf f (record { reply = reply_as b h; buffer = refl })
+pub did_end : {r : NextStep} {b buf : List ℕ} {m : ℕ} {e : Ending} {x : NextAction} → r ≡ NextStep.End e m → x ≡ end e m b
+    → ReturnsNext r b buf buf x
+did_end h f = did_next f (record { next = h; store = refl; buffer = refl })
+
+-- the step of a session of count n, by what was returned
+pub did_step : {r : NextStep} {t : Transition} {b buf c : List ℕ} (n : ℕ) (x : NextAction) → t ≡ transition_of_next n r
+    → ReturnsNext r b buf c x → ReturnsStep (reply_of t b) c (step_of_next n buf x)
+did_step n (ask c w b) e d =
+    record { reply = ap₂ reply_of (e ∙ ap (transition_of_next n) d.next) d.store; buffer = d.buffer }
+did_step n (end o m b) e d =
+    record { reply = ap₂ reply_of (e ∙ ap (transition_of_next n) d.next) d.store; buffer = d.buffer }
 
 -- ---- the refusals that every call checks first
 
@@ -138,12 +136,12 @@ not_accepted NotAllowed h e = omega arith
 module _ (P : reading.ReadingOutcome → Type 0) (b : List ℕ) (same : (r n : ℕ) → r ≤ 3
     → P (reading.reading_outcome r n b)) (anew : (n : ℕ) (c : List ℕ) → P (reading.reading_outcome 0 n c)) where
   parts_ind : (a : Awaited) (n : ℕ) (x : Option (List PrimitiveItem)) → P (reading.read_body_items a b n x)
-  parts_ind a n none = same 2 n (omega arith)
-  parts_ind a n (some is) = if_ind P _ _ _ (λ g. anew n _) (λ g. same 3 n (omega arith))
+  parts_ind a n None = same 2 n (omega arith)
+  parts_ind a n (Some is) = if_ind P _ _ _ (λ g. anew n _) (λ g. same 3 n (omega arith))
 
   tree_ind : (a : Awaited) (x : Option reading.ResponseBody) → P (reading.read_parsed_body a b x)
-  tree_ind a none = same 2 0 (omega arith)
-  tree_ind a (some body) = parts_ind a (reading.body_object_count body) (reading.response_body_items a body)
+  tree_ind a None = same 2 0 (omega arith)
+  tree_ind a (Some body) = parts_ind a (reading.body_object_count body) (reading.response_body_items a body)
 
   pub read_ind : (a : Awaited) (s : List ℕ) → P (reading.read_answer a b s)
   unfolding reading.read_answer reading.read_body
@@ -178,50 +176,6 @@ module _ (a : Awaited) (m : ℕ) (b s : List ℕ) (next : List ℕ → NextActio
       let z : (o.reason ≡ 0 → ⊥) = λ e. not_accepted r.verdict h (g.reason ∙ e) in
       if_no _ _ (ne_eqb _ 0 z) ∙ ap₂ (λ (n : ℕ) (c : List ℕ). end (ending_for_reason n) m c) (sym g.reason)
       (sym (g.store ∙ unread_store a b s z))
-
--- ---- what the code's two-case answers say of their tests
-
--- the test passed where its number is none, and failed where it is another
-passed : {n : ℕ} (m : ℕ) (b : Bool) → 0 < m → n ≡ reason_unless b m → n ≡ reason_none → b ≡ true
-unfolding if
-passed m true h e f = refl
-passed m false h e f = absurd (omega arith)
-
-failed : {n : ℕ} (m : ℕ) (b : Bool) → n ≡ reason_unless b m → (n ≡ reason_none → ⊥) → b ≡ false
-unfolding if
-failed m true e f = absurd (f e)
-failed m false e f = refl
-
-pub is_passed : {x : Check} {n : ℕ} (b : Bool) → 0 < n → reason_if_check_failed n x ≡ reason_unless b n → x ≡ Check.Passed
-    → b ≡ true
-is_passed {x} {n} b h e f = passed n b h e (ap (reason_if_check_failed n) f)
-
-pub is_failed : {x : Check} {n : ℕ} (b : Bool) → 0 < n → reason_if_check_failed n x ≡ reason_unless b n → x ≡ Check.Failed
-    → b ≡ false
-is_failed {x} {n} b h e f = failed n b e (λ z. omega (arith, ap (reason_if_check_failed n) f))
-
--- a test of the opposite
-pub is_above : {x : Check} (b : Bool) → reason_if_check_failed reason_above_limit x ≡ reason_unless (not b) reason_above_limit
-    → x ≡ Check.Failed → b ≡ true
-is_above b e f = not-false _ (is_failed (not b) (omega arith) e f)
-
-pub is_within : {x : Check} (b : Bool) → reason_if_check_failed reason_above_limit x ≡ reason_unless (not b) reason_above_limit
-    → x ≡ Check.Passed → b ≡ false
-is_within b e f = not-true _ (is_passed (not b) (omega arith) e f)
-
-pub decides_nothing : {x : CryptogramOutcome} (o : Option Outcome) → cryptogram_outcome_ending x ≡ ending_for_decision o
-    → x ≡ CryptogramOutcome.Nothing → o ≡ none
-decides_nothing none e f = refl
-decides_nothing (some o) e f =
-    let z : ◌≡◌ {A = ℕ} reason_cryptogram_type_not_allowed reason_none = ap (λ (y : Ending). y.reason)
-    (sym (ap cryptogram_outcome_ending f) ∙ e) in absurd (omega arith)
-
-pub decides_on : {x : CryptogramOutcome} {d : Decision} (o : Option Outcome)
-    → cryptogram_outcome_ending x ≡ ending_for_decision o → x ≡ CryptogramOutcome.On d → o ≡ some d.outcome
-decides_on none e f =
-    let z : ◌≡◌ {A = ℕ} reason_none reason_cryptogram_type_not_allowed = ap (λ (y : Ending). y.reason)
-    (sym (ap cryptogram_outcome_ending f) ∙ e) in absurd (omega arith)
-decides_on {x} {d} (some o) e f = ap (λ (y : Ending). some y.outcome) (sym e ∙ ap cryptogram_outcome_ending f)
 
 -- ---- the TVR
 
@@ -305,30 +259,28 @@ abbrev loading : ℕ → List ℕ → List ℕ → LoadedStore → Step
 loading n b buf x = step_of_effect (session_of Phase.Fresh n b) buf (start_effect_after_loading x)
 
 -- the loading of a fresh session said r and left the store d
-module _ (n : ℕ) (b buf : List ℕ) {r : LoadResult} {d : List ℕ} where
+module _ (n : ℕ) (b buf : List ℕ) {r : Result Unit Refusal} {d : List ℕ} where
   pub loading_refused : {f : Refusal} (x : LoadedStore) → LoadResultAndStoreMatchLoaded r d b x
-      → r ≡ LoadResult.Refused f → loading n b buf x ≡ refused_step (session_of Phase.Fresh n d)
-      (load_refusal_number_or_zero r) buf
-  loading_refused x g e =
+      → r ≡ Err f → loading n b buf x ≡ refused_step (session_of Phase.Fresh n d) f.number buf
+  loading_refused {f} x g e =
       let w = was_refused x g e in
-      ap (loading n b buf) w.0 ∙ ap₂ (λ (c : List ℕ) (y : LoadResult). refused_step (session_of Phase.Fresh n c)
-      (load_refusal_number_or_zero y) buf) (sym w.1) (sym e)
+      ap (loading n b buf) w.0 ∙ ap (λ (c : List ℕ). refused_step (session_of Phase.Fresh n c) f.number buf) (sym w.1)
 
-  pub loading_taken : {k : List ℕ} (x : LoadedStore) → LoadResultAndStoreMatchLoaded r d b x → r ≡ LoadResult.Loaded
+  pub loading_taken : {k : List ℕ} (x : LoadedStore) → LoadResultAndStoreMatchLoaded r d b x → r ≡ (Ok tt)
       → k ≡ put_row dictionary_rows d row_tvr zero_tvr → loading n b buf x ≡ step_of_next n buf (request_gpo k)
   loading_taken x g e f = ap (loading n b buf) (was_taken x g e) ∙ ap (λ (c : List ℕ). step_of_next n buf (request_gpo c))
       (results_stored d zero_tvr f)
 
 -- ---- a record of the AFL, by the row's value and a number
 
-module _ {v : List ℕ} {k : ℕ} {r x : RecordFound} (f : r ≡ kth_record_of_accepted_afl v k) (e : r ≡ x) where
+module _ {v : List ℕ} {k : ℕ} {r x : Option CardRecord} (f : r ≡ kth_record_of_accepted_afl v k) (e : r ≡ x) where
   pub found_as : (b : List ℕ) (n : ℕ) → v ≡ bytes_or_empty_if_absent (row_value dictionary_rows b row_afl) → k ≡ n
       → kth_record_of_accepted_afl (stored_afl b) n ≡ x
   found_as b n p q = sym (f ∙ ap₂ kth_record_of_accepted_afl (p ∙ bytes_are b 0x94 row_afl at_94) q) ∙ e
 
 -- one that is present has a file of five bits, and is one of the first 128
-pub found_there : (v : List ℕ) (k : ℕ) {r : RecordFound} {w : CardRecord} → r ≡ kth_record_of_accepted_afl v k
-    → r ≡ RecordFound.At w → (w.sfi < 32) × (k ≤ 128)
+pub found_there : (v : List ℕ) (k : ℕ) {r : Option CardRecord} {w : CardRecord} → r ≡ kth_record_of_accepted_afl v k
+    → r ≡ Some w → (w.sfi < 32) × (k ≤ 128)
 found_there v k {r} {w} f e =
     let g = sym f ∙ e in (
       omega (arith, (record_named v k w g).1),
@@ -338,66 +290,26 @@ found_there v k {r} {w} f e =
 
 -- ---- a command that carries a filled list, by what was written
 
-module _ (n : ℕ) (d : List ℕ) (v : AwaitedResponse) (buf : List ℕ) {b : List ℕ} {t : Transition} {w : DolCommand} where
-  pub handed_none : (x : Option (List ℕ)) → w ≡ dol_command_of x → b ≡ buffer_with_command x buf → w ≡ NoCommand
-      → t ≡ failing_transition (held_cvm v) n reason_dol_broken_or_bad_length
-      → ReturnsStep (reply_of t d) b (step_of_next n buf (request_command_or_end_for_dol v d x))
-  handed_none none e f g h = record { reply = reply_as d h; buffer = f }
-  handed_none (some c) e f g h = let z : ◌≡◌ {A = ℕ} 0 1 = cc in absurd (omega arith)
+module _ (d : List ℕ) (v : AwaitedResponse) (buf : List ℕ) {b : List ℕ} {t : NextStep} {w : Option DolCommandSize} where
+  pub handed_none : (x : Option (List ℕ)) → w ≡ dol_command_of x → b ≡ buffer_with_command x buf → w ≡ None
+      → t ≡ NextStep.End (ending_for_reason reason_dol_broken_or_bad_length) (held_cvm v)
+      → ReturnsNext t d buf b (request_command_or_end_for_dol v d x)
+  handed_none None e f g h = record { next = h; store = refl; buffer = f }
+  handed_none (Some c) e f g h = let z : ◌≡◌ {A = ℕ} 0 1 = cc in absurd (omega arith)
 
   pub handed_some : {k : Handed} (x : Option (List ℕ)) → w ≡ dol_command_of x → b ≡ buffer_with_command x buf
-      → w ≡ Command k
-      → t ≡ command_transition v (n + 1) k.len
-      → ReturnsStep (reply_of t d) b (step_of_next n buf (request_command_or_end_for_dol v d x))
-  handed_some none e f g h = let z : ◌≡◌ {A = ℕ} 0 1 = cc in absurd (omega arith)
-  handed_some {k} (some c) e f g h =
+      → w ≡ Some k
+      → t ≡ NextStep.Command v k.len
+      → ReturnsNext t d buf b (request_command_or_end_for_dol v d x)
+  handed_some None e f g h = let z : ◌≡◌ {A = ℕ} 0 1 = cc in absurd (omega arith)
+  handed_some {k} (Some c) e f g h =
       let z : k ≡ record { len = length c } = cc in
-      record { reply = reply_as d (h ∙ ap (λ (y : Handed). command_transition v (n + 1) y.len) z); buffer = f }
+      record { next = h ∙ ap (λ (y : Handed). NextStep.Command v y.len) z; store = refl; buffer = f }
+
+-- ---- after the last record
 
 module _ (b : List ℕ) where
-  -- ---- after GPO
-
-  pub gpo_missing : aip_and_afl_present b ≡ false → next_after_gpo_read b ≡ end_for_reason reason_object_missing b
-  unfolding next_after_gpo_read
-  gpo_missing e = if_yes _ _ (ap not e)
-
-  pub gpo_mode : aip_and_afl_present b ≡ true → emv_or_mag_stripe_mode b ≡ false
-      → next_after_gpo_read b ≡ end_for_reason reason_no_supported_mode b
-  unfolding next_after_gpo_read
-  gpo_mode e m = if_no _ _ (ap not e) ∙ if_yes _ _ (ap not m)
-
-  pub gpo_afl : aip_and_afl_present b ≡ true → emv_or_mag_stripe_mode b ≡ true → accepts_afl (stored_afl b) ≡ false
-      → next_after_gpo_read b ≡ end_for_reason reason_afl_invalid b
-  unfolding next_after_gpo_read
-  gpo_afl e m a = if_no _ _ (ap not e) ∙ if_no _ _ (ap not m) ∙ if_yes _ _ (ap not a)
-
-  pub gpo_ask : (x : RecordFound) → aip_and_afl_present b ≡ true → emv_or_mag_stripe_mode b ≡ true
-      → accepts_afl (stored_afl b) ≡ true
-      → kth_record_of_accepted_afl (stored_afl b) 1 ≡ x → next_after_gpo_read b ≡ request_kth_record_if_found (transaction_limit b) 1
-      b (end_for_reason reason_afl_invalid b) x
-  unfolding next_after_gpo_read
-  gpo_ask x e m a f = if_no _ _ (ap not e) ∙ if_no _ _ (ap not m) ∙ if_no _ _ (ap not a) ∙ ap
-      (request_kth_record_if_found (transaction_limit b) 1 b (end_for_reason reason_afl_invalid b)) f
-
-  -- ---- after the last record
-
   module _ (limit : ℕ) where
-    pub records_limit : stored_amount_above_limit limit b ≡ true → next_after_records_in_emv_mode limit b
-        ≡ end_for_reason reason_above_limit b
-    unfolding next_after_records_in_emv_mode
-    records_limit e = if_yes _ _ e
-
-    pub records_missing : stored_amount_above_limit limit b ≡ false → expiry_pan_and_cdol1_non_empty b ≡ false
-        → next_after_records_in_emv_mode limit b ≡ end_for_reason reason_object_missing b
-    unfolding next_after_records_in_emv_mode
-    records_missing e f = if_no _ _ e ∙ if_yes _ _ (ap not f)
-
-    pub records_analysed : stored_amount_above_limit limit b ≡ false → expiry_pan_and_cdol1_non_empty b ≡ true
-        → next_after_records_in_emv_mode limit b ≡ request_cryptogram (requested_cryptogram limit b)
-        (store_with_findings b (findings_of b))
-    unfolding next_after_records_in_emv_mode
-    records_analysed e f = if_no _ _ e ∙ if_no _ _ (ap not f)
-
     -- by the mode
     pub last_emv : emv_mode b ≡ true → next_after_last_record limit b ≡ next_after_records_in_emv_mode limit b
     unfolding next_after_last_record
@@ -406,21 +318,6 @@ module _ (b : List ℕ) where
     pub last_mag_stripe : emv_mode b ≡ false → next_after_last_record limit b ≡ next_after_records_in_mag_stripe_mode limit b
     unfolding next_after_last_record
     last_mag_stripe e = if_no _ _ e
-
-    pub mag_stripe_limit : stored_amount_above_limit limit b ≡ true → next_after_records_in_mag_stripe_mode limit b
-        ≡ end_for_reason reason_above_limit b
-    unfolding next_after_records_in_mag_stripe_mode
-    mag_stripe_limit e = if_yes _ _ e
-
-    pub mag_stripe_missing : stored_amount_above_limit limit b ≡ false → track2_and_bitmaps_non_empty b ≡ false
-        → next_after_records_in_mag_stripe_mode limit b ≡ end_for_reason reason_object_missing b
-    unfolding next_after_records_in_mag_stripe_mode
-    mag_stripe_missing e f = if_no _ _ e ∙ if_yes _ _ (ap not f)
-
-    pub mag_stripe_asks : stored_amount_above_limit limit b ≡ false → track2_and_bitmaps_non_empty b ≡ true
-        → next_after_records_in_mag_stripe_mode limit b ≡ request_checksum limit b
-    unfolding next_after_records_in_mag_stripe_mode
-    mag_stripe_asks e f = if_no _ _ e ∙ if_no _ _ (ap not f)
 
     -- what is found, stored and chosen on
     pub analysed_as : {f : AnalysisFindings} {k l : List ℕ} {x : Choice} → f ≡ findings_of b
@@ -436,37 +333,9 @@ module _ (b : List ℕ) where
         ∙ ap (λ (y : Choice). record { choice = y; cvm = f.cvm; limit = limit }) (sym c))
         (ap (store_with_findings b) (sym e) ∙ findings_stored b f p q)
 
--- ---- the answer to the cryptogram
-
-module _ (a : RequestedCryptogram) (b : List ℕ) where
-  pub cryptogram_missing : cid_atc_and_cryptogram_present b ≡ false
-      → cryptogram_ending a b ≡ ending_for_reason reason_object_missing
-  unfolding cryptogram_ending
-  cryptogram_missing e = if_yes _ _ (ap not e)
-
-  pub cryptogram_decided : cid_atc_and_cryptogram_present b ≡ true
-      → cryptogram_ending a b ≡ ending_for_decision (outcome_for_cryptogram_type a.choice (stored_byte b 0x9F27 1 / 64))
-  unfolding cryptogram_ending
-  cryptogram_decided e = if_no _ _ (ap not e)
-
 -- ---- the answer to the checksum
 
 module _ (b : List ℕ) where
-  pub counter_missing : has_object b 0x9F36 ≡ false → next_after_checksum_read b ≡ end_for_reason reason_object_missing b
-  unfolding next_after_checksum_read
-  counter_missing e = if_yes _ _ (ap not e)
-
-  pub code_missing : has_object b 0x9F36 ≡ true → has_object b 0x9F61 ≡ false
-      → next_after_checksum_read b ≡ end (ending_of Outcome.Declined reason_none) cvm_number_not_applicable b
-  unfolding next_after_checksum_read
-  code_missing e f = if_no _ _ (ap not e) ∙ if_yes _ _ (ap not f)
-
-  pub digits_go_in : {d : List ℕ} → has_object b 0x9F36 ≡ true → has_object b 0x9F61 ≡ true → d ≡ store_with_track_digits b
-      → next_after_checksum_read b ≡ end (ending_of Outcome.OnlineRequest reason_none) cvm_number_not_applicable d
-  unfolding next_after_checksum_read
-  digits_go_in e f g = if_no _ _ (ap not e) ∙ if_no _ _ (ap not f) ∙ ap
-      (end (ending_of Outcome.OnlineRequest reason_none) cvm_number_not_applicable) (sym g)
-
   pub taken_sound : (d : List ℕ) → stored_track_can_take_digits b ≡ true
       → next_if_track_takes_digits b d ≡ next_after_checksum_read d
   unfolding next_if_track_takes_digits

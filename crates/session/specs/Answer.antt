@@ -1,14 +1,13 @@
 -- The call answer (document 01, "Commands and steps" and the order of reasons): what follows each response that is
 -- awaited, by the bytes b of the session's store.
 -- Assumes nothing.
-use Rattle.std.specs.Prelude.{Bool, not, ◌+◌, ◌/◌}
-use Rattle.std.proofs.Math.Option.{Option, some, none}
+use Rattle.afl.specs.declared.CardRecord.{CardRecord}
+use Rattle.std.specs.Prelude.{Bool, not, ◌+◌, ◌/◌, Option, Some, None}
 use Rattle.basics.specs.Types.{StoreBytes, Response, Buffer, Byte, RecordNumber, Amount, Reason}
 use Rattle.basics.specs.Choice.{when◌then◌else◌, ◌and◌, ◌=?◌}
 use Rattle.basics.specs.Reason.{reason_none, reason_object_missing, reason_afl_invalid, reason_above_limit}
 use Rattle.basics.specs.Reason.{reason_cryptogram_type_not_allowed, reason_no_supported_mode}
 use Rattle.store.specs.Held.{has_object, stored_byte}
-use Rattle.afl.specs.declared.RecordFound.{RecordFound}
 use Rattle.afl.specs.Records.{accepts_afl, kth_record_of_accepted_afl}
 use Rattle.command.specs.ReadRecord.{read_record_command}
 use Rattle.reading.specs.declared.Awaited.{Awaited}
@@ -37,9 +36,9 @@ abbrev pub awaited_record_with_limit : Amount → RecordNumber → AwaitedRespon
 awaited_record_with_limit l k = AwaitedResponse.Record (record { number = k; limit = l })
 
 -- the k-th record is requested if the AFL names so many; else the other follows
-abbrev pub request_kth_record_if_found : Amount → RecordNumber → StoreBytes → NextAction → RecordFound → NextAction
-request_kth_record_if_found l k b other RecordFound.Nothing = other
-request_kth_record_if_found l k b other (RecordFound.At r) = ask (read_record_command r) (awaited_record_with_limit l k) b
+abbrev pub request_kth_record_if_found : Amount → RecordNumber → StoreBytes → NextAction → Option CardRecord → NextAction
+request_kth_record_if_found l k b other None = other
+request_kth_record_if_found l k b other (Some r) = ask (read_record_command r) (awaited_record_with_limit l k) b
 
 -- the record at that place of the stored AFL
 abbrev pub request_kth_record_or_else : Amount → RecordNumber → StoreBytes → NextAction → NextAction
@@ -100,9 +99,9 @@ unfoldable pub next_after_record_read : AwaitedRecord → StoreBytes → NextAct
 next_after_record_read p b = request_kth_record_or_else p.limit (p.number + 1) b (next_after_last_record p.limit b)
 
 -- the answer is read by the file of the record that was requested. A session in its ranges has one
-abbrev pub next_on_response_for_record_found : AwaitedRecord → StoreBytes → Response → RecordFound → NextAction
-next_on_response_for_record_found p b card RecordFound.Nothing = end_for_reason reason_afl_invalid b
-next_on_response_for_record_found p b card (RecordFound.At r) =
+abbrev pub next_on_response_for_record_found : AwaitedRecord → StoreBytes → Response → Option CardRecord → NextAction
+next_on_response_for_record_found p b card None = end_for_reason reason_afl_invalid b
+next_on_response_for_record_found p b card (Some r) =
     read_response_then (Awaited.Record (record { number = r.sfi })) cvm_number_not_applicable b card (next_after_record_read p)
 
 -- the answer to READ RECORD
@@ -123,29 +122,29 @@ cryptogram_type_arqc = 2
 
 -- a cryptogram of type 10 (ARQC) goes online unless a decline was requested
 abbrev pub outcome_for_arqc : Choice → Option Outcome
-outcome_for_arqc Choice.Decline = none
-outcome_for_arqc Choice.Online = some Outcome.OnlineRequest
-outcome_for_arqc Choice.Offline = some Outcome.OnlineRequest
+outcome_for_arqc Choice.Decline = None
+outcome_for_arqc Choice.Online = Some Outcome.OnlineRequest
+outcome_for_arqc Choice.Offline = Some Outcome.OnlineRequest
 
 -- one of type 01 (TC): approved if 40 was requested
 abbrev pub outcome_for_tc : Choice → Option Outcome
-outcome_for_tc Choice.Decline = none
-outcome_for_tc Choice.Online = none
-outcome_for_tc Choice.Offline = some Outcome.Approved
+outcome_for_tc Choice.Decline = None
+outcome_for_tc Choice.Online = None
+outcome_for_tc Choice.Offline = Some Outcome.Approved
 
 -- the decision, by what was requested and the type in the top two bits of 9F27: 00 (AAC) declined always, then the two
 -- above; else none
 unfoldable pub outcome_for_cryptogram_type : Choice → Byte → Option Outcome
 outcome_for_cryptogram_type c kind =
-    when kind =? cryptogram_type_aac then some Outcome.Declined
+    when kind =? cryptogram_type_aac then Some Outcome.Declined
     else when kind =? cryptogram_type_arqc then outcome_for_arqc c
     else when kind =? cryptogram_type_tc then outcome_for_tc c
-    else none
+    else None
 
 -- a decision has reason 0; a cryptogram of a type that the one requested does not allow ends the session with reason 8
 abbrev pub ending_for_decision : Option Outcome → Ending
-ending_for_decision none = ending_for_reason reason_cryptogram_type_not_allowed
-ending_for_decision (some o) = ending_of o reason_none
+ending_for_decision None = ending_for_reason reason_cryptogram_type_not_allowed
+ending_for_decision (Some o) = ending_of o reason_none
 
 -- 9F27, 9F36 and 9F26 are present
 abbrev pub cid_atc_and_cryptogram_present : StoreBytes → Bool

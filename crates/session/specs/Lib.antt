@@ -2,5 +2,4 @@ pub mod Steps
 pub mod Start
 pub mod MagStripe
 pub mod Answer
-pub mod Inner
 pub mod Calls

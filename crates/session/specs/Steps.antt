@@ -2,8 +2,7 @@
 -- what the call brings; `step_of_effect` adds the count, the command buffer and the reply. `step_if_admitted` puts the
 -- refusals first that every call checks.
 -- Assumes nothing.
-use Rattle.std.specs.Prelude.{◌≡◌, not, ◌+◌, length}
-use Rattle.std.proofs.Math.Option.{Option, some, none}
+use Rattle.std.specs.Prelude.{◌≡◌, not, ◌+◌, length, Option, Some, None}
 use Rattle.basics.specs.Types.{StoreBytes, Response, CommandBytes, Buffer, TvrBytes}
 use Rattle.basics.specs.Types.{Count, Length, Reason, RefusalNumber, CvmNumber}
 use Rattle.basics.specs.Choice.{when◌then◌else◌, ◌<?◌, ◌=?◌}
@@ -25,6 +24,7 @@ use Rattle.session_record.specs.declared.Reply.{Reply}
 use Rattle.session_record.specs.declared.Transition.{Transition}
 use Rattle.session_record.specs.Session.{store_bytes, ending_for_reason, refused_reply, reply_of}
 use Rattle.session_record.specs.Session.{ending_transition, command_transition}
+use Rattle.session.specs.declared.NextStep.{NextStep}
 use Rattle.session_record.specs.Ranges.{session_record_in_ranges}
 
 -- ---- what follows
@@ -49,8 +49,8 @@ held_cvm (AwaitedResponse.Checksum c) = cvm_number_not_applicable
 -- a command that carries a filled DOL; where the list is broken, or fills to a length no command can carry, reason 7,
 -- with the CVM that would be held with that command: for CDOL1 (8C) it is chosen already
 abbrev pub request_command_or_end_for_dol : AwaitedResponse → StoreBytes → Option CommandBytes → NextAction
-request_command_or_end_for_dol w b none = end (ending_for_reason reason_dol_broken_or_bad_length) (held_cvm w) b
-request_command_or_end_for_dol w b (some c) = ask c w b
+request_command_or_end_for_dol w b None = end (ending_for_reason reason_dol_broken_or_bad_length) (held_cvm w) b
+request_command_or_end_for_dol w b (Some c) = ask c w b
 
 -- the reason that was met: none where a command follows
 abbrev pub reason_of_next : NextAction → Reason
@@ -100,6 +100,31 @@ abbrev pub step_of_next : Count → Buffer → NextAction → Step
 step_of_next n buf (ask c w b) =
     record { reply = reply_of (command_transition w (n + 1) (length c)) b; buffer = written_over_front c buf }
 step_of_next n buf (end e m b) = record { reply = reply_of (ending_transition m n e) b; buffer = buf }
+
+-- what the code returns of what follows: the command by its length, or the end with the CVM
+abbrev pub next_step_of : NextAction → NextStep
+next_step_of (ask c w b) = NextStep.Command w (length c)
+next_step_of (end e m b) = NextStep.End e m
+
+-- the store, and the contents of the buffer, afterwards
+abbrev pub store_after_next : NextAction → StoreBytes
+store_after_next (ask c w b) = b
+store_after_next (end e m b) = b
+
+abbrev pub buffer_after_next : Buffer → NextAction → Buffer
+buffer_after_next buf (ask c w b) = written_over_front c buf
+buffer_after_next buf (end e m b) = buf
+
+-- what was returned, the store and the buffer afterwards are those of what follows; the buffer was the one before
+pub record ReturnsNext (returned : NextStep) (store_after : StoreBytes) (before : Buffer) (buffer_after : Buffer) (x : NextAction) : Type 0 where
+  pub next : returned ≡ next_step_of x
+  pub store : store_after ≡ store_after_next x
+  pub buffer : buffer_after ≡ buffer_after_next before x
+
+-- the transition of a session of count n
+abbrev pub transition_of_next : Count → NextStep → Transition
+transition_of_next n (NextStep.Command w k) = command_transition w (n + 1) k
+transition_of_next n (NextStep.End e m) = ending_transition m n e
 
 -- a refusal leaves session and buffer
 abbrev pub refused_step : Session → RefusalNumber → Buffer → Step

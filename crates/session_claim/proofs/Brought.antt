@@ -1,11 +1,11 @@
 -- The AFL and the AIP that an accepted answer to GPO leaves in the store are those that its card bytes bring: by
 -- induction over the objects, since a 94 or an 82 that the rules allow has bytes, is in a 77, and is the first.
 -- Assumes nothing.
+use Rattle.std.specs.Prelude.{Some, None, Option}
 use mathlib.Core.Path.{◌≡◌, refl, sym, ap, subst, ◌∙◌}
 use mathlib.Core.Bool.{Bool, true, false, not}
 use mathlib.Core.Logic.{◌⊎◌, inl, inr}
 use mathlib.Core.List.{List, [], ◌∷◌}
-use mathlib.Core.Option.{Option, some, none}
 use Prim.Native.Nat.{ℕ, ◌-◌, ◌≤◌, ◌<◌}
 use native.Mathlib.Omega.{arith}
 use lib.Dec.{eqb}
@@ -15,8 +15,6 @@ use Rattle.basics.specs.Choice.{if, both}
 use Rattle.basics.proofs.Laws.{if_ind, if_yes, if_no, both_yes, both_left, both_right, both_no_left}
 use Rattle.basics.proofs.Order.{equal_or_not}
 use Rattle.dictionary.specs.Named.{row_aip, row_afl}
-use Rattle.dictionary.specs.declared.RowFound.{RowFound}
-use Rattle.dictionary.specs.declared.RowFound.TheVariants.{At, Unknown}
 use Rattle.dictionary.specs.Rows.{dictionary_rows, row_at, find_row, store_size, in_template77}
 use Rattle.dictionary.specs.Form.{length_and_digits_fit_row}
 use Rattle.dictionary.proofs.Find.{found}
@@ -40,7 +38,7 @@ use Rattle.basics.proofs.Laws.{no}
 
 -- the row k of a tag t whose object is in a 77 alone and is never empty
 record Row77 (t k : ℕ) : Type 0 where
-  finds : find_row dictionary_rows t ≡ At k
+  finds : find_row dictionary_rows t ≡ Some k
   tagged : (row_at k).tag ≡ t
   only : (row_at k).templates ≡ in_template77
   least : 1 ≤ (row_at k).least
@@ -130,7 +128,7 @@ module _ (tag row : ℕ) (r : Row77 tag row) where
   abbrev Brings : ℕ → List PrimitiveItem → StoringState → List PrimitiveItem → Type 0
   Brings answer all w is =
       (store_all_items answer w is).good ≡ true → 0 < length (held (store_all_items answer w is).store)
-      → first_non_empty_value_directly_inside77 tag all ≡ some (held (store_all_items answer w is).store)
+      → first_non_empty_value_directly_inside77 tag all ≡ Some (held (store_all_items answer w is).store)
 
   -- one object, where the rest brings its own
   module _ (answer : ℕ) (b : List ℕ) (i : PrimitiveItem) (is : List PrimitiveItem) (l : length b ≡ store_size)
@@ -147,10 +145,10 @@ module _ (tag row : ℕ) (r : Row77 tag row) where
     bad : Goes (storing_state false b)
     bad g h = no (sym (bad_stays answer (storing_state false b) is refl) ∙ g)
 
-    is_row : (k : ℕ) → find_row dictionary_rows i.tag ≡ At k → i.tag ≡ tag → k ≡ row
-    is_row k f t = let z : At k ≡ At row = sym f ∙ ap (find_row dictionary_rows) t ∙ r.finds in cc
+    is_row : (k : ℕ) → find_row dictionary_rows i.tag ≡ Some k → i.tag ≡ tag → k ≡ row
+    is_row k f t = let z : Some k ≡ Some row = sym f ∙ ap (find_row dictionary_rows) t ∙ r.finds in cc
 
-    put : (k : ℕ) → find_row dictionary_rows i.tag ≡ At k → row_allows_value_and_absent_or_empty answer b k i.around
+    put : (k : ℕ) → find_row dictionary_rows i.tag ≡ Some k → row_allows_value_and_absent_or_empty answer b k i.around
         i.value ≡ true → Goes (storing_state true (put_row dictionary_rows b k i.value))
     unfolding row_allows_value_and_absent_or_empty row_allows_value_from_card first_non_empty_value_directly_inside77
     put k f a = go (equal_or_not i.tag tag)
@@ -185,10 +183,10 @@ module _ (tag row : ℕ) (r : Row77 tag row) where
             if_yes _ _
             (both_yes _ _ (eq-eqb i.tag tag t) (both_yes _ _ (eq-eqb i.around 0x77 (stands i.around s))
             (lt-ltb 0 (length i.value) n)))
-            ∙ ap some
+            ∙ ap Some
             (sym (stays answer (storing_state true (put_row dictionary_rows b k i.value)) is i.value size n here))
 
-    known : (k : ℕ) → find_row dictionary_rows i.tag ≡ At k → Goes (store_known_item answer b i k)
+    known : (k : ℕ) → find_row dictionary_rows i.tag ≡ Some k → Goes (store_known_item answer b i k)
     known k f =
         if_ind Goes _ _ _
         (λ s. skip
@@ -202,11 +200,11 @@ module _ (tag row : ℕ) (r : Row77 tag row) where
     unfolding store_item store_next_item
     one = subst Goes (sym (if_yes _ _ refl)) (go (find_row dictionary_rows i.tag) refl)
       where
-        go : (x : RowFound) → find_row dictionary_rows i.tag ≡ x → Goes (store_item_of_row_found answer b i x)
-        go Unknown f =
-            skip (not_named i (λ t. let z : Unknown ≡ At row = sym f ∙ ap (find_row dictionary_rows) t ∙ r.finds in
+        go : (x : Option ℕ) → find_row dictionary_rows i.tag ≡ x → Goes (store_item_of_row_found answer b i x)
+        go None f =
+            skip (not_named i (λ t. let z : None ≡ Some row = sym f ∙ ap (find_row dictionary_rows) t ∙ r.finds in
             let n : ◌≡◌ {A = ℕ} 0 1 = cc in omega arith)) b l e
-        go (At k) f = known k f
+        go (Some k) f = known k f
 
   brings : (answer : ℕ) (b : List ℕ) (is : List PrimitiveItem) → length b ≡ store_size → held b ≡ []
       → Brings answer is (storing_state true b) is
@@ -216,10 +214,10 @@ module _ (tag row : ℕ) (r : Row77 tag row) where
 
   -- a reading that gives no reason, and leaves a value with bytes
   abbrev Found-in : Option (List ℕ) → ReadingOutcome → Type 0
-  Found-in x o = o.reason ≡ 0 → 0 < length (held o.store) → x ≡ some (held o.store)
+  Found-in x o = o.reason ≡ 0 → 0 < length (held o.store) → x ≡ Some (held o.store)
 
   parts_brought : (b : List ℕ) → length b ≡ store_size → held b ≡ [] → (n : ℕ) (is : List PrimitiveItem)
-      → Found-in (first_non_empty_value_directly_inside77 tag is) (read_body_items Awaited.Gpo b n (some is))
+      → Found-in (first_non_empty_value_directly_inside77 tag is) (read_body_items Awaited.Gpo b n (Some is))
   parts_brought b l e n is =
       if_ind (Found-in (first_non_empty_value_directly_inside77 tag is)) _ _ _
       (λ g z h. brings (response_bit Awaited.Gpo) b is l e g h) (λ g z. absurd (omega arith))
@@ -243,12 +241,12 @@ module _ (tag row : ℕ) (r : Row77 tag row) where
   by_tag : {x : Option (List ℕ)} (b card : List ℕ) → Found-in x (read_answer Awaited.Gpo b card)
       → (read_answer Awaited.Gpo b card).reason ≡ 0
       → 0 < length (bytes_or_empty_if_absent (object_value (read_answer Awaited.Gpo b card).store tag))
-      → x ≡ some (bytes_or_empty_if_absent (object_value (read_answer Awaited.Gpo b card).store tag))
+      → x ≡ Some (bytes_or_empty_if_absent (object_value (read_answer Awaited.Gpo b card).store tag))
   by_tag b card f z h =
       let same : bytes_or_empty_if_absent (object_value (read_answer Awaited.Gpo b card).store tag)
       ≡ held (read_answer Awaited.Gpo b card).store = ap bytes_or_empty_if_absent
       (by_row dictionary_rows _ tag row r.finds) in
-      f z (subst (λ (v : List ℕ). 0 < length v) same h) ∙ ap some (sym same)
+      f z (subst (λ (v : List ℕ). 0 < length v) same h) ∙ ap Some (sym same)
 
   lacks_row : (b : List ℕ) → bytes_or_empty_if_absent (object_value b tag) ≡ [] → held b ≡ []
   lacks_row b e = sym (ap bytes_or_empty_if_absent (by_row dictionary_rows b tag row r.finds)) ∙ e
@@ -258,32 +256,32 @@ module _ (tag row : ℕ) (r : Row77 tag row) where
 abbrev two : List ℕ → List PrimitiveItem
 two v = primitive_item 0x77 0x82 (take 2 v) ∷ primitive_item 0x77 0x94 (drop 2 v) ∷ []
 
-second_item : (v x : List ℕ) → first_non_empty_value_directly_inside77 0x94 (two v) ≡ some x → some (drop 2 v) ≡ some x
+second_item : (v x : List ℕ) → first_non_empty_value_directly_inside77 0x94 (two v) ≡ Some x → Some (drop 2 v) ≡ Some x
 unfolding first_non_empty_value_directly_inside77
 second_item v x q =
     go (sym (if_no _ _ (not_named 0x94 row_afl row_94 (primitive_item 0x77 0x82 (take 2 v)) (λ z. omega arith))) ∙ q)
   where
-    go : if (is_non_empty_object_directly_inside77 0x94 (primitive_item 0x77 0x94 (drop 2 v))) (some (drop 2 v)) none ≡ some x
-        → some (drop 2 v) ≡ some x
-    go = if_ind (λ (y : Option (List ℕ)). y ≡ some x → some (drop 2 v) ≡ some x) _ _ _ (λ t r. r)
+    go : if (is_non_empty_object_directly_inside77 0x94 (primitive_item 0x77 0x94 (drop 2 v))) (Some (drop 2 v)) None ≡ Some x
+        → Some (drop 2 v) ≡ Some x
+    go = if_ind (λ (y : Option (List ℕ)). y ≡ Some x → Some (drop 2 v) ≡ Some x) _ _ _ (λ t r. r)
         (λ t r. let z : ◌≡◌ {A = ℕ} 0 1 = cc in absurd (omega arith))
 
-first-item : (v x : List ℕ) → first_non_empty_value_directly_inside77 0x82 (two v) ≡ some x → some (take 2 v) ≡ some x
+first-item : (v x : List ℕ) → first_non_empty_value_directly_inside77 0x82 (two v) ≡ Some x → Some (take 2 v) ≡ Some x
 unfolding first_non_empty_value_directly_inside77
 first-item v x q = go q
   where
     other : (y : Option (List ℕ)) → y ≡ if (is_non_empty_object_directly_inside77 0x82 (primitive_item 0x77 0x94 (drop 2 v)))
-        (some (drop 2 v)) none → y ≡ some x → some (take 2 v) ≡ some x
+        (Some (drop 2 v)) None → y ≡ Some x → Some (take 2 v) ≡ Some x
     other y e f =
-        let g : none ≡ some x =
+        let g : None ≡ Some x =
         sym (if_no _ _ (not_named 0x82 row_aip row_82 (primitive_item 0x77 0x94 (drop 2 v)) (λ z. omega arith))) ∙ sym e ∙
         f in
         let z : ◌≡◌ {A = ℕ} 0 1 = cc in absurd (omega arith)
 
-    go : if (is_non_empty_object_directly_inside77 0x82 (primitive_item 0x77 0x82 (take 2 v))) (some (take 2 v))
-        (if (is_non_empty_object_directly_inside77 0x82 (primitive_item 0x77 0x94 (drop 2 v))) (some (drop 2 v)) none)
-        ≡ some x → some (take 2 v) ≡ some x
-    go = if_ind (λ (y : Option (List ℕ)). y ≡ some x → some (take 2 v) ≡ some x) _ _ _ (λ t r. r) (λ t. other _ refl)
+    go : if (is_non_empty_object_directly_inside77 0x82 (primitive_item 0x77 0x82 (take 2 v))) (Some (take 2 v))
+        (if (is_non_empty_object_directly_inside77 0x82 (primitive_item 0x77 0x94 (drop 2 v))) (Some (drop 2 v)) None)
+        ≡ Some x → Some (take 2 v) ≡ Some x
+    go = if_ind (λ (y : Option (List ℕ)). y ≡ Some x → Some (take 2 v) ≡ Some x) _ _ _ (λ t r. r) (λ t. other _ refl)
 
 -- ---- the body, for each of the two
 
@@ -291,8 +289,8 @@ module _ (b : List ℕ) (l : length b ≡ store_size) where
   afl_tree : held 0x94 row_afl row_94 b ≡ [] → (x : Option ResponseBody)
       → Found-in 0x94 row_afl row_94 (afl_in_gpo_body x) (read_parsed_body Awaited.Gpo b x)
   unfolding primitive_body_items gpo_items_under80 template_body_items
-  afl_tree e none = λ z h. absurd (omega arith)
-  afl_tree e (some (primitive t v)) =
+  afl_tree e None = λ z h. absurd (omega arith)
+  afl_tree e (Some (primitive t v)) =
       if_ind P _ _ _
       (λ c. if_ind P _ _ _
       (λ d z h. if_yes _ _
@@ -302,8 +300,8 @@ module _ (b : List ℕ) (l : length b ≡ store_size) where
       (λ c z. absurd (omega arith))
     where
       P : Option (List PrimitiveItem) → Type 0
-      P y = Found-in 0x94 row_afl row_94 (afl_in_gpo_body (some (primitive t v))) (read_body_items Awaited.Gpo b 1 y)
-  afl_tree e (some (template t f)) =
+      P y = Found-in 0x94 row_afl row_94 (afl_in_gpo_body (Some (primitive t v))) (read_body_items Awaited.Gpo b 1 y)
+  afl_tree e (Some (template t f)) =
       if_ind (λ (y : Option (List PrimitiveItem)). Found-in 0x94 row_afl row_94
       (first_non_empty_value_directly_inside77 0x94 (primitive_items t f))
       (read_body_items Awaited.Gpo b (body_object_count (template t f)) y)) _ _ _
@@ -313,8 +311,8 @@ module _ (b : List ℕ) (l : length b ≡ store_size) where
   aip_tree : held 0x82 row_aip row_82 b ≡ [] → (x : Option ResponseBody)
       → Found-in 0x82 row_aip row_82 (aip_in_gpo_body x) (read_parsed_body Awaited.Gpo b x)
   unfolding primitive_body_items gpo_items_under80 template_body_items
-  aip_tree e none = λ z h. absurd (omega arith)
-  aip_tree e (some (primitive t v)) =
+  aip_tree e None = λ z h. absurd (omega arith)
+  aip_tree e (Some (primitive t v)) =
       if_ind P _ _ _
       (λ c. if_ind P _ _ _
       (λ d z h. if_yes _ _
@@ -324,8 +322,8 @@ module _ (b : List ℕ) (l : length b ≡ store_size) where
       (λ c z. absurd (omega arith))
     where
       P : Option (List PrimitiveItem) → Type 0
-      P y = Found-in 0x82 row_aip row_82 (aip_in_gpo_body (some (primitive t v))) (read_body_items Awaited.Gpo b 1 y)
-  aip_tree e (some (template t f)) =
+      P y = Found-in 0x82 row_aip row_82 (aip_in_gpo_body (Some (primitive t v))) (read_body_items Awaited.Gpo b 1 y)
+  aip_tree e (Some (template t f)) =
       if_ind (λ (y : Option (List PrimitiveItem)). Found-in 0x82 row_aip row_82
       (first_non_empty_value_directly_inside77 0x82 (primitive_items t f))
       (read_body_items Awaited.Gpo b (body_object_count (template t f)) y)) _ _ _
@@ -337,7 +335,7 @@ module _ (b : List ℕ) (l : length b ≡ store_size) where
 module _ (b card : List ℕ) (l : length b ≡ store_size) (z : (read_answer Awaited.Gpo b card).reason ≡ 0) where
   pub afl_brought : bytes_or_empty_if_absent (object_value b 0x94) ≡ []
       → 0 < length (bytes_or_empty_if_absent (object_value (read_answer Awaited.Gpo b card).store 0x94))
-      → afl_in_gpo_response card ≡ some (bytes_or_empty_if_absent (object_value (read_answer Awaited.Gpo b card).store 0x94))
+      → afl_in_gpo_response card ≡ Some (bytes_or_empty_if_absent (object_value (read_answer Awaited.Gpo b card).store 0x94))
   unfolding afl_in_gpo_response
   afl_brought e h =
       by_tag 0x94 row_afl row_94 b card
@@ -345,7 +343,7 @@ module _ (b card : List ℕ) (l : length b ≡ store_size) (z : (read_answer Awa
 
   pub aip_brought : bytes_or_empty_if_absent (object_value b 0x82) ≡ []
       → 0 < length (bytes_or_empty_if_absent (object_value (read_answer Awaited.Gpo b card).store 0x82))
-      → aip_in_gpo_response card ≡ some (bytes_or_empty_if_absent (object_value (read_answer Awaited.Gpo b card).store 0x82))
+      → aip_in_gpo_response card ≡ Some (bytes_or_empty_if_absent (object_value (read_answer Awaited.Gpo b card).store 0x82))
   unfolding aip_in_gpo_response
   aip_brought e h =
       by_tag 0x82 row_aip row_82 b card

@@ -1,9 +1,9 @@
 -- Worked lists of calls, computed: what the step functions hand out, the AFL that is accepted and where the session is
 -- left; and document 01's own example of the published order, from the card's bytes to the three commands.
 -- Assumes nothing.
+use Rattle.std.specs.Prelude.{Option, Some, None}
 use mathlib.Core.Path.{◌≡◌, refl, ap}
 use mathlib.Core.List.{List, [], ◌∷◌, map}
-use mathlib.Core.Option.{Option, some, none}
 use Prim.Native.Nat.{ℕ}
 use lib.ListN.{length, replicate}
 use Rattle.basics.specs.Recursion.{recurse_with_fuel_from_length, recurse_with_fuel}
@@ -145,15 +145,15 @@ accepted ms = afl_accepted_from_gpo_answer (first_answer (calls_accepted ms))
 
 pub record Worked : Type 0 where
   begun_sent : commands_sent (play_calls fresh_session begun) ≡ gpo_command ∷ record_command ∷ []
-  begun_accepted : accepted (play_calls fresh_session begun) ≡ some afl
+  begun_accepted : accepted (play_calls fresh_session begun) ≡ Some afl
   interrupted_sent : commands_sent (play_calls fresh_session interrupted) ≡ gpo_command ∷ record_command ∷ []
   interrupted_taken : length (calls_accepted (play_calls fresh_session interrupted)) ≡ 2
   torn_sent : commands_sent (play_calls fresh_session torn) ≡ gpo_command ∷ []
   torn_taken : length (calls_accepted (play_calls fresh_session torn)) ≡ 2
   torn_end : (final_session fresh_session torn).phase
       ≡ Phase.Ended (ending_of (outcome_of_nonzero_reason reason_link) reason_link)
-  not_emv_brought : afl_in_gpo_response mag_stripe_answer ≡ some afl
-  not_emv_accepted : accepted (play_calls fresh_session not_emv) ≡ none
+  not_emv_brought : afl_in_gpo_response mag_stripe_answer ≡ Some afl
+  not_emv_accepted : accepted (play_calls fresh_session not_emv) ≡ None
   not_emv_end : (final_session fresh_session not_emv).phase
       ≡ Phase.Ended (ending_of (outcome_of_nonzero_reason reason_no_supported_mode) reason_no_supported_mode)
 
@@ -189,7 +189,7 @@ worked =
 -- ---- the published order
 
 -- GPO, 00 B2 01 0C 00, cryptogram
-pub order : published_order cryptogram (some afl) ≡ gpo ∷ record_command_kind record_command ∷ cryptogram ∷ []
+pub order : published_order cryptogram (Some afl) ≡ gpo ∷ record_command_kind record_command ∷ cryptogram ∷ []
 unfolding published_order entries_of records_of_entries run_of
 order = refl
 

@@ -2,17 +2,17 @@
 -- reason (a store without one has a first record), and none taken before that one (by induction over the calls, since
 -- start alone leads out of fresh).
 -- Assumes nothing.
+use Rattle.std.specs.Prelude.{Option, Some, None}
+use Rattle.afl.specs.declared.CardRecord.{CardRecord}
 use mathlib.Core.Path.{◌≡◌, refl, sym, ap, subst, ◌∙◌}
 use mathlib.Core.Bool.{Bool, true, false}
 use mathlib.Core.Logic.{◌⊎◌, inl, inr}
 use mathlib.Core.List.{List, [], ◌∷◌}
-use mathlib.Core.Option.{some}
 use Prim.Native.Nat.{ℕ}
 use native.Mathlib.Omega.{arith}
 use lib.Dec.{eqb}
 use Rattle.basics.specs.Choice.{if}
 use Rattle.basics.proofs.Laws.{no, if_ind, if_yes, if_no, bool_cases}
-use Rattle.afl.specs.declared.RecordFound.{RecordFound}
 use Rattle.afl.specs.Records.{kth_record_of_accepted_afl}
 use Rattle.reading.specs.declared.Awaited.{Awaited}
 use Rattle.reading.specs.Answer as reading
@@ -46,10 +46,10 @@ hands st = is_command st.reply.answer
 abbrev Ruled : ℕ → List ℕ → NextAction → Type 0
 Ruled n buf x = hands (step_of_next n buf x) ≡ eqb (reason_of_next x) 0
 
-found_ruled : (n : ℕ) (b buf : List ℕ) (f : RecordFound)
+found_ruled : (n : ℕ) (b buf : List ℕ) (f : Option CardRecord)
     → Ruled n buf (request_kth_record_if_found (transaction_limit b) 1 b (end_for_reason reason_afl_invalid b) f)
-found_ruled n b buf RecordFound.Nothing = refl
-found_ruled n b buf (RecordFound.At r) = refl
+found_ruled n b buf None = refl
+found_ruled n b buf (Some r) = refl
 
 read_ruled : (n : ℕ) (b buf : List ℕ) → Ruled n buf (next_after_gpo_read b)
 unfolding next_after_gpo_read
@@ -181,15 +181,15 @@ module _ (s : Session) (e : early s.phase ≡ true) where
 
   -- one call: it is the first answer taken, or that comes later
   one_call : (c : Call) (tk : List CallMade) (m : CallMade) → let st = call_step s c in
-      (early st.reply.session.phase ≡ true → first_answer tk ≡ some m
+      (early st.reply.session.phase ≡ true → first_answer tk ≡ Some m
       → m.before.phase ≡ Phase.Waiting AwaitedResponse.Gpo)
-      → first_answer (if (is_refusal st.reply.answer) tk (call_made s c st ∷ tk)) ≡ some m
+      → first_answer (if (is_refusal st.reply.answer) tk (call_made s c st ∷ tk)) ≡ Some m
       → m.before.phase ≡ Phase.Waiting AwaitedResponse.Gpo
   unfolding first_answer
   one_call c tk m later f = elim (bool_cases (is_refusal (call_step s c).reply.answer)) [
     | inl r ↦ later (stays c (inl r)) (sym (ap first_answer (if_yes _ _ r)) ∙ f)
     | inr n ↦ elim (bool_cases (is_answer c)) [
-      | inl a ↦ (let g : some (call_made s c (call_step s c)) ≡ some m = sym (ap first_answer (if_no _ _ n) ∙ if_yes _ _ a)
+      | inl a ↦ (let g : Some (call_made s c (call_step s c)) ≡ Some m = sym (ap first_answer (if_no _ _ n) ∙ if_yes _ _ a)
           ∙ f in
           let h : call_made s c (call_step s c) ≡ m = cc in
           subst (λ (x : CallMade). x.before.phase ≡ Phase.Waiting AwaitedResponse.Gpo) h (taken_waits c a n))
@@ -198,13 +198,13 @@ module _ (s : Session) (e : early s.phase ≡ true) where
   ]
 
 first_in : (s : Session) (cs : List Call) (m : CallMade) → early s.phase ≡ true
-    → first_answer (calls_accepted (play_calls s cs)) ≡ some m → m.before.phase ≡ Phase.Waiting AwaitedResponse.Gpo
+    → first_answer (calls_accepted (play_calls s cs)) ≡ Some m → m.before.phase ≡ Phase.Waiting AwaitedResponse.Gpo
 unfolding play_calls calls_accepted first_answer
 first_in s [] m e f = let z : ◌≡◌ {A = ℕ} 0 1 = cc in absurd (omega arith)
 first_in s (c ∷ cs) m e f = one_call s e c _ m (first_in (call_step s c).reply.session cs m) f
 
 -- from a fresh session on, the first answer taken comes while the answer to GPO is awaited
 pub first_on_gpo : (s : Session) (cs : List Call) (m : CallMade) → s.phase ≡ Phase.Fresh
-    → first_answer (calls_accepted (play_calls s cs)) ≡ some m
+    → first_answer (calls_accepted (play_calls s cs)) ≡ Some m
     → m.before.phase ≡ Phase.Waiting AwaitedResponse.Gpo
 first_on_gpo s cs m q f = first_in s cs m (ap early q) f

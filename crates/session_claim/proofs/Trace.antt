@@ -1,11 +1,11 @@
 -- Demand 3: from a session in any phase, the commands of any further calls are the front of what is left of the
 -- published order. One induction over the calls, each by the way its step went.
 -- Assumes nothing.
+use Rattle.std.specs.Prelude.{Some, None, Option}
 use mathlib.Core.Path.{◌≡◌, refl, sym, ap, subst, ◌∙◌}
 use mathlib.Core.Bool.{Bool, true, false}
 use mathlib.Core.Logic.{◌⊎◌, inl, inr}
 use mathlib.Core.List.{List, [], ◌∷◌, ◌++◌, map}
-use mathlib.Core.Option.{Option, some, none}
 use Prim.Native.Nat.{ℕ, ◌+◌, ◌-◌, ◌≤◌}
 use native.Mathlib.Omega.{arith}
 use lib.ListN.{length, get_or, take, drop, length-append, length-take, length-drop, length-map}
@@ -17,7 +17,6 @@ use Rattle.basics.proofs.Laws.{if_ind, if_yes, if_no, bool_cases, either_left, b
 use Rattle.store.specs.Place.{bytes_or_empty_if_absent}
 use Rattle.store.specs.Held.{stored_bytes}
 use Rattle.afl.specs.declared.CardRecord.{CardRecord}
-use Rattle.afl.specs.declared.RecordFound.{RecordFound}
 use Rattle.afl.specs.Records.{afl_records, afl_record_count, accepts_afl, kth_record_of_accepted_afl}
 use Rattle.command.specs.ReadRecord.{read_record_command}
 use Rattle.afl.proofs.Laws.{record_split, record_inside, record_there, accepted_length}
@@ -134,7 +133,7 @@ none_left (c ∷ sent) r f = absurd f
 
 -- the last command of a store's mode
 abbrev last_on : List ℕ → CommandKind
-last_on b = final_command_kind_for_aip (some (stored_bytes b 0x82))
+last_on b = final_command_kind_for_aip (Some (stored_bytes b 0x82))
 
 last_emv : (b : List ℕ) → emv_mode b ≡ true → last_on b ≡ cryptogram
 unfolding final_command_kind_for_aip
@@ -161,16 +160,16 @@ rest (Phase.Ended e) b x = []
 
 published_front : (k : CommandKind) (a : Option (List ℕ)) → published_order k a ≡ gpo ∷ drop 1 (published_order k a)
 unfolding published_order
-published_front k none = refl
-published_front k (some l) = refl
+published_front k None = refl
+published_front k (Some l) = refl
 
 published_length : (k : CommandKind) (a : Option (List ℕ)) → length (published_order k a) ≡ most_commands_for_accepted_afl a
 unfolding published_order
-published_length k none = refl
-published_length k (some l) = simp (length-append, length-map) (omega (arith, records_length l))
+published_length k None = refl
+published_length k (Some l) = simp (length-append, length-map) (omega (arith, records_length l))
 
 -- the record after the k-th
-next_record : (l : List ℕ) (k : ℕ) (r : CardRecord) → kth_record_of_accepted_afl l (k + 1) ≡ RecordFound.At r
+next_record : (l : List ℕ) (k : ℕ) (r : CardRecord) → kth_record_of_accepted_afl l (k + 1) ≡ Some r
     → drop k (afl_records l) ≡ r ∷ drop (k + 1) (afl_records l)
 next_record l k r e =
     ap (drop k) (record_split l (k + 1) r e)
@@ -181,7 +180,7 @@ empty : (x : List CardRecord) → length x ≡ 0 → x ≡ []
 empty [] e = refl
 empty (r ∷ x) e = absurd (omega arith)
 
-no_record : (l : List ℕ) (k : ℕ) → accepts_afl l ≡ true → kth_record_of_accepted_afl l (k + 1) ≡ RecordFound.Nothing
+no_record : (l : List ℕ) (k : ℕ) → accepts_afl l ≡ true → kth_record_of_accepted_afl l (k + 1) ≡ None
     → drop k (afl_records l) ≡ []
 no_record l k a e = empty (drop k (afl_records l)) (length-drop k (afl_records l) ∙ omega (arith, records_length l, past))
   where
@@ -194,7 +193,7 @@ no_record l k a e = empty (drop k (afl_records l)) (length-drop k (afl_records l
 
 -- an answer at the front is the first; other calls are skipped
 module _ (m : CallMade) (tk : List CallMade) where
-  answer_first : is_answer m.call ≡ true → first_answer (m ∷ tk) ≡ some m
+  answer_first : is_answer m.call ≡ true → first_answer (m ∷ tk) ≡ Some m
   unfolding first_answer
   answer_first e = if_yes _ _ e
 
@@ -205,8 +204,8 @@ module _ (m : CallMade) (tk : List CallMade) where
 -- ---- the last call taken, or what the session was before
 
 abbrev pub by : {A : Type 0} → A → (CallMade → A) → Option CallMade → A
-by d g none = d
-by d g (some m) = g m
+by d g None = d
+by d g (Some m) = g m
 
 by_last : {A : Type 0} (d e : A) (g : CallMade → A) (m : CallMade) (tk : List CallMade) → by d g (last_element (m ∷ tk))
     ≡ by e g (last_element (m ∷ tk))
@@ -386,9 +385,9 @@ module _ (s : Session) (card buf : List ℕ) where
       (subst (λ (x : Option (List ℕ)). Front (command_kind (read_record_command r) ∷ map command_kind sent)
       (drop 1 (published_order (final_command_kind_for_aip (aip_in_gpo_response card)) x))) (sym (if_yes _ _ (k refl) ∙ here))
       (subst (λ (x : Option (List ℕ)). Front (command_kind (read_record_command r) ∷ map command_kind sent)
-      (drop 1 (published_order (final_command_kind_for_aip x) (some l)))) (sym told)
+      (drop 1 (published_order (final_command_kind_for_aip x) (Some l)))) (sym told)
       (front_cons (command_kind (read_record_command r)) (reads r) (map command_kind sent)
-      (drop 1 (published_order (last_on b) (some l))) (map reads (drop 1 (afl_records l)) ++ (last_on b ∷ []))
+      (drop 1 (published_order (last_on b) (Some l))) (map reads (drop 1 (afl_records l)) ++ (last_on b ∷ []))
       (ap (λ (x : List CardRecord). map reads x ++ (last_on b ∷ [])) (next_record l 0 r e)) (kind_record r) h)))))
     where
       b : List ℕ
@@ -401,11 +400,11 @@ module _ (s : Session) (card buf : List ℕ) where
       m = call_made s call (command_step s.count b (awaited_record_with_limit (transaction_limit b) 1)
           (read_record_command r) buf)
 
-      here : afl_in_gpo_response card ≡ some l
+      here : afl_in_gpo_response card ≡ Some l
       here = afl_brought (store_bytes s) card (store_size_lem s i) z (ap bytes_or_empty_if_absent (on_gpo_lem s i q).no_94)
           (omega (arith, (accepted_length l a).1))
 
-      told : aip_in_gpo_response card ≡ some (stored_bytes b 0x82)
+      told : aip_in_gpo_response card ≡ Some (stored_bytes b 0x82)
       told =
           aip_brought (store_bytes s) card (store_size_lem s i) z (ap bytes_or_empty_if_absent (on_gpo_lem s i q).no_82)
           (mode_bytes b (read_fits Awaited.Gpo (store_bytes s) card (store_size_lem s i) (store_fits s i)).1 v)
@@ -431,12 +430,12 @@ module _ (s : Session) (card buf : List ℕ) where
         same
         (subst
         (λ (v : List ℕ). Front xs (map reads (drop p.number (afl_records (stored_afl b)))
-        ++ (final_command_kind_for_aip (some v) ∷ []))) same_mode h))
+        ++ (final_command_kind_for_aip (Some v) ∷ []))) same_mode h))
 
     -- the last command y, where no record is left
     last_goes : (d : List ℕ) (f : AwaitedResponse) (c : List ℕ) (y : CommandKind)
         → ((t : Option CallMade) → rest_on f d t ≡ [])
-        → kth_record_of_accepted_afl (stored_afl b) (p.number + 1) ≡ RecordFound.Nothing → last_on b ≡ y → command_kind c ≡ y
+        → kth_record_of_accepted_afl (stored_afl b) (p.number + 1) ≡ None → last_on b ≡ y → command_kind c ≡ y
         → Goes s call (command_step s.count d f c buf)
     last_goes d f c y n e m k =
         goes_sent s call d f c buf (ap is_ended q) (λ w. refl)
@@ -449,7 +448,7 @@ module _ (s : Session) (card buf : List ℕ) where
         ∙ ap (λ (x : CommandKind). x ∷ []) m)
         k (subst (Front (map command_kind sent)) (n (first_answer tk)) h)))
 
-    records_goes : kth_record_of_accepted_afl (stored_afl b) (p.number + 1) ≡ RecordFound.Nothing → emv_mode b ≡ true
+    records_goes : kth_record_of_accepted_afl (stored_afl b) (p.number + 1) ≡ None → emv_mode b ≡ true
         → {st : Step} → RecordsWay p.limit (ways.taken w s card) buf st → Goes s call st
     records_goes e m (RecordsWay.failed n r x) = goes_ended s call _ b _ n buf (ap is_ended q)
     records_goes e m RecordsWay.unlisted = goes_ended s call _ _ _ _ buf (ap is_ended q)
@@ -460,7 +459,7 @@ module _ (s : Session) (card buf : List ℕ) where
         (kind_cryptogram c (list.cryptogram_proper (store_bytes (analysed_session (ways.taken w s card))) c
         (generate_ac_p1 (asked_by p.limit (ways.taken w s card)).choice) g))
 
-    mag_stripe_goes : kth_record_of_accepted_afl (stored_afl b) (p.number + 1) ≡ RecordFound.Nothing → emv_mode b ≡ false
+    mag_stripe_goes : kth_record_of_accepted_afl (stored_afl b) (p.number + 1) ≡ None → emv_mode b ≡ false
         → {st : Step} → MagStripeWay p.limit (ways.taken w s card) buf st → Goes s call st
     mag_stripe_goes e m (MagStripeWay.failed n r) = goes_ended s call _ b _ n buf (ap is_ended q)
     mag_stripe_goes e m (MagStripeWay.asked c f g) =
@@ -557,8 +556,8 @@ runs_on s (c ∷ cs) i = call_goes s c _ _ _ (runs_on (call_step s c).reply.sess
 -- ---- the claim, from a fresh session
 
 none_yet : (o : Option CallMade) → by fresh told o ≡ stage_after_last_accepted_call o
-none_yet none = refl
-none_yet (some m) = refl
+none_yet None = refl
+none_yet (Some m) = refl
 
 most_one : (x : Bool) → one_if x ≤ 1
 most_one true = omega arith

@@ -1,7 +1,6 @@
 -- What a list of calls on one session returned (document 01, "What demand 3 counts").
 -- Assumes nothing.
-use Rattle.std.specs.Prelude.{Bool, true, false, List, [], ◌∷◌, ◌++◌}
-use Rattle.std.proofs.Math.Option.{Option, some, none}
+use Rattle.std.specs.Prelude.{Bool, true, false, List, [], ◌∷◌, ◌++◌, Option, Some, None}
 use Rattle.basics.specs.Types.{CommandBytes}
 use Rattle.basics.specs.Choice.{when◌then◌else◌, ◌or◌}
 use Rattle.session.specs.Calls.{Call, start, answer, link_failed, stop, CallMade, call_result, call_refused, command_sent}
@@ -22,8 +21,8 @@ calls_accepted (m ∷ ms) =
 
 -- the last of a list, if there is one
 unfoldable pub last_element : {A : Type 0} → List A → Option A
-last_element [] = none
-last_element (x ∷ []) = some x
+last_element [] = None
+last_element (x ∷ []) = Some x
 last_element (x ∷ y ∷ l) = last_element (y ∷ l)
 
 -- ---- unanswered: a command after which no answer that is not refused has come

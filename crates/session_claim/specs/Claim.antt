@@ -1,7 +1,6 @@
 -- Demand 3 (document 01, "What demand 3 counts"): one claim about the whole list of calls, one field for each clause.
 -- Assumes nothing.
-use Rattle.std.specs.Prelude.{◌≡◌, true, List, map, ◌+◌, ◌≤◌, length, take}
-use Rattle.std.proofs.Math.Option.{Option, some, none}
+use Rattle.std.specs.Prelude.{◌≡◌, true, List, map, ◌+◌, ◌≤◌, length, take, Option, Some, None}
 use Rattle.basics.specs.Types.{AflBytes, Count}
 use Rattle.basics.specs.Choice.{one_if}
 use Rattle.afl.specs.Records.{afl_record_count}
@@ -23,15 +22,15 @@ stage_after_accepted_result (CallResult.Refused r) = fresh
 
 -- by the last call not refused; it is fresh where there is none
 abbrev pub stage_after_last_accepted_call : Option CallMade → SessionStage
-stage_after_last_accepted_call none = fresh
-stage_after_last_accepted_call (some m) = stage_after_accepted_result (call_result m)
+stage_after_last_accepted_call None = fresh
+stage_after_last_accepted_call (Some m) = stage_after_accepted_result (call_result m)
 
 -- ---- the claim
 
 -- the most commands: 1 while no AFL is accepted, 2 + R from then on
 abbrev pub most_commands_for_accepted_afl : Option AflBytes → Count
-most_commands_for_accepted_afl none = 1
-most_commands_for_accepted_afl (some l) = 2 + afl_record_count l
+most_commands_for_accepted_afl None = 1
+most_commands_for_accepted_afl (Some l) = 2 + afl_record_count l
 
 -- ms are the calls of a list made one after the other from a fresh session in its ranges (`play_calls`), and s is the
 -- session after them, that fresh one where there are none (`final_session`); `every_session_follows_published_order`

@@ -1,4 +1,5 @@
 -- Records that keep their ranges though a stricter test might refuse them. Assumes nothing.
+use Rattle.std.specs.Prelude.{Some}
 use mathlib.Core.Path.{◌≡◌, refl, sym, ap, subst, ◌∙◌}
 use mathlib.Core.Bool.{true}
 use mathlib.Core.List.{List}
@@ -9,7 +10,6 @@ use Rattle.basics.specs.Choice.{both, every}
 use Rattle.dictionary.specs.Rows.{dictionary_rows, row_at, row_count, store_size, find_row}
 use Rattle.dictionary.specs.Named.{row_pan, row_aip, row_cdol1, row_afl, row_tvr, row_cvm_results, row_expiration_date}
 use Rattle.dictionary.specs.Named.{row_kernel_configuration, row_limit_no_on_device_cvm, row_limit_on_device_cvm}
-use Rattle.dictionary.specs.declared.RowFound.TheVariants.{At}
 use Rattle.dictionary.specs.Form.{length_and_digits_fit_row}
 use Rattle.dictionary.proofs.Fit.{fits_length}
 use Rattle.dictionary.proofs.Named.{at_5a, at_82, at_8c, at_94, at_95, at_5f24, at_9f34, at_df811b, at_df8124}
@@ -109,7 +109,7 @@ cryptogram_with_any_95 s a e q v w =
     c : CryptogramClauses a s.count b
     c = on_cryptogram_lem s e a q
 
-    same : (t j : ℕ) → find_row dictionary_rows t ≡ At j → (j ≡ row_tvr → ⊥)
+    same : (t j : ℕ) → find_row dictionary_rows t ≡ Some j → (j ≡ row_tvr → ⊥)
         → object_value b t ≡ object_value (put_row dictionary_rows b row_tvr v) t
     same t j x y = sym (put_named b row_tvr v l h g t j x y)
 

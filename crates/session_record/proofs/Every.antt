@@ -7,7 +7,8 @@ use native.Mathlib.Numerals.{add-one}
 use native.Mathlib.Omega.{arith}
 use lib.ListN.{length, get_or, drop, drop_of_length-le}
 use lib.Seq.{drop-cons}
-use Rattle.basics.specs.Choice.{every}
+use Rattle.std.specs.List.{list_all}
+use Rattle.basics.specs.Choice.{both, every}
 use Rattle.basics.proofs.Laws.{both_yes, both_no_left, both_true}
 
 module _ {A : Type 0} (f : A → Bool) (xs : List A) (d : A) (i : ℕ) where
@@ -30,3 +31,9 @@ pub every_all : {A : Type 0} (f : A → Bool) (xs : List A) (d : A) → ((k : �
 unfolding every
 every_all f [] d h = refl
 every_all f (x ∷ xs) d h = both_yes _ _ (h 0 (omega arith)) (every_all f xs d (λ k l. h (suc k) (omega arith)))
+
+-- std's test of a list is this one
+pub every_is_list_all : {A : Type 0} (f : A → Bool) (xs : List A) → every f xs ≡ list_all f xs
+unfolding every both
+every_is_list_all f [] = refl
+every_is_list_all f (x ∷ xs) = grind (arith, every_is_list_all f xs)

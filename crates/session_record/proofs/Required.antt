@@ -10,7 +10,7 @@ use lib.Dec.{eqb}
 use lib.ListN.{length}
 use Rattle.basics.specs.Choice.{if, both, either, every}
 use Rattle.dictionary.specs.Rows.{Row, dictionary_rows, row_in, optional_at_start}
-use Rattle.dictionary.specs.Named.{required_at_start_count, row_numbers_required_at_start}
+use Rattle.dictionary.specs.Named.{row_numbers_required_at_start}
 use Rattle.store.specs.Place.{row_value, is_present}
 use Rattle.store.specs.Held.{has_object}
 use Rattle.store.proofs.Rows.{rows_length}
@@ -49,7 +49,3 @@ brought_rows b =
     from b 0 dictionary_rows (λ k h. held_is b _ k (row-found k (omega (arith, rows_length))) refl refl ∙ ap (there_at b)
     (sym (zero-add k)))
     ∙ ap (every (there_at b)) required_numbers
-
-pub rows_many : length row_numbers_required_at_start ≡ required_at_start_count
-unfolding row_numbers_required_at_start
-rows_many = refl

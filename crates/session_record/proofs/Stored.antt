@@ -1,6 +1,7 @@
 -- What a put leaves of what the ranges speak of, by tag: the store's size, that every stored object fits, and what a
 -- running session holds. The store's own laws speak of rows.
 -- Assumes nothing.
+use Rattle.std.specs.Prelude.{Option, Some, None}
 use mathlib.Core.Path.{◌≡◌, refl, sym, ap, subst, ◌∙◌}
 use mathlib.Core.Bool.{Bool, true, not}
 use mathlib.Core.Logic.{inl, inr}
@@ -19,8 +20,6 @@ use Rattle.basics.proofs.Table.{at}
 use Rattle.dictionary.specs.Rows.{Row, dictionary_rows, blank_row, row_at, row_count, store_size, find_row, set_by_start}
 use Rattle.dictionary.specs.Rows.{set_by_card}
 use Rattle.dictionary.specs.Named.{row_tvr}
-use Rattle.dictionary.specs.declared.RowFound.{RowFound}
-use Rattle.dictionary.specs.declared.RowFound.TheVariants.{At, Unknown}
 use Rattle.dictionary.specs.Form.{length_and_digits_fit_row}
 use Rattle.dictionary.specs.TerminalType.{listed_terminal_type}
 use Rattle.dictionary.proofs.Find.{found}
@@ -82,9 +81,9 @@ zeros_fit b l e = ap all_stored_objects_fit_rows (zeros_of b e ∙ ap (λ (n : �
 pub empty_lacks : (t : ℕ) → object_value (replicate store_size 0) t ≡ absent
 empty_lacks t = go (find_row dictionary_rows t) refl
   where
-    go : (x : RowFound) → find_row dictionary_rows t ≡ x → object_value (replicate store_size 0) t ≡ absent
-    go Unknown e = unknown_absent dictionary_rows (replicate store_size 0) t e
-    go (At k) e = by_row dictionary_rows (replicate store_size 0) t k e ∙ empty_value k
+    go : (x : Option ℕ) → find_row dictionary_rows t ≡ x → object_value (replicate store_size 0) t ≡ absent
+    go None e = unknown_absent dictionary_rows (replicate store_size 0) t e
+    go (Some k) e = by_row dictionary_rows (replicate store_size 0) t k e ∙ empty_value k
 
 -- ---- a put
 
@@ -94,33 +93,33 @@ module _ (b : List ℕ) (k : ℕ) (v : List ℕ) (l : length b ≡ store_size) (
   put_size = put_length dictionary_rows b k v (fits_row b k v l h g) ∙ l
 
   -- the tag's own row holds the value
-  pub put_here : (t : ℕ) → find_row dictionary_rows t ≡ At k → object_value (put_row dictionary_rows b k v) t ≡ present v
+  pub put_here : (t : ℕ) → find_row dictionary_rows t ≡ Some k → object_value (put_row dictionary_rows b k v) t ≡ present v
   put_here t e = by_row dictionary_rows _ t k e ∙ put-get dictionary_rows b k v (fits_row b k v l h g)
 
   -- the value of a tag of another row stays
-  pub put_named : (t j : ℕ) → find_row dictionary_rows t ≡ At j → (j ≡ k → ⊥)
+  pub put_named : (t j : ℕ) → find_row dictionary_rows t ≡ Some j → (j ≡ k → ⊥)
       → object_value (put_row dictionary_rows b k v) t ≡ object_value b t
   put_named t j e ne = by_row dictionary_rows _ t j e ∙ put_other dictionary_rows b k v (fits_row b k v l h g) j ne ∙ sym
       (by_row dictionary_rows b t j e)
 
   -- and so does that of every tag but those of the row
-  pub put_away : (t : ℕ) → (find_row dictionary_rows t ≡ At k → ⊥) → object_value (put_row dictionary_rows b k v) t
+  pub put_away : (t : ℕ) → (find_row dictionary_rows t ≡ Some k → ⊥) → object_value (put_row dictionary_rows b k v) t
       ≡ object_value b t
   put_away t ne = go (find_row dictionary_rows t) refl
     where
-      go : (x : RowFound) → find_row dictionary_rows t ≡ x → object_value (put_row dictionary_rows b k v) t ≡ object_value b t
-      go Unknown e = unknown_absent dictionary_rows _ t e ∙ sym (unknown_absent dictionary_rows b t e)
-      go (At j) e = put_named t j e (λ q. ne (e ∙ ap At q))
+      go : (x : Option ℕ) → find_row dictionary_rows t ≡ x → object_value (put_row dictionary_rows b k v) t ≡ object_value b t
+      go None e = unknown_absent dictionary_rows _ t e ∙ sym (unknown_absent dictionary_rows b t e)
+      go (Some j) e = put_named t j e (λ q. ne (e ∙ ap Some q))
 
   -- what is there stays there
   pub put_holds : (t : ℕ) → has_object b t ≡ true → has_object (put_row dictionary_rows b k v) t ≡ true
   put_holds t p = go (find_row dictionary_rows t) refl
     where
-      go : (x : RowFound) → find_row dictionary_rows t ≡ x → has_object (put_row dictionary_rows b k v) t ≡ true
-      go Unknown e = let z = ap is_present (unknown_absent dictionary_rows b t e) in cc
-      go (At j) e =
+      go : (x : Option ℕ) → find_row dictionary_rows t ≡ x → has_object (put_row dictionary_rows b k v) t ≡ true
+      go None e = let z = ap is_present (unknown_absent dictionary_rows b t e) in cc
+      go (Some j) e =
           elim (equal_or_not j k) [
-            | inl q ↦ ap is_present (put_here t (e ∙ ap At q))
+            | inl q ↦ ap is_present (put_here t (e ∙ ap Some q))
             | inr q ↦
                 ap is_present (put_named t j e q) ∙ p
           ]
@@ -161,7 +160,7 @@ unfoldable pub apart_from : List ℕ → Row → Bool
 apart_from ts r = every (λ (t : ℕ). not (eqb r.tag t)) ts
 
 pub apart_found : (ts : List ℕ) (k : ℕ) → apart_from ts (row_at k) ≡ true → (i : ℕ) → i < length ts
-    → find_row dictionary_rows (get_or ts i 0) ≡ At k → ⊥
+    → find_row dictionary_rows (get_or ts i 0) ≡ Some k → ⊥
 unfolding apart_from
 apart_found ts k a i h e =
     eqb-false _ _ (not-true _ (at (λ (t : ℕ). not (eqb (row_at k).tag t)) ts 0 a i h))

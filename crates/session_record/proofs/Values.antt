@@ -1,5 +1,6 @@
 -- What a store holds of a tag, as facts on its value: absent, there, zero, and of a length that its row allows.
 -- Assumes nothing.
+use Rattle.std.specs.Prelude.{Some}
 use mathlib.Core.Path.{◌≡◌, refl, ap, subst, ◌∙◌}
 use mathlib.Core.Bool.{true, not}
 use mathlib.Core.List.{List, [], ◌∷◌}
@@ -11,7 +12,6 @@ use Rattle.basics.specs.Choice.{every}
 use Rattle.basics.proofs.Laws.{both_yes, both_left, both_right}
 use Rattle.dictionary.specs.Rows.{dictionary_rows, row_at, find_row, required_at_start}
 use Rattle.dictionary.specs.Named.{row_tvr}
-use Rattle.dictionary.specs.declared.RowFound.TheVariants.{At}
 use Rattle.dictionary.specs.Form.{length_and_digits_fit_row}
 use Rattle.dictionary.proofs.Find.{found}
 use Rattle.dictionary.proofs.Fit.{fits_length}
@@ -56,7 +56,7 @@ zeros_are (suc n) = both_yes _ _ (eq-eqb 0 0 refl) (zeros_are n)
 
 -- ---- lengths
 
-module _ (b : List ℕ) (f : AllObjectsFit b) (t k : ℕ) (e : find_row dictionary_rows t ≡ At k) where
+module _ (b : List ℕ) (f : AllObjectsFit b) (t k : ℕ) (e : find_row dictionary_rows t ≡ Some k) where
   -- the value of a tag fits its row
   pub value_fits : absent_or_length_and_digits_fit_row (row_at k) (object_value b t) ≡ true
   value_fits =
@@ -84,7 +84,7 @@ module _ (b : List ℕ) (f : AllObjectsFit b) (t k : ℕ) (e : find_row dictiona
       go (present v) p q = q
 
 -- what a start must bring is present
-pub brought_there : (b : List ℕ) → RunningClauses b → (t k : ℕ) → find_row dictionary_rows t ≡ At k
+pub brought_there : (b : List ℕ) → RunningClauses b → (t k : ℕ) → find_row dictionary_rows t ≡ Some k
     → (row_at k).must ≡ required_at_start → has_object b t ≡ true
 brought_there b r t k e m =
     let w = found dictionary_rows t k e in

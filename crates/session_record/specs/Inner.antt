@@ -3,15 +3,17 @@
 -- can skip it. proofs/Fit, proofs/Walk and proofs/Required tie it to specs/Ranges: `object_place` to
 -- `stored_object_absent_or_fits_row`, `walk_end` to `all_stored_objects_fit_rows` and `all_required_at_start_present`,
 -- `brought_rows` to `all_required_at_start_present`. Assumes nothing.
-use Rattle.std.specs.Prelude.{◌≡◌, refl, Bool, not, List, [], ◌∷◌, suc, ◌+◌, ◌≤◌, ◌<◌, get_or}
-use Rattle.basics.specs.Types.{Bytes, StoreBytes, RowNumber, Offset, Count}
-use Rattle.basics.specs.Choice.{if, when◌then◌else◌, ◌and◌, ◌or◌, ◌≤?◌, ◌=?◌}
+use Rattle.std.specs.Prelude.{◌≡◌, refl, Bool, not, List, [], ◌∷◌, suc, ◌+◌, ◌≤◌, ◌<◌, get_or, length, Option, Some, None}
+use Rattle.basics.specs.Types.{Bytes, StoreBytes, RowNumber, RecordNumber, Offset, Count}
+use Rattle.basics.specs.Choice.{if, when◌then◌else◌, ◌and◌, ◌or◌, ◌≤?◌, ◌<?◌, ◌=?◌}
+use Rattle.basics.specs.Number.{between}
 use Rattle.dictionary.specs.Rows.{Row, dictionary_rows, row_count, optional_at_start}
 use Rattle.dictionary.specs.Named.{required_at_start_count, row_numbers_required_at_start}
-use Rattle.store.specs.Place.{value_in_place, row_size_in_store, row_offset}
+use Rattle.store.specs.Place.{value_in_place, row_size_in_store, row_offset, row_value, bytes_or_empty_if_absent}
+use Rattle.afl.specs.Records.{accepts_afl}
 use Rattle.session_record.specs.declared.RowPosition.{RowPosition}
 use Rattle.session_record.specs.Ranges.{absent_or_length_and_digits_fit_row, all_stored_objects_fit_rows}
-use Rattle.session_record.specs.Ranges.{all_required_at_start_present}
+use Rattle.session_record.specs.Ranges.{all_required_at_start_present, stored_afl, stored_afl_record_count}
 
 -- ---- one place
 
@@ -66,3 +68,26 @@ abbrev pub all_fit_and_required_present_if_asked : Bool → StoreBytes → Bool
 all_fit_and_required_present_if_asked asked b =
     all_stored_objects_fit_rows b
     and (not asked or all_required_at_start_present b)
+
+-- ---- the stored AFL, and one row's value
+
+-- how many records the stored AFL names, where it is accepted
+unfoldable pub record_count_of_stored_afl : StoreBytes → Option Count
+record_count_of_stored_afl b = when accepts_afl (stored_afl b) then Some (stored_afl_record_count b) else None
+
+-- the stored AFL names the record of a number, and so many commands come before its answer
+abbrev pub record_and_count_in_stored_afl : RecordNumber → Count → StoreBytes → Bool
+record_and_count_in_stored_afl k n b =
+    accepts_afl (stored_afl b)
+    and between 1 k (stored_afl_record_count b)
+    and n =? 1 + k
+
+-- every record that the stored AFL names was requested, and one more command handed out
+abbrev pub count_after_stored_records : Count → StoreBytes → Bool
+count_after_stored_records n b =
+    accepts_afl (stored_afl b)
+    and n =? 2 + stored_afl_record_count b
+
+-- the value of a row has bytes
+abbrev pub row_non_empty : StoreBytes → RowNumber → Bool
+row_non_empty b k = 0 <? length (bytes_or_empty_if_absent (row_value dictionary_rows b k))

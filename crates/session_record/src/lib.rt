@@ -18,9 +18,8 @@ ghost use Rattle.session_record.specs.Session.{session_of, fresh_session, sessio
 ghost use Rattle.store.specs.Held.{is_zero_byte};
 ghost use Rattle.session_record.specs.Ranges.{all_stored_objects_fit_rows, all_required_at_start_present, last_response_objects_absent, emv_mode, mag_stripe_mode, emv_or_mag_stripe_mode, expiry_pan_and_cdol1_non_empty, track2_and_bitmaps_non_empty, in_running_ranges};
 ghost use Rattle.session_record.specs.Ranges.{in_fresh_ranges, in_waiting_ranges, in_gpo_ranges, in_record_ranges, in_cryptogram_ranges, in_checksum_ranges, in_ended_ranges, session_record_in_ranges};
-ghost use Rattle.session_record.specs.Inner.{place_length_and_value_fit_row, NextPresentRow, all_fit_and_required_present_if_asked};
+ghost use Rattle.session_record.specs.Inner.{place_length_and_value_fit_row, NextPresentRow, all_fit_and_required_present_if_asked, record_count_of_stored_afl, record_and_count_in_stored_afl, count_after_stored_records, row_non_empty};
 
-use afl::AflCheck;
 use analysis::choice::Choice;
 use analysis::cvm::Cvm;
 use dictionary::{
@@ -32,7 +31,7 @@ use dictionary::{
 use store::Store;
 
 // How a session ends.
-#[derive(Clone, Copy)]
+#[derive(Clone, Copy, PartialEq, Eq)]
 pub enum Outcome {
     Approved,
     OnlineRequest,
@@ -272,9 +271,9 @@ pub fn session_record_in_ranges(session: Session) -> bool
 pub fn session_parts_in_ranges(phase: Phase, count: u8, bytes: &[u8]) -> bool
     ensures { result ≡ session_record_in_ranges (session_of phase count bytes.now) }
 {
-    if bytes.len() != SIZE {
+    let Some(bytes) = bytes.as_array::<SIZE>() else {
         return false;
-    }
+    };
     match phase {
         Phase::Fresh => fresh_in_ranges(count, bytes),
         Phase::Waiting(awaited) => waiting_in_ranges(awaited, count, bytes),
@@ -283,19 +282,14 @@ pub fn session_parts_in_ranges(phase: Phase, count: u8, bytes: &[u8]) -> bool
 }
 
 // Fresh: no command was handed out and the store is all zeros, so that every object fits.
-fn fresh_in_ranges(count: u8, bytes: &[u8]) -> bool
-    requires { length bytes.now ≡ store_size }
+fn fresh_in_ranges(count: u8, bytes: &[u8; SIZE]) -> bool
     ensures { result ≡ both (all_stored_objects_fit_rows bytes.now) (in_fresh_ranges count bytes.now) }
 {
-    if count != 0 {
-        return false;
-    }
-    all_zero(bytes)
+    count == 0 && all_zero(bytes)
 }
 
 // Running: what the awaited response asks of the count and of the store.
-fn waiting_in_ranges(awaited: AwaitedResponse, count: u8, bytes: &[u8]) -> bool
-    requires { length bytes.now ≡ store_size }
+fn waiting_in_ranges(awaited: AwaitedResponse, count: u8, bytes: &[u8; SIZE]) -> bool
     ensures { result ≡ both (all_stored_objects_fit_rows bytes.now) (in_waiting_ranges awaited count bytes.now) }
 {
     match awaited {
@@ -307,133 +301,87 @@ fn waiting_in_ranges(awaited: AwaitedResponse, count: u8, bytes: &[u8]) -> bool
 }
 
 // Waiting on GPO: nothing of its answer is present yet.
-fn gpo_in_ranges(count: u8, bytes: &[u8]) -> bool
-    requires { length bytes.now ≡ store_size }
+fn gpo_in_ranges(count: u8, bytes: &[u8; SIZE]) -> bool
     ensures { result ≡ both (all_stored_objects_fit_rows bytes.now) (in_gpo_ranges count bytes.now) }
 {
-    if !is_running(bytes) {
-        return false;
-    }
-    if store::is_present(bytes, ROW_AIP) {
-        return false;
-    }
-    if store::is_present(bytes, ROW_AFL) {
-        return false;
-    }
-    if !all_zero(store::value(bytes, ROW_TVR)) {
-        return false;
-    }
-    count == 1
+    is_running(bytes)
+        && !store::is_present(bytes, ROW_AIP)
+        && !store::is_present(bytes, ROW_AFL)
+        && all_zero(store::value(bytes, ROW_TVR))
+        && count == 1
 }
 
 // Waiting on a record that the stored AFL names, with the limit that the store gives.
-fn record_in_ranges(place: AwaitedRecord, count: u8, bytes: &[u8]) -> bool
-    requires { length bytes.now ≡ store_size }
+fn record_in_ranges(place: AwaitedRecord, count: u8, bytes: &[u8; SIZE]) -> bool
     ensures { result ≡ both (all_stored_objects_fit_rows bytes.now) (in_record_ranges place count bytes.now) }
 {
-    if !is_running(bytes) {
-        return false;
-    }
-    if !is_emv_or_mag_stripe_mode(bytes) {
-        return false;
-    }
-    let results = store::value(bytes, ROW_TVR);
-    if !all_zero(results) {
-        return false;
-    }
-    if place.limit != analysis::action::transaction_limit(bytes) {
-        return false;
-    }
-    let c = afl::check_afl(store::value(bytes, ROW_AFL));
-    let AflCheck::Accepted(extent) = c else {
-        return false;
-    };
-    let k = basics::widen(place.number);
-    if k < 1 {
-        return false;
-    }
-    if extent.records < k {
-        return false;
-    }
-    basics::widen(count) == 1 + k
+    is_running(bytes)
+        && is_emv_or_mag_stripe_mode(bytes)
+        && all_zero(store::value(bytes, ROW_TVR))
+        && place.limit == analysis::action::transaction_limit(bytes)
+        && is_record_count(place.number, count, bytes)
 }
 
 // Waiting on the cryptogram: every record was requested, what the choice needs is present, and 9F34; the limit is
 // the store's.
-fn cryptogram_in_ranges(asked: RequestedCryptogram, count: u8, bytes: &[u8]) -> bool
-    requires { length bytes.now ≡ store_size }
+fn cryptogram_in_ranges(asked: RequestedCryptogram, count: u8, bytes: &[u8; SIZE]) -> bool
     ensures { result ≡ both (all_stored_objects_fit_rows bytes.now) (in_cryptogram_ranges asked count bytes.now) }
 {
-    if !is_running(bytes) {
-        return false;
-    }
-    if !is_emv_mode(bytes) {
-        return false;
-    }
-    if !expiry_pan_and_cdol1_non_empty(bytes) {
-        return false;
-    }
-    if !store::is_present(bytes, ROW_CVM_RESULTS) {
-        return false;
-    }
-    if asked.limit != analysis::action::transaction_limit(bytes) {
-        return false;
-    }
-    let c = afl::check_afl(store::value(bytes, ROW_AFL));
-    let AflCheck::Accepted(extent) = c else {
-        return false;
-    };
-    let n = basics::widen(count);
-    if n < 2 {
-        return false;
-    }
-    n - 2 == extent.records
+    is_running(bytes)
+        && is_emv_mode(bytes)
+        && expiry_pan_and_cdol1_non_empty(bytes)
+        && store::is_present(bytes, ROW_CVM_RESULTS)
+        && asked.limit == analysis::action::transaction_limit(bytes)
+        && is_count_after_records(count, bytes)
 }
 
 // Waiting on the checksum: every record was requested, and what the digits need is present; the limit is the store's.
-fn checksum_in_ranges(checksum: AwaitedChecksum, count: u8, bytes: &[u8]) -> bool
-    requires { length bytes.now ≡ store_size }
+fn checksum_in_ranges(checksum: AwaitedChecksum, count: u8, bytes: &[u8; SIZE]) -> bool
     ensures { result ≡ both (all_stored_objects_fit_rows bytes.now) (in_checksum_ranges checksum count bytes.now) }
 {
-    if !is_running(bytes) {
-        return false;
-    }
-    if !is_mag_stripe_mode(bytes) {
-        return false;
-    }
-    if !all_zero(store::value(bytes, ROW_TVR)) {
-        return false;
-    }
-    if !track2_and_bitmaps_non_empty(bytes) {
-        return false;
-    }
-    if checksum.limit != analysis::action::transaction_limit(bytes) {
-        return false;
-    }
-    let c = afl::check_afl(store::value(bytes, ROW_AFL));
-    let AflCheck::Accepted(extent) = c else {
+    is_running(bytes)
+        && is_mag_stripe_mode(bytes)
+        && all_zero(store::value(bytes, ROW_TVR))
+        && track2_and_bitmaps_non_empty(bytes)
+        && checksum.limit == analysis::action::transaction_limit(bytes)
+        && is_count_after_records(count, bytes)
+}
+
+// Whether so many commands come before the answer to the record of a number, which the stored AFL names.
+fn is_record_count(number: u8, count: u8, bytes: &[u8; SIZE]) -> bool
+    ensures { result ≡ record_and_count_in_stored_afl number count bytes.now }
+{
+    let Some(records) = stored_record_count(bytes) else {
         return false;
     };
-    let n = basics::widen(count);
-    if n < 2 {
+    let k = usize::from(number);
+    1 <= k && k <= records && usize::from(count) == 1 + k
+}
+
+// Whether every record that the stored AFL names was requested by so many commands, and one more was handed out.
+fn is_count_after_records(count: u8, bytes: &[u8; SIZE]) -> bool
+    ensures { result ≡ count_after_stored_records count bytes.now }
+{
+    let Some(records) = stored_record_count(bytes) else {
         return false;
-    }
-    n - 2 == extent.records
+    };
+    let n = usize::from(count);
+    2 <= n && n - 2 == records
+}
+
+// How many records the stored AFL names, where it is accepted.
+fn stored_record_count(bytes: &[u8; SIZE]) -> Option<usize>
+    ensures { result ≡ record_count_of_stored_afl bytes.now }
+{
+    let extent = afl::check_afl(store::value(bytes, ROW_AFL))?;
+    Some(extent.records)
 }
 
 // Ended: a count that a session can reach, and a reason with its outcome.
-fn ended_in_ranges(end: Ending, count: u8, bytes: &[u8]) -> bool
-    requires { length bytes.now ≡ store_size }
+fn ended_in_ranges(end: Ending, count: u8, bytes: &[u8; SIZE]) -> bool
     ensures { result ≡ both (all_stored_objects_fit_rows bytes.now) (in_ended_ranges end count) }
 {
-    if !all_rows_fit(bytes, false) {
-        return false;
-    }
-    if MOST < count {
-        return false;
-    }
-    let outcome = end.outcome;
-    reason_matches_outcome(outcome, end.reason)
+    all_rows_fit(bytes, false) && count <= MOST && reason_matches_outcome(end.outcome, end.reason)
 }
 
 // Whether a reason goes with an outcome.
@@ -453,52 +401,33 @@ pub fn reason_matches_outcome(outcome: Outcome, reason: u8) -> bool
 fn ends_session(reason: u8) -> bool
     ensures { result ≡ reason_matches_outcome Outcome.Ended reason }
 {
-    if reason < basics::REASON_STATUS {
-        return false;
-    }
-    if basics::REASON_MODE < reason {
-        return false;
-    }
-    reason != basics::REASON_ABOVE_LIMIT
+    basics::REASON_STATUS <= reason
+        && reason <= basics::REASON_MODE
+        && reason != basics::REASON_ABOVE_LIMIT
 }
 
 // What every running session holds and lacks; every object fits.
-fn is_running(bytes: &[u8]) -> bool
-    requires { length bytes.now ≡ store_size }
+fn is_running(bytes: &[u8; SIZE]) -> bool
     ensures { result ≡ both (all_stored_objects_fit_rows bytes.now) (in_running_ranges bytes.now) }
 {
-    if !all_rows_fit(bytes, true) {
-        return false;
-    }
-    if !store::is_present(bytes, ROW_TVR) {
-        return false;
-    }
-    if !dictionary::is_listed_terminal_type(basics::byte_at(
-        store::value(bytes, ROW_TERMINAL_TYPE),
-        0,
-    )) {
-        return false;
-    }
-    is_last_absent(bytes)
+    all_rows_fit(bytes, true)
+        && store::is_present(bytes, ROW_TVR)
+        && dictionary::is_listed_terminal_type(basics::byte_at(
+            store::value(bytes, ROW_TERMINAL_TYPE),
+            0,
+        ))
+        && is_last_absent(bytes)
 }
 
 // Nothing that only the answer to the cryptogram or to the checksum brings is present.
 fn is_last_absent(bytes: &[u8]) -> bool
     ensures { result ≡ last_response_objects_absent bytes.now }
 {
-    if store::is_present(bytes, ROW_IAD) {
-        return false;
-    }
-    if store::is_present(bytes, ROW_AC) {
-        return false;
-    }
-    if store::is_present(bytes, ROW_CID) {
-        return false;
-    }
-    if store::is_present(bytes, ROW_ATC) {
-        return false;
-    }
-    !store::is_present(bytes, ROW_CVC3_TRACK2)
+    !store::is_present(bytes, ROW_IAD)
+        && !store::is_present(bytes, ROW_AC)
+        && !store::is_present(bytes, ROW_CID)
+        && !store::is_present(bytes, ROW_ATC)
+        && !store::is_present(bytes, ROW_CVC3_TRACK2)
 }
 
 // The AIP indicates EMV mode.
@@ -512,58 +441,47 @@ pub fn is_emv_mode(bytes: &[u8]) -> bool
 pub fn is_mag_stripe_mode(bytes: &[u8]) -> bool
     ensures { result ≡ mag_stripe_mode bytes.now }
 {
-    if !store::is_present(bytes, ROW_AIP) {
-        return false;
-    }
-    if is_emv_mode(bytes) {
-        return false;
-    }
-    basics::byte_at(store::value(bytes, ROW_KERNEL_CONFIGURATION), 0) / 128 % 2 != 1
+    store::is_present(bytes, ROW_AIP)
+        && !is_emv_mode(bytes)
+        && basics::byte_at(store::value(bytes, ROW_KERNEL_CONFIGURATION), 0) / 128 % 2 != 1
 }
 
 // One of the two modes.
 pub fn is_emv_or_mag_stripe_mode(bytes: &[u8]) -> bool
     ensures { result ≡ emv_or_mag_stripe_mode bytes.now }
 {
-    if is_emv_mode(bytes) {
-        return true;
-    }
-    is_mag_stripe_mode(bytes)
+    is_emv_mode(bytes) || is_mag_stripe_mode(bytes)
+}
+
+// Whether a row's object is present, and not empty.
+fn has_bytes(bytes: &[u8], row: usize) -> bool
+    ensures { result ≡ row_non_empty bytes.now row }
+{
+    !store::value(bytes, row).is_empty()
 }
 
 // The track, the two bitmaps and the counter's digits are present, none empty.
 pub fn track2_and_bitmaps_non_empty(bytes: &[u8]) -> bool
     ensures { result ≡ track2_and_bitmaps_non_empty bytes.now }
 {
-    if store::value(bytes, ROW_TRACK2_DATA).len() == 0 {
-        return false;
-    }
-    if store::value(bytes, ROW_PCVC3_TRACK2).len() == 0 {
-        return false;
-    }
-    if store::value(bytes, ROW_PUNATC_TRACK2).len() == 0 {
-        return false;
-    }
-    store::value(bytes, ROW_NATC_TRACK2).len() != 0
+    has_bytes(bytes, ROW_TRACK2_DATA)
+        && has_bytes(bytes, ROW_PCVC3_TRACK2)
+        && has_bytes(bytes, ROW_PUNATC_TRACK2)
+        && has_bytes(bytes, ROW_NATC_TRACK2)
 }
 
 // The expiry date, the account number and CDOL1 are present, none empty.
 pub fn expiry_pan_and_cdol1_non_empty(bytes: &[u8]) -> bool
     ensures { result ≡ expiry_pan_and_cdol1_non_empty bytes.now }
 {
-    if store::value(bytes, ROW_EXPIRATION_DATE).len() == 0 {
-        return false;
-    }
-    if store::value(bytes, ROW_PAN).len() == 0 {
-        return false;
-    }
-    store::value(bytes, ROW_CDOL1).len() != 0
+    has_bytes(bytes, ROW_EXPIRATION_DATE)
+        && has_bytes(bytes, ROW_PAN)
+        && has_bytes(bytes, ROW_CDOL1)
 }
 
 // Every stored object fits its row; where `asked`, what a start must bring is present too. One walk for both, from one
 // object that is present to the next; it counts those that a start must bring.
-fn all_rows_fit(bytes: &[u8], asked: bool) -> bool
-    requires { length bytes.now ≡ store_size }
+fn all_rows_fit(bytes: &[u8; SIZE], asked: bool) -> bool
     ensures { result ≡ all_fit_and_required_present_if_asked asked bytes.now }
 {
     let codes = dictionary::packed_row_attributes();
@@ -582,15 +500,16 @@ fn all_rows_fit(bytes: &[u8], asked: bool) -> bool
         if !row_fits(&bytes[first..next], a) {
             return false;
         }
-        brought += basics::widen(a.must);
+        brought += usize::from(a.must);
         row = k + 1;
         at = next;
     }
 }
 
 // The first row from a row on whose object is present, and where its place starts; the end where there is none.
-fn next_held(bytes: &[u8], codes: &[u32; ROWS], from: usize, start: usize) -> RowPosition
-    requires bytes_len { length bytes.now ≡ store_size }
+// Kept: one `for` over the rows was tried in place of the two loops. It takes 560 instructions more an answer, 8 % of a
+// short one, whose bound against a model that lists what it takes has no room for them (docs/BENCHMARK.md).
+fn next_held(bytes: &[u8; SIZE], codes: &[u32; ROWS], from: usize, start: usize) -> RowPosition
     requires codes_value { codes.now ≡ packed_attributes_of_rows dictionary_rows }
     requires from_le_row_count { (from ≤ row_count) × (start ≡ row_offset dictionary_rows from) }
     ensures { NextPresentRow bytes.now from result }
@@ -611,10 +530,7 @@ fn next_held(bytes: &[u8], codes: &[u32; ROWS], from: usize, start: usize) -> Ro
 fn is_enough(asked: bool, brought: usize) -> bool
     ensures { result ≡ either (not asked) (eqb brought required_at_start_count) }
 {
-    if asked {
-        return brought == REQUIRED;
-    }
-    true
+    !asked || brought == REQUIRED
 }
 
 // Whether the place of an object that is there is in order: a length byte in its room, a value that is long enough and
@@ -624,7 +540,7 @@ fn row_fits(place: &[u8], a: RowAttributes) -> bool
     requires nonzero { 0 < get_or place.now 0 0 }
     ensures { result ≡ place_length_and_value_fit_row (row_with_attributes_and_tag_zero a) place.now }
 {
-    let stored = basics::widen(place[0]);
+    let stored = usize::from(place[0]);
     if place.len() < stored {
         return false;
     }
@@ -634,34 +550,18 @@ fn row_fits(place: &[u8], a: RowAttributes) -> bool
     dictionary::digits_match_form(a.form, &place[1..stored])
 }
 
-// Every object that a start must bring is present. The rows are bound before the loop, and its bound is a constant: the
-// compiler makes a test of one byte for each, and no table.
+// Every object that a start must bring is present.
 pub fn all_required_at_start_present(bytes: &[u8]) -> bool
     ensures { result ≡ all_required_at_start_present bytes.now }
 {
-    let rows = REQUIRED_ROWS;
-    let mut i = 0;
-    while i < REQUIRED {
-        if !store::is_present(bytes, rows[i]) {
-            return false;
-        }
-        i += 1;
-    }
-    true
+    REQUIRED_ROWS
+        .iter()
+        .all(|row| store::is_present(bytes, *row))
 }
 
 // Every byte is zero: the greatest is. All are examined, so that the compiler takes many at once.
 fn all_zero(v: &[u8]) -> bool
     ensures { result ≡ every is_zero_byte v.now }
 {
-    let mut most: u8 = 0;
-    let mut i = 0;
-    while i < v.len() {
-        let b = v[i];
-        if most < b {
-            most = b;
-        }
-        i += 1;
-    }
-    most == 0
+    v.iter().fold(0, |most, b| most.max(*b)) == 0
 }

@@ -20,7 +20,7 @@ use Rattle.dictionary.specs.Form.{is_numeric, digits_match_form, length_and_digi
 use Rattle.dictionary.specs.TerminalType.{listed_terminal_type}
 use Rattle.store.specs.Place.{row_offset, row_place_bytes, value_in_place, row_value, put_row, object_value_in}
 use Rattle.session_record.specs.Ranges.{is_present_if_required_at_start, all_required_at_start_present}
-use Rattle.start_data.specs.declared.LoadResult.{LoadResult}
+use Rattle.std.specs.Prelude.{Ok}
 use Rattle.start_data.specs.StartData.{is_listed_if_terminal_type, start_may_set_object_in_row, set_start_object}
 use Rattle.start_data.specs.StartData.{set_start_objects, LoadedStore, refusal, load_start_bytes, load_result_of}
 
@@ -143,7 +143,7 @@ cvm_limit = 0xDF ∷ 0x81 ∷ 0x26 ∷ 0x06 ∷ 0 ∷ 0 ∷ 0 ∷ 0 ∷ 0 ∷ 0 
 abbrev number : List ℕ
 number = 0x9F ∷ 0x6A ∷ 0x04 ∷ 0 ∷ 0 ∷ 0x34 ∷ 0x56 ∷ []
 
-complete : load_result_of (load_empty (others ++ configuration ++ on_device_limit ++ cvm_limit ++ number)) ≡ LoadResult.Loaded
+complete : load_result_of (load_empty (others ++ configuration ++ on_device_limit ++ cvm_limit ++ number)) ≡ (Ok tt)
 unfolding load_start_bytes primitive_objects recurse_with_fuel_from_length recurse_with_fuel prepend_object primitive_at_front
     header_of tag_at tag_size tag_size_from_second_byte tag_size_from_third_byte length_at tag_first_byte is_template is_private
     append_big_endian_bytes if both either every dictionary_rows row_found_shifted find_row start_may_set_object_in_row

@@ -2,11 +2,11 @@
 -- what each put keeps holds at the end (`load_holds`); from these its size, that every object fits, rows that a start
 -- may not set, and the terminal's type.
 -- Assumes nothing.
+use Rattle.std.specs.Prelude.{Some, None, Option}
 use mathlib.Core.Path.{◌≡◌, refl, sym, ap, subst, ◌∙◌}
 use mathlib.Core.Bool.{true, false}
 use mathlib.Core.Logic.{◌⊎◌, inl, inr}
 use mathlib.Core.List.{List, [], ◌∷◌, ◌++◌}
-use mathlib.Core.Option.{Option, some, none}
 use Prim.Native.Nat.{ℕ, ◌≤◌, ◌<◌}
 use native.Mathlib.Omega.{arith}
 use lib.ListN.{length, get_or}
@@ -17,8 +17,6 @@ use Rattle.basics.proofs.Laws.{if_yes, if_ind, both_left, both_right, either_fal
 use Rattle.basics.proofs.Order.{equal_or_not}
 use Rattle.basics.proofs.Table.{at}
 use Rattle.tlv.specs.Primitives.{Object, primitive_objects}
-use Rattle.dictionary.specs.declared.RowFound.{RowFound}
-use Rattle.dictionary.specs.declared.RowFound.TheVariants.{At, Unknown}
 use Rattle.dictionary.specs.Rows.{dictionary_rows, row_at, blank_row, row_found_shifted, find_row, row_count, store_size}
 use Rattle.dictionary.specs.Rows.{set_by_start, required_at_start}
 use Rattle.dictionary.specs.Named.{row_number_of_tag_or_zero}
@@ -29,10 +27,10 @@ use Rattle.dictionary.proofs.Fit.{fits_length}
 use Rattle.store.specs.Place.{StoredValue, bytes_or_empty_if_absent, is_present, row_value, object_value, put_row}
 use Rattle.store.proofs.Laws.{Fits, put_length, put-get, put_other, by_row}
 use Rattle.store.proofs.Rows.{rows_length, fits_row}
-use Rattle.session_record.specs.declared.Refusal.{Refusal}
 use Rattle.store.specs.Held.{has_object, stored_byte}
 use Rattle.session_record.specs.Ranges.{is_present_if_required_at_start, all_required_at_start_present, all_stored_objects_fit_rows}
-use Rattle.start_data.specs.declared.LoadResult.{LoadResult}
+use Rattle.std.specs.Prelude.{Result, Ok, Err}
+use Rattle.session_record.specs.declared.Refusal.{Refusal}
 use Rattle.start_data.specs.StartData.{is_listed_if_terminal_type, start_may_set_object_in_row, set_object_of_row_found}
 use Rattle.start_data.specs.StartData.{set_start_object, continue_setting, set_start_objects, LoadedStore, refusal}
 use Rattle.start_data.specs.StartData.{loaded, loaded_if_all_required, loaded_after_setting, loaded_from_objects}
@@ -42,13 +40,13 @@ use Rattle.start_data.proofs.Fit.{put_fits}
 
 -- ---- the call's answer, read back
 
-pub was_taken : {r : LoadResult} {b c : List ℕ} (x : LoadedStore) → LoadResultAndStoreMatchLoaded r c b x
-    → r ≡ LoadResult.Loaded → x ≡ loaded c
+pub was_taken : {r : Result Unit Refusal} {b c : List ℕ} (x : LoadedStore) → LoadResultAndStoreMatchLoaded r c b x
+    → r ≡ Ok tt → x ≡ loaded c
 was_taken (refusal n) l e = let d = l.said in cc
 was_taken (loaded d) l e = ap loaded (sym l.store)
 
-pub was_refused : {r : LoadResult} {b c : List ℕ} {q : Refusal} (x : LoadedStore)
-    → LoadResultAndStoreMatchLoaded r c b x → r ≡ LoadResult.Refused q → (x ≡ refusal q.number) × (c ≡ b)
+pub was_refused : {r : Result Unit Refusal} {b c : List ℕ} {q : Refusal} (x : LoadedStore)
+    → LoadResultAndStoreMatchLoaded r c b x → r ≡ Err q → (x ≡ refusal q.number) × (c ≡ b)
 was_refused {r} {b} {c} {q} (refusal n) l e =
     let d = l.said in
     let z : record { number = n } ≡ q = cc in
@@ -60,8 +58,8 @@ was_refused (loaded d) l e = let d = l.said in let z : ◌≡◌ {A = ℕ} 0 1 =
 pub record LoadedBy (b s c : List ℕ) : Type 0 where
   pub short : length s ≤ most_start_bytes
   pub objects : List Object
-  pub is_run : primitive_objects s ≡ some objects
-  pub all_set : set_start_objects b objects ≡ some c
+  pub is_run : primitive_objects s ≡ Some objects
+  pub all_set : set_start_objects b objects ≡ Some c
   pub complete : all_required_at_start_present c ≡ true
 
 never : {A : Type 0} {n : ℕ} {c : List ℕ} → refusal n ≡ loaded c → A
@@ -72,14 +70,14 @@ module _ (b s c : List ℕ) where
   required_by d = if_ind (λ (x : LoadedStore). x ≡ loaded c → (d ≡ c) × (all_required_at_start_present c ≡ true)) _ _ _
       (λ t e. let z : d ≡ c = cc in (z, ap all_required_at_start_present (sym z) ∙ t)) (λ t e. never e)
 
-  set_by : (x : Option (List ℕ)) → loaded_after_setting x ≡ loaded c → (x ≡ some c) × (all_required_at_start_present c ≡ true)
-  set_by none e = never e
-  set_by (some d) e = let w = required_by d e in (ap some w.0, w.1)
+  set_by : (x : Option (List ℕ)) → loaded_after_setting x ≡ loaded c → (x ≡ Some c) × (all_required_at_start_present c ≡ true)
+  set_by None e = never e
+  set_by (Some d) e = let w = required_by d e in (ap Some w.0, w.1)
 
   run_by : length s ≤ most_start_bytes → (x : Option (List Object)) → primitive_objects s ≡ x
       → loaded_from_objects b x ≡ loaded c → LoadedBy b s c
-  run_by l none p e = never e
-  run_by l (some os) p e = let w = set_by (set_start_objects b os) e in
+  run_by l None p e = never e
+  run_by l (Some os) p e = let w = set_by (set_start_objects b os) e in
       record { short = l; objects = os; is_run = p; all_set = w.0; complete = w.1 }
 
   pub load_by : load_start_bytes b s ≡ loaded c → LoadedBy b s c
@@ -102,7 +100,7 @@ pub record Put (b : List ℕ) (k : ℕ) (o : Object) : Type 0 where
   pub free : is_present (row_value dictionary_rows b k) ≡ false
   pub type : is_listed_if_terminal_type o.tag o.value ≡ true
 
-pub put_of : (b : List ℕ) (o : Object) (k : ℕ) → find_row dictionary_rows o.tag ≡ At k
+pub put_of : (b : List ℕ) (o : Object) (k : ℕ) → find_row dictionary_rows o.tag ≡ Some k
     → start_may_set_object_in_row b k o ≡ true → Put b k o
 unfolding start_may_set_object_in_row
 put_of b o k e s =
@@ -132,13 +130,13 @@ module _ (P : List ℕ → Type 0)
   Holds b = (length b ≡ store_size) × P b
 
   abbrev OfSet : Option (List ℕ) → Type 0
-  OfSet none = Unit {0}
-  OfSet (some c) = Holds c
+  OfSet None = Unit {0}
+  OfSet (Some c) = Holds c
 
-  found_holds : (b : List ℕ) (o : Object) → Holds b → (x : RowFound) → find_row dictionary_rows o.tag ≡ x
+  found_holds : (b : List ℕ) (o : Object) → Holds b → (x : Option ℕ) → find_row dictionary_rows o.tag ≡ x
       → OfSet (set_object_of_row_found b o x)
-  found_holds b o h Unknown e = h
-  found_holds b o h (At k) e =
+  found_holds b o h None e = h
+  found_holds b o h (Some k) e =
       if_ind OfSet _ _ _
       (λ s. let p = put_of b o k e s in (
         put_length dictionary_rows b k o.value (put_place b k o h.0 p) ∙ h.0,
@@ -147,8 +145,8 @@ module _ (P : List ℕ → Type 0)
 
   then_holds : (x : Option (List ℕ)) (k : List ℕ → Option (List ℕ)) → ((c : List ℕ) → Holds c → OfSet (k c)) → OfSet x
       → OfSet (continue_setting x k)
-  then_holds none k h i = tt
-  then_holds (some c) k h i = h c i
+  then_holds None k h i = tt
+  then_holds (Some c) k h i = h c i
 
   object_holds : (b : List ℕ) (o : Object) → Holds b → OfSet (set_start_object b o)
   unfolding set_start_object
@@ -160,13 +158,13 @@ module _ (P : List ℕ → Type 0)
   all_holds (o ∷ os) b h = then_holds (set_start_object b o) _ (all_holds os) (object_holds b o h)
 
   -- objects after which every such store refuses the rest
-  then_none : (x : Option (List ℕ)) (k : List ℕ → Option (List ℕ)) → ((c : List ℕ) → Holds c → k c ≡ none) → OfSet x
-      → continue_setting x k ≡ none
-  then_none none k h i = refl
-  then_none (some c) k h i = h c i
+  then_none : (x : Option (List ℕ)) (k : List ℕ → Option (List ℕ)) → ((c : List ℕ) → Holds c → k c ≡ None) → OfSet x
+      → continue_setting x k ≡ None
+  then_none None k h i = refl
+  then_none (Some c) k h i = h c i
 
-  pub none_after : (rest : List Object) → ((c : List ℕ) → Holds c → set_start_objects c rest ≡ none)
-      → (os : List Object) (b : List ℕ) → Holds b → set_start_objects b (os ++ rest) ≡ none
+  pub none_after : (rest : List Object) → ((c : List ℕ) → Holds c → set_start_objects c rest ≡ None)
+      → (os : List Object) (b : List ℕ) → Holds b → set_start_objects b (os ++ rest) ≡ None
   unfolding set_start_objects
   none_after rest n [] b h = n b h
   none_after rest n (o ∷ os) b h = then_none (set_start_object b o) _ (none_after rest n os) (object_holds b o h)
@@ -204,7 +202,7 @@ module _ (b s c : List ℕ) (e : load_start_bytes b s ≡ loaded c) (l : length 
       in let z : ◌≡◌ {A = ℕ} 0 1 = cc in omega arith)
 
   -- the same by tag
-  pub load_untouched_of : (t k : ℕ) → find_row dictionary_rows t ≡ At k → has_bit_of_weight (row_at k).setters set_by_start
+  pub load_untouched_of : (t k : ℕ) → find_row dictionary_rows t ≡ Some k → has_bit_of_weight (row_at k).setters set_by_start
       ≡ false → object_value c t ≡ object_value b t
   load_untouched_of t k f n = by_row dictionary_rows c t k f ∙ load_untouched k n ∙ sym (by_row dictionary_rows b t k f)
 
@@ -220,7 +218,7 @@ module _ (b s c : List ℕ) (e : load_start_bytes b s ≡ loaded c) (l : length 
 abbrev type_row : ℕ
 type_row = row_number_of_tag_or_zero 0x9F35
 
-type_found : find_row dictionary_rows 0x9F35 ≡ At type_row
+type_found : find_row dictionary_rows 0x9F35 ≡ Some type_row
 unfolding row_number_of_tag_or_zero if dictionary_rows row_found_shifted find_row
 type_found = refl
 

@@ -1,17 +1,16 @@
 -- A known tag twice: the first object of the tag is there once it is set, what is there stays there, and a second
 -- one is refused.
 -- Assumes nothing.
+use Rattle.std.specs.Prelude.{Some, Option, None}
 use mathlib.Core.Path.{◌≡◌, refl, sym, ap, subst, ◌∙◌}
 use mathlib.Core.Bool.{true, not}
 use mathlib.Core.Logic.{◌⊎◌, inl, inr}
 use mathlib.Core.List.{List, ◌∷◌, ◌++◌}
-use mathlib.Core.Option.{Option, some, none}
 use Prim.Native.Nat.{ℕ}
 use lib.ListN.{length}
 use Rattle.basics.proofs.Laws.{both_no_left, both_no_right, bool_cases}
 use Rattle.basics.proofs.Order.{equal_or_not}
 use Rattle.tlv.specs.Primitives.{Object}
-use Rattle.dictionary.specs.declared.RowFound.TheVariants.{At}
 use Rattle.dictionary.specs.Rows.{dictionary_rows, find_row, store_size}
 use Rattle.store.specs.Place.{is_present, row_value, put_row}
 use Rattle.store.proofs.Laws.{put_length, put-get, put_other}
@@ -35,19 +34,19 @@ put_there b j o l p k x = elim (equal_or_not k j) [
 ]
 
 -- an object whose row is there is refused
-there_refused : (b : List ℕ) (o : Object) (k : ℕ) → find_row dictionary_rows o.tag ≡ At k → There k b
-    → set_start_object b o ≡ none
+there_refused : (b : List ℕ) (o : Object) (k : ℕ) → find_row dictionary_rows o.tag ≡ Some k → There k b
+    → set_start_object b o ≡ None
 unfolding start_may_set_object_in_row
 there_refused b o k e t =
     set_refused b o (find_row dictionary_rows o.tag) refl k e
     (both_no_right _ _ (both_no_right _ _ (both_no_left _ _ (ap not t))))
 
 -- once an object of a known tag is set, its row is there
-set_there : (b : List ℕ) (o : Object) (k : ℕ) → length b ≡ store_size → find_row dictionary_rows o.tag ≡ At k
+set_there : (b : List ℕ) (o : Object) (k : ℕ) → length b ≡ store_size → find_row dictionary_rows o.tag ≡ Some k
     → (x : Option (List ℕ)) → set_start_object b o ≡ x → (rest : List ℕ → Option (List ℕ))
-    → ((d : List ℕ) → (length d ≡ store_size) × There k d → rest d ≡ none) → continue_setting x rest ≡ none
-set_there b o k l e none q rest h = refl
-set_there b o k l e (some d) q rest h = elim (bool_cases (start_may_set_object_in_row b k o)) [
+    → ((d : List ℕ) → (length d ≡ store_size) × There k d → rest d ≡ None) → continue_setting x rest ≡ None
+set_there b o k l e None q rest h = refl
+set_there b o k l e (Some d) q rest h = elim (bool_cases (start_may_set_object_in_row b k o)) [
   | inl s ↦ (let p = put_of b o k e s in
       let z : put_row dictionary_rows b k o.value ≡ d =
       (let w = set_taken b o (find_row dictionary_rows o.tag) refl k e s in cc) in
@@ -58,16 +57,16 @@ set_there b o k l e (some d) q rest h = elim (bool_cases (start_may_set_object_i
 
 -- two objects of a known tag, whatever is around them, are refused, empty ones too
 pub twice_refused : (b : List ℕ) (xs ys zs : List Object) (o p : Object) (k : ℕ) → length b ≡ store_size
-    → find_row dictionary_rows o.tag ≡ At k → o.tag ≡ p.tag → set_start_objects b (xs ++ (o ∷ (ys ++ (p ∷ zs)))) ≡ none
+    → find_row dictionary_rows o.tag ≡ Some k → o.tag ≡ p.tag → set_start_objects b (xs ++ (o ∷ (ys ++ (p ∷ zs)))) ≡ None
 unfolding set_start_objects
 twice_refused b xs ys zs o p k l e q = none_after (λ d. Unit {0}) (λ d j r m w t. tt) (o ∷ (ys ++ (p ∷ zs))) first xs b
     (l, tt)
   where
-    second : (d : List ℕ) → (length d ≡ store_size) × There k d → set_start_objects d (p ∷ zs) ≡ none
+    second : (d : List ℕ) → (length d ≡ store_size) × There k d → set_start_objects d (p ∷ zs) ≡ None
     second d h = ap (λ (x : Option (List ℕ)). continue_setting x (λ c. set_start_objects c zs))
         (there_refused d p k (ap (find_row dictionary_rows) (sym q) ∙ e) h.1)
 
-    first : (c : List ℕ) → (length c ≡ store_size) × Unit {0} → set_start_objects c (o ∷ (ys ++ (p ∷ zs))) ≡ none
+    first : (c : List ℕ) → (length c ≡ store_size) × Unit {0} → set_start_objects c (o ∷ (ys ++ (p ∷ zs))) ≡ None
     first c h =
         set_there c o k h.0 e (set_start_object c o) refl (λ d. set_start_objects d (ys ++ (p ∷ zs)))
         (none_after (There k) (λ d j r m w t. put_there d j r m w k (inl t)) (p ∷ zs) second ys)

@@ -1,1 +1,2 @@
 pub mod StartData
+pub mod Inner

@@ -1,19 +1,18 @@
 -- Start bytes (document 01, refusals 20, 23 and 24; "Dictionary"): whole primitive objects that the terminal brings.
 -- Assumes nothing.
-use Rattle.std.specs.Prelude.{◌≡◌, Bool, true, false, not, List, [], ◌∷◌, length, get_or}
-use Rattle.std.proofs.Math.Option.{Option, some, none}
+use Rattle.std.specs.Prelude.{◌≡◌, Bool, true, false, not, List, [], ◌∷◌, length, get_or, Option, Some, None}
 use Rattle.basics.specs.Choice.{when◌then◌else◌, ◌and◌, ◌≤?◌, ◌=?◌}
 use Rattle.basics.specs.Number.{has_bit_of_weight}
 use Rattle.basics.specs.Types.{StoreBytes, StartBytes, Value, Tag, RowNumber, Length, RefusalNumber}
 use Rattle.tlv.specs.Primitives.{Object, primitive_objects}
-use Rattle.dictionary.specs.declared.RowFound.{RowFound}
 use Rattle.dictionary.specs.Rows.{dictionary_rows, row_at, find_row, set_by_start}
 use Rattle.dictionary.specs.Form.{length_and_digits_fit_row}
 use Rattle.dictionary.specs.TerminalType.{listed_terminal_type}
 use Rattle.store.specs.Place.{is_present, row_value, put_row}
 use Rattle.session_record.specs.Ranges.{all_required_at_start_present}
 use Rattle.basics.specs.Reason.{refusal_bad_start_bytes, refusal_bad_start_object, refusal_required_object_absent}
-use Rattle.start_data.specs.declared.LoadResult.{LoadResult}
+use Rattle.std.specs.Prelude.{Result, Ok, Err}
+use Rattle.session_record.specs.declared.Refusal.{Refusal}
 
 -- ---- taking the objects
 
@@ -32,11 +31,11 @@ start_may_set_object_in_row b k o =
     and is_listed_if_terminal_type o.tag o.value
 
 -- by its row in the table; an unknown one is skipped
-abbrev pub set_object_of_row_found : StoreBytes → Object → RowFound → Option StoreBytes
-set_object_of_row_found b o RowFound.Unknown = some b
-set_object_of_row_found b o (RowFound.At k) =
-    when start_may_set_object_in_row b k o then some (put_row dictionary_rows b k o.value)
-    else none
+abbrev pub set_object_of_row_found : StoreBytes → Object → Option RowNumber → Option StoreBytes
+set_object_of_row_found b o None = Some b
+set_object_of_row_found b o (Some k) =
+    when start_may_set_object_in_row b k o then Some (put_row dictionary_rows b k o.value)
+    else None
 
 -- one object: unknown ones are skipped
 unfoldable pub set_start_object : StoreBytes → Object → Option StoreBytes
@@ -44,23 +43,23 @@ set_start_object b o = set_object_of_row_found b o (find_row dictionary_rows o.t
 
 -- one after the other, none where one may not be set
 abbrev pub continue_setting : Option StoreBytes → (StoreBytes → Option StoreBytes) → Option StoreBytes
-continue_setting none k = none
-continue_setting (some b) k = k b
+continue_setting None k = None
+continue_setting (Some b) k = k b
 
 -- one object after the other, none where one may not be set
 unfoldable pub set_start_objects : StoreBytes → List Object → Option StoreBytes
-set_start_objects b [] = some b
+set_start_objects b [] = Some b
 set_start_objects b (o ∷ os) = continue_setting (set_start_object b o) (λ c. set_start_objects c os)
 
 -- the objects of a run; none where there is no run
 unfoldable pub set_parsed_start_objects : StoreBytes → Option (List Object) → Option StoreBytes
-set_parsed_start_objects b none = none
-set_parsed_start_objects b (some os) = set_start_objects b os
+set_parsed_start_objects b None = None
+set_parsed_start_objects b (Some os) = set_start_objects b os
 
 -- what is reported and left of a store: all were set; or one may not be set, and the store is given up
 abbrev pub ReportsWhetherObjectsSet : Bool → StoreBytes → Option StoreBytes → Type 0
-ReportsWhetherObjectsSet r c none = r ≡ false
-ReportsWhetherObjectsSet r c (some d) = (r ≡ true) × (c ≡ d)
+ReportsWhetherObjectsSet r c None = r ≡ false
+ReportsWhetherObjectsSet r c (Some d) = (r ≡ true) × (c ≡ d)
 
 -- ---- what a start loads: a store, or a refusal by its number
 
@@ -77,13 +76,13 @@ loaded_if_all_required b =
 
 -- an object that may not be set is 23; else what a start must bring is checked
 abbrev pub loaded_after_setting : Option StoreBytes → LoadedStore
-loaded_after_setting none = refusal refusal_bad_start_object
-loaded_after_setting (some b) = loaded_if_all_required b
+loaded_after_setting None = refusal refusal_bad_start_object
+loaded_after_setting (Some b) = loaded_if_all_required b
 
 -- bytes that are no run of primitive objects are 20; else the objects are set
 abbrev pub loaded_from_objects : StoreBytes → Option (List Object) → LoadedStore
-loaded_from_objects b none = refusal refusal_bad_start_bytes
-loaded_from_objects b (some os) = loaded_after_setting (set_start_objects b os)
+loaded_from_objects b None = refusal refusal_bad_start_bytes
+loaded_from_objects b (Some os) = loaded_after_setting (set_start_objects b os)
 
 -- the most start bytes
 abbrev pub most_start_bytes : Length
@@ -98,9 +97,9 @@ load_start_bytes b s =
 -- ---- what the call returns
 
 -- by its number, or taken
-abbrev pub load_result_of : LoadedStore → LoadResult
-load_result_of (refusal n) = LoadResult.Refused (record { number = n })
-load_result_of (loaded c) = LoadResult.Loaded
+abbrev pub load_result_of : LoadedStore → (Result Unit Refusal)
+load_result_of (refusal n) = Err (record { number = n })
+load_result_of (loaded c) = (Ok tt)
 
 -- a refusal leaves the store b as it came
 abbrev pub store_after_load : StoreBytes → LoadedStore → StoreBytes
@@ -108,7 +107,7 @@ store_after_load b (refusal n) = b
 store_after_load b (loaded c) = c
 
 -- what is reported, and the store c that is left of b
-pub record LoadResultAndStoreMatchLoaded (result : LoadResult) (store_after store_before : StoreBytes)
+pub record LoadResultAndStoreMatchLoaded (result : (Result Unit Refusal)) (store_after store_before : StoreBytes)
     (expected : LoadedStore) : Type 0 where
   pub said : result ≡ load_result_of expected
   pub store : store_after ≡ store_after_load store_before expected

@@ -5,116 +5,96 @@
 // clears it again.
 #![tactic(auto)]
 
-ghost use Rattle.std.specs.Prelude.{◌≡◌, ◌<◌, length, replicate};
-ghost use Rattle.dictionary.specs.Rows.{dictionary_rows, row_count, store_size};
-ghost use Rattle.dictionary.specs.Tables.{AreDictionaryTables, packed_attributes_of_rows};
-ghost use Rattle.tlv.specs.Primitives.{tlv_object, primitive_objects};
-ghost use Rattle.start_data.specs.StartData.{is_listed_if_terminal_type, start_may_set_object_in_row, set_start_object, set_parsed_start_objects, ReportsWhetherObjectsSet, load_start_bytes as load_of, LoadResultAndStoreMatchLoaded};
+ghost use Rattle.std.specs.Prelude.{◌≡◌, ◌<◌, true, replicate};
+ghost use Rattle.dictionary.specs.Rows.{row_count, store_size};
+ghost use Rattle.tlv.specs.Primitives.{tlv_object, primitive_objects, are_primitive_objects_parsed};
+ghost use Rattle.start_data.specs.StartData.{is_listed_if_terminal_type, start_may_set_object_in_row, set_start_object, set_parsed_start_objects, loaded_after_setting, load_start_bytes as load_of, LoadResultAndStoreMatchLoaded};
+ghost use Rattle.start_data.specs.Inner.{ReportsSetOrRefused, ReportsLoaded};
 
-use dictionary::{ROWS, RowFound};
+use dictionary::{DictionaryTables, SIZE};
 use session_record::Refusal;
-use tlv::ObjectFront;
-
-// What a loading reports of the start bytes.
-#[derive(Clone, Copy)]
-pub enum LoadResult {
-    Loaded,
-    Refused(Refusal),
-}
+use tlv::PrimitiveObjects;
 
 // The most start bytes.
 const MOST: usize = 1024;
 
+// The refusal of an object that may not be set.
+const BAD_OBJECT: Refusal = Refusal {
+    number: basics::REFUSED_OBJECT,
+};
+
 // The start bytes into an empty store.
-pub fn load(store: &mut [u8], terminal: &[u8]) -> LoadResult
+pub fn load(store: &mut [u8; SIZE], terminal: &[u8]) -> Result<(), Refusal>
     requires { store.old ≡ replicate store_size 0 }
-    ensures given { LoadResultAndStoreMatchLoaded result store.new store.old (load_of store.old terminal.now) }
-    ensures sized { length store.new ≡ store_size }
+    ensures { LoadResultAndStoreMatchLoaded result store.new store.old (load_of store.old terminal.now) }
 {
-    if MOST < terminal.len() {
-        return refused(basics::REFUSED_BYTES);
+    if MOST < terminal.len() || !tlv::is_primitive_list(terminal) {
+        return Err(Refusal {
+            number: basics::REFUSED_BYTES,
+        });
     }
-    if !tlv::is_primitive_list(terminal) {
-        return refused(basics::REFUSED_BYTES);
+    let result = set_all(terminal, store);
+    if result.is_err() {
+        store::clear(store);
     }
-    let tags = dictionary::dictionary_tags();
-    let codes = dictionary::packed_row_attributes();
-    if !set_objects(terminal, store, &tags, &codes) {
-        return cleared(store, basics::REFUSED_OBJECT);
-    }
-    if !session_record::all_required_at_start_present(&store[..]) {
-        return cleared(store, basics::REFUSED_ABSENT);
-    }
-    LoadResult::Loaded
+    result
 }
 
-// A refusal by its number, once objects were set: the store is cleared of them.
-fn cleared(store: &mut [u8], number: u8) -> LoadResult
-    ensures said { result ≡ LoadResult.Refused (record { number = number }) }
-    ensures empty { store.new ≡ replicate (length store.old) 0 }
+// Sets the objects of a run, and sees that all that a start must bring is present.
+fn set_all(terminal: &[u8], store: &mut [u8; SIZE]) -> Result<(), Refusal>
+    requires { are_primitive_objects_parsed (primitive_objects terminal.now) ≡ true }
+    ensures { ReportsLoaded result store.new (loaded_after_setting (set_parsed_start_objects store.old (primitive_objects terminal.now))) }
 {
-    store::clear(store);
-    refused(number)
-}
-
-// A refusal by its number.
-fn refused(number: u8) -> LoadResult
-    ensures { result ≡ LoadResult.Refused (record { number = number }) }
-{
-    LoadResult::Refused(Refusal { number })
-}
-
-// Sets the objects of a run one after the other: whether each of them may be set.
-fn set_objects(terminal: &[u8], store: &mut [u8], tags: &[u32; ROWS], codes: &[u32; ROWS]) -> bool
-    requires store_len { length store.old ≡ store_size }
-    requires are_dictionary_tables { AreDictionaryTables tags.now codes.now }
-    ensures set { ReportsWhetherObjectsSet result store.new (set_parsed_start_objects store.old (primitive_objects terminal.now)) }
-    ensures sized { length store.new ≡ store_size }
-{
-    let mut s = terminal;
-    while s.len() != 0 {
-        let front = tlv::primitive_at_front(s);
-        let ObjectFront::Object(h) = front else {
-            return false;
-        };
-        let start = h.start;
-        let e = start + h.len;
-        let value = &s[start..e];
-        let rest = &s[e..];
-        if !set_object(h.tag, value, store, tags, codes) {
-            return false;
-        }
-        s = rest;
+    set_objects(terminal, store, &DictionaryTables::new())?;
+    if !session_record::all_required_at_start_present(store) {
+        return Err(Refusal {
+            number: basics::REFUSED_ABSENT,
+        });
     }
-    true
+    Ok(())
 }
 
-// One object: skipped if unknown, set if it may be, else not.
-fn set_object(tag: u32, v: &[u8], store: &mut [u8], tags: &[u32; ROWS], codes: &[u32; ROWS]) -> bool
-    requires store_len { length store.old ≡ store_size }
-    requires are_dictionary_tables { AreDictionaryTables tags.now codes.now }
-    ensures set { ReportsWhetherObjectsSet result store.new (set_start_object store.old (tlv_object tag v.now)) }
-    ensures sized { length store.new ≡ store_size }
+// Sets the objects of a run one after the other, or refuses the first that may not be set.
+fn set_objects(
+    terminal: &[u8],
+    store: &mut [u8; SIZE],
+    tables: &DictionaryTables,
+) -> Result<(), Refusal>
+    requires { are_primitive_objects_parsed (primitive_objects terminal.now) ≡ true }
+    ensures { ReportsSetOrRefused result store.new (set_parsed_start_objects store.old (primitive_objects terminal.now)) }
 {
-    let found = dictionary::search_tags(tags, tag).found;
-    let RowFound::At(row) = found else {
-        return true;
+    for object in PrimitiveObjects(terminal) {
+        set_object(object.tag, object.value, store, tables)?;
+    }
+    Ok(())
+}
+
+// One object: skipped if unknown, set if it may be, else refused.
+fn set_object(
+    tag: u32,
+    v: &[u8],
+    store: &mut [u8; SIZE],
+    tables: &DictionaryTables,
+) -> Result<(), Refusal>
+    ensures { ReportsSetOrRefused result store.new (set_start_object store.old (tlv_object tag v.now)) }
+{
+    let Some(row) = tables.find_row(tag).found else {
+        return Ok(());
     };
-    let all = &store[..];
-    if !is_settable(all, row, tag, v, codes) {
-        return false;
+    if !is_settable(store, row, tag, v, tables) {
+        return Err(BAD_OBJECT);
     }
     store::put(store, row, v);
-    true
+    Ok(())
 }
 
 // Whether a start may set a row's object, with this value.
-fn is_settable(bytes: &[u8], row: usize, tag: u32, v: &[u8], codes: &[u32; ROWS]) -> bool
-    requires { (row < row_count) × (codes.now ≡ packed_attributes_of_rows dictionary_rows) }
+fn is_settable(bytes: &[u8], row: usize, tag: u32, v: &[u8], tables: &DictionaryTables) -> bool
+    requires { row < row_count }
     ensures { result ≡ start_may_set_object_in_row bytes.now row (tlv_object tag v.now) }
 {
-    let attributes = dictionary::unpack_row_attributes(codes[row]);
-    if attributes.setters / dictionary::START % 2 != 1 {
+    let attributes = tables.attributes_of(row);
+    if !attributes.may_be_set_by(dictionary::START) {
         return false;
     }
     if !dictionary::length_and_digits_fit_row(attributes, v) {
@@ -130,8 +110,5 @@ fn is_settable(bytes: &[u8], row: usize, tag: u32, v: &[u8], codes: &[u32; ROWS]
 fn is_type_listed(tag: u32, v: &[u8]) -> bool
     ensures { result ≡ is_listed_if_terminal_type tag v.now }
 {
-    if tag != 0x9F35 {
-        return true;
-    }
-    dictionary::is_listed_terminal_type(basics::byte_at(v, 0))
+    tag != 0x9F35 || dictionary::is_listed_terminal_type(basics::byte_at(v, 0))
 }

@@ -1,6 +1,7 @@
 -- What the reading of an answer, the TVR and the CVM Results leave of what the ranges speak of: each put is one that
 -- its row allows.
 -- Assumes nothing.
+use Rattle.std.specs.Prelude.{Some}
 use mathlib.Core.Path.{◌≡◌, refl, sym, ap, ap₂, subst, ◌∙◌}
 use mathlib.Core.Bool.{true, false, not}
 use mathlib.Core.List.{List, ◌∷◌}
@@ -13,7 +14,6 @@ use Rattle.basics.specs.Number.{has_bit_of_weight}
 use Rattle.basics.proofs.Laws.{if_no, both_yes}
 use Rattle.dictionary.specs.Named.{row_aip, row_afl, row_tvr, row_cvm_results, row_track2_data, row_kernel_configuration}
 use Rattle.dictionary.specs.Named.{row_limit_no_on_device_cvm, row_limit_on_device_cvm}
-use Rattle.dictionary.specs.declared.RowFound.TheVariants.{At}
 use Rattle.dictionary.specs.Rows.{dictionary_rows, row_at, row_count, store_size, find_row, set_by_card}
 use Rattle.dictionary.specs.Form.{digits_match_form, length_and_digits_fit_row}
 use Rattle.dictionary.proofs.Fit.{fits_length}
@@ -90,7 +90,7 @@ pub read_size : (a : Awaited) (b s : List ℕ) → length b ≡ store_size → l
 read_size a b s l = (read_grows a b s l).size ∙ l
 
 -- a tag whose value has bytes keeps it
-pub read_value : (a : Awaited) (b s : List ℕ) → length b ≡ store_size → (t k : ℕ) → find_row dictionary_rows t ≡ At k
+pub read_value : (a : Awaited) (b s : List ℕ) → length b ≡ store_size → (t k : ℕ) → find_row dictionary_rows t ≡ Some k
     → (length (stored_bytes b t) ≡ 0 → ⊥)
     → object_value (read_answer a b s).store t ≡ object_value b t
 read_value a b s l t k e n =
@@ -116,7 +116,7 @@ pub read_afl : (a : Awaited) (b s : List ℕ) → length b ≡ store_size → ac
 read_afl a b s l m = read_value a b s l 0x94 row_afl at_94 (λ z. omega (arith, (accepted_length (stored_afl b) m).1))
 
 -- what no card sets stays, and so does the transaction limit past GPO
-pub read_start : (a : Awaited) (b s : List ℕ) → length b ≡ store_size → (t j : ℕ) → find_row dictionary_rows t ≡ At j
+pub read_start : (a : Awaited) (b s : List ℕ) → length b ≡ store_size → (t j : ℕ) → find_row dictionary_rows t ≡ Some j
     → has_bit_of_weight (row_at j).setters set_by_card ≡ false
     → object_value (read_answer a b s).store t ≡ object_value b t
 read_start a b s l t j e n = (read_holds P a step b s (l, refl)).1
@@ -188,7 +188,7 @@ module _ (b v : List ℕ) (l : length b ≡ store_size) (n : length v ≡ 5) whe
   bits_here = ap (λ (d : List ℕ). object_value d 0x95) put ∙ put_here b row_tvr v l here room 0x95 at_95
 
   -- every other tag keeps its value, and what is there stays there
-  pub bits_other : (t j : ℕ) → find_row dictionary_rows t ≡ At j → (j ≡ row_tvr → ⊥) → object_value (store_with_tvr b v) t
+  pub bits_other : (t j : ℕ) → find_row dictionary_rows t ≡ Some j → (j ≡ row_tvr → ⊥) → object_value (store_with_tvr b v) t
       ≡ object_value b t
   bits_other t j e ne = ap (λ (d : List ℕ). object_value d t) put ∙ put_named b row_tvr v l here room t j e ne
 
@@ -246,7 +246,7 @@ module _ (b : List ℕ) (f : AnalysisFindings) (l : length b ≡ store_size) (n 
   found_95 = ap (λ (e : List ℕ). object_value e 0x95) found ∙ bits_here _ f.bits put_sized m
 
   -- every other tag keeps its value
-  pub found_other : (t j : ℕ) → find_row dictionary_rows t ≡ At j → (j ≡ row_tvr → ⊥) → (j ≡ row_cvm_results → ⊥)
+  pub found_other : (t j : ℕ) → find_row dictionary_rows t ≡ Some j → (j ≡ row_tvr → ⊥) → (j ≡ row_cvm_results → ⊥)
       → object_value (store_with_findings b f) t ≡ object_value b t
   found_other t j e ne nf =
       ap (λ (x : List ℕ). object_value x t) found ∙ bits_other _ f.bits put_sized m t j e ne
@@ -301,7 +301,7 @@ module _ (b : List ℕ) (l : length b ≡ store_size) (f : AllObjectsFit b) wher
       (fits_kept b row_track2_data digits l in_track (track_fitting digits digits_short) f)
 
   -- every other tag keeps its value
-  pub digits_other : (t j : ℕ) → find_row dictionary_rows t ≡ At j → (j ≡ row_track2_data → ⊥)
+  pub digits_other : (t j : ℕ) → find_row dictionary_rows t ≡ Some j → (j ≡ row_track2_data → ⊥)
       → object_value (store_with_track_digits b) t ≡ object_value b t
   digits_other t j e ne = ap (λ (d : List ℕ). object_value d t) digits_put ∙ put_named b row_track2_data digits l in_track
       digits_room t j e ne

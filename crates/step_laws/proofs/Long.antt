@@ -1,6 +1,8 @@
 -- Every answer over 258 bytes gives the same step, and so does every start with over 1,024 bytes: what is read of them
 -- is the same.
 -- Assumes nothing.
+use Rattle.std.specs.Prelude.{Option, Some, None}
+use Rattle.afl.specs.declared.CardRecord.{CardRecord}
 use mathlib.Core.Path.{◌≡◌, refl, sym, ap, ◌∙◌}
 use mathlib.Core.List.{List}
 use Prim.Native.Nat.{ℕ, ◌<◌}
@@ -9,7 +11,6 @@ use lib.ListN.{length}
 use borrow.Author.Tests.{lt-leb}
 use Rattle.basics.specs.Choice.{if}
 use Rattle.basics.proofs.Laws.{if_no, both_no_right}
-use Rattle.afl.specs.declared.RecordFound.{RecordFound}
 use Rattle.afl.specs.Records.{kth_record_of_accepted_afl}
 use Rattle.reading.specs.declared.Awaited.{Awaited}
 use Rattle.reading.specs.Answer as reading
@@ -55,10 +56,10 @@ module _ (s : Session) (x y buf : List ℕ) (h : 258 < length x) (k : 258 < leng
       (end (ending_for_reason o.reason) m (store_bytes s)))
       (long_read a (store_bytes s) x h ∙ sym (long_read a (store_bytes s) y k))
 
-  long_found : (p : AwaitedRecord) (f : RecordFound) → next_on_response_for_record_found p (store_bytes s) x f
+  long_found : (p : AwaitedRecord) (f : Option CardRecord) → next_on_response_for_record_found p (store_bytes s) x f
       ≡ next_on_response_for_record_found p (store_bytes s) y f
-  long_found p RecordFound.Nothing = refl
-  long_found p (RecordFound.At r) = same_read (Awaited.Record (record { number = r.sfi })) cvm_number_not_applicable
+  long_found p None = refl
+  long_found p (Some r) = same_read (Awaited.Record (record { number = r.sfi })) cvm_number_not_applicable
       (next_after_record_read p)
 
   long_awaited : (w : AwaitedResponse) → next_on_response (store_bytes s) x w ≡ next_on_response (store_bytes s) y w

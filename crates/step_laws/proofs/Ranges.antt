@@ -1,6 +1,7 @@
 -- A call on a record that is in its ranges returns a record that is in its ranges: way by way, by what each leaves of
 -- the clauses.
 -- Assumes nothing.
+use Rattle.std.specs.Prelude.{Some, None}
 use mathlib.Core.Path.{◌≡◌, refl, sym, ap, subst, ◌∙◌}
 use mathlib.Core.Bool.{true, false}
 use mathlib.Core.List.{List}
@@ -13,13 +14,11 @@ use Rattle.basics.specs.Number.{has_bit_of_weight}
 use Rattle.basics.proofs.Laws.{both_left, both_right, either_false}
 use Rattle.dictionary.specs.Named.{row_pan, row_expiration_date, row_aip, row_cdol1, row_afl, row_tvr, row_cvm_results, row_iad}
 use Rattle.dictionary.specs.Named.{row_ac, row_cid, row_terminal_type, row_atc, row_cvc3_track2}
-use Rattle.dictionary.specs.declared.RowFound.TheVariants.{At}
 use Rattle.dictionary.specs.Rows.{dictionary_rows, row_at, store_size, find_row, set_by_start}
 use Rattle.dictionary.specs.TerminalType.{listed_terminal_type}
 use Rattle.dictionary.proofs.Named.{at_5a, at_82, at_8c, at_94, at_5f24, at_9f10, at_9f26, at_9f27, at_9f35, at_9f36}
 use Rattle.dictionary.proofs.Named.{at_9f61}
 use Rattle.store.specs.Place.{StoredValue, absent, bytes_or_empty_if_absent, is_present, object_value}
-use Rattle.afl.specs.declared.RecordFound.{RecordFound}
 use Rattle.afl.specs.Records.{accepts_afl, afl_record_count, kth_record_of_accepted_afl}
 use Rattle.afl.proofs.Laws.{accepted_total, record_inside, record_there}
 use Rattle.reading.specs.declared.Awaited.{Awaited}
@@ -142,7 +141,7 @@ module _ (s : Session) (i : session_record_in_ranges s ≡ true) (p : AwaitedRec
   inside = subst (λ (v : List ℕ). p.number ≤ afl_record_count v) (sym same) record_on.last
 
   -- where the AFL names no record after this one, it was the last
-  at_last : kth_record_of_accepted_afl (stored_afl (store_bytes t)) (p.number + 1) ≡ RecordFound.Nothing
+  at_last : kth_record_of_accepted_afl (stored_afl (store_bytes t)) (p.number + 1) ≡ None
       → p.number ≡ stored_afl_record_count (store_bytes t)
   at_last e = omega (arith, inside, past)
     where
@@ -212,7 +211,7 @@ module _ (s : Session) (i : session_record_in_ranges s ≡ true) (p : AwaitedRec
       kept : stored_afl (store_with_findings b f) ≡ stored_afl b
       kept = ap bytes_or_empty_if_absent (found_other b f l n m 0x94 row_afl at_94 (λ z. omega arith) (λ z. omega arith))
 
-      filled : (u j : ℕ) → find_row dictionary_rows u ≡ At j → (j ≡ row_tvr → ⊥) → (j ≡ row_cvm_results → ⊥)
+      filled : (u j : ℕ) → find_row dictionary_rows u ≡ Some j → (j ≡ row_tvr → ⊥) → (j ≡ row_cvm_results → ⊥)
           → 0 < length (stored_bytes b u) → 0 < length (stored_bytes (store_with_findings b f) u)
       filled u j e ne nf k = subst (λ (x : StoredValue). 0 < length (bytes_or_empty_if_absent x))
           (sym (found_other b f l n m u j e ne nf)) k
@@ -340,7 +339,7 @@ module _ (s : Session) (i : session_record_in_ranges s ≡ true) (q : s.phase �
   fits : AllObjectsFit b
   fits = all_fits b (load_fits (store_bytes s) bytes b e (store_size_lem s i) (fits_all (store_bytes s) (store_fits s i)))
 
-  lacking : (t k : ℕ) → find_row dictionary_rows t ≡ At k → has_bit_of_weight (row_at k).setters set_by_start ≡ false
+  lacking : (t k : ℕ) → find_row dictionary_rows t ≡ Some k → has_bit_of_weight (row_at k).setters set_by_start ≡ false
       → (k ≡ row_tvr → ⊥) → object_value (store_with_tvr b zero_tvr) t ≡ absent
   lacking t k f n ne = bits_other b zero_tvr size refl t k f ne ∙ load_untouched_of (store_bytes s) bytes b e
       (store_size_lem s i) t k f n ∙ none_yet t

@@ -1,17 +1,16 @@
 -- The ways out of each call's step, with what is known on each: a call's step is one of them, and every law on steps
 -- goes by these cases.
 -- Assumes nothing.
+use Rattle.std.specs.Prelude.{Some, None, Option}
 use mathlib.Core.Path.{◌≡◌, refl, sym, ap}
 use mathlib.Core.Bool.{true, false}
 use mathlib.Core.List.{List}
-use mathlib.Core.Option.{Option, some, none}
 use Prim.Native.Nat.{ℕ, ◌+◌, ◌/◌, ◌≤◌}
 use native.Mathlib.Omega.{arith}
 use lib.ListN.{length}
 use borrow.Author.Tests.{eqb-true, eqb-false, ltb-false, not-false}
 use Rattle.basics.proofs.Laws.{if_ind}
 use Rattle.afl.specs.declared.CardRecord.{CardRecord}
-use Rattle.afl.specs.declared.RecordFound.{RecordFound}
 use Rattle.afl.specs.Records.{accepts_afl, kth_record_of_accepted_afl}
 use Rattle.command.specs.ReadRecord.{read_record_command}
 use Rattle.reading.specs.declared.Awaited.{Awaited}
@@ -147,7 +146,7 @@ stored_none b =
 pub data GpoWay (t : Session) (buf : List ℕ) : Step → Type 0 where
   failed : (n : ℕ) → Reason n → GpoWay t buf (failed_step cvm_number_not_applicable t.count (store_bytes t) n buf)
   first : (r : CardRecord) → emv_or_mag_stripe_mode (store_bytes t) ≡ true → accepts_afl (stored_afl (store_bytes t)) ≡ true
-      → kth_record_of_accepted_afl (stored_afl (store_bytes t)) 1 ≡ RecordFound.At r
+      → kth_record_of_accepted_afl (stored_afl (store_bytes t)) 1 ≡ Some r
       → GpoWay t buf (command_step t.count (store_bytes t) (awaited_record_with_limit (transaction_limit (store_bytes t)) 1)
       (read_record_command r) buf)
 
@@ -162,12 +161,12 @@ gpo_way t buf =
     P : NextAction → Type 0
     P x = GpoWay t buf (step_of_next t.count buf x)
 
-    go : emv_or_mag_stripe_mode (store_bytes t) ≡ true → accepts_afl (stored_afl (store_bytes t)) ≡ true → (x : RecordFound)
+    go : emv_or_mag_stripe_mode (store_bytes t) ≡ true → accepts_afl (stored_afl (store_bytes t)) ≡ true → (x : Option CardRecord)
         → kth_record_of_accepted_afl (stored_afl (store_bytes t)) 1 ≡ x
         → P (request_kth_record_if_found (transaction_limit (store_bytes t)) 1 (store_bytes t)
         (end (ending_for_reason reason_afl_invalid) cvm_number_not_applicable (store_bytes t)) x)
-    go m a RecordFound.Nothing e = failed reason_afl_invalid (reason 5 (omega arith) (omega arith))
-    go m a (RecordFound.At r) e = first r m a e
+    go m a None e = failed reason_afl_invalid (reason 5 (omega arith) (omega arith))
+    go m a (Some r) e = first r m a e
 
 -- ---- after the last record in EMV mode
 
@@ -184,7 +183,7 @@ pub data RecordsWay (l : ℕ) (t : Session) (buf : List ℕ) : Step → Type 0 w
   unlisted : RecordsWay l t buf (failed_step (cvm_number (asked_by l t).cvm) t.count (store_bytes (analysed_session t))
       reason_dol_broken_or_bad_length buf)
   asked : (c : List ℕ) → expiry_pan_and_cdol1_non_empty (store_bytes t) ≡ true
-      → generate_ac (generate_ac_p1 (asked_by l t).choice) (store_bytes (analysed_session t)) ≡ some c
+      → generate_ac (generate_ac_p1 (asked_by l t).choice) (store_bytes (analysed_session t)) ≡ Some c
       → RecordsWay l t buf (command_step t.count (store_bytes (analysed_session t))
       (AwaitedResponse.Cryptogram (asked_by l t)) c buf)
 
@@ -202,15 +201,15 @@ records_way l t buf =
     go : expiry_pan_and_cdol1_non_empty (store_bytes t) ≡ true → (x : Option (List ℕ))
         → generate_ac (generate_ac_p1 (asked_by l t).choice) (store_bytes (analysed_session t)) ≡ x
         → P (request_command_or_end_for_dol (AwaitedResponse.Cryptogram (asked_by l t)) (store_bytes (analysed_session t)) x)
-    go f none e = unlisted
-    go f (some c) e = asked c f e
+    go f None e = unlisted
+    go f (Some c) e = asked c f e
 
 -- ---- after the last record in mag-stripe mode
 
 pub data MagStripeWay (l : ℕ) (t : Session) (buf : List ℕ) : Step → Type 0 where
   failed : (n : ℕ) → Reason n → MagStripeWay l t buf (failed_step cvm_number_not_applicable t.count (store_bytes t) n buf)
   asked : (c : List ℕ) → track2_and_bitmaps_non_empty (store_bytes t) ≡ true → compute_cryptographic_checksum (store_bytes t)
-      ≡ some c
+      ≡ Some c
       → MagStripeWay l t buf (command_step t.count (store_bytes t) (awaited_checksum_with_limit l) c buf)
 
 mag_stripe_way : (l : ℕ) (t : Session) (buf : List ℕ)
@@ -227,19 +226,19 @@ mag_stripe_way l t buf =
     go : track2_and_bitmaps_non_empty (store_bytes t) ≡ true → (x : Option (List ℕ))
         → compute_cryptographic_checksum (store_bytes t) ≡ x
         → P (request_command_or_end_for_dol (awaited_checksum_with_limit l) (store_bytes t) x)
-    go f none e = failed reason_dol_broken_or_bad_length (reason 7 (omega arith) (omega arith))
-    go f (some c) e = asked c f e
+    go f None e = failed reason_dol_broken_or_bad_length (reason 7 (omega arith) (omega arith))
+    go f (Some c) e = asked c f e
 
 -- ---- after a record
 
 pub data RecordWay (p : AwaitedRecord) (t : Session) (buf : List ℕ) : Step → Type 0 where
-  next : (r : CardRecord) → kth_record_of_accepted_afl (stored_afl (store_bytes t)) (p.number + 1) ≡ RecordFound.At r
+  next : (r : CardRecord) → kth_record_of_accepted_afl (stored_afl (store_bytes t)) (p.number + 1) ≡ Some r
       → RecordWay p t buf (command_step t.count (store_bytes t) (awaited_record_with_limit p.limit (p.number + 1))
       (read_record_command r) buf)
-  last : {st : Step} → kth_record_of_accepted_afl (stored_afl (store_bytes t)) (p.number + 1) ≡ RecordFound.Nothing
+  last : {st : Step} → kth_record_of_accepted_afl (stored_afl (store_bytes t)) (p.number + 1) ≡ None
       → emv_mode (store_bytes t) ≡ true → RecordsWay p.limit t buf st
       → RecordWay p t buf st
-  striped : {st : Step} → kth_record_of_accepted_afl (stored_afl (store_bytes t)) (p.number + 1) ≡ RecordFound.Nothing
+  striped : {st : Step} → kth_record_of_accepted_afl (stored_afl (store_bytes t)) (p.number + 1) ≡ None
       → emv_mode (store_bytes t) ≡ false → MagStripeWay p.limit t buf st
       → RecordWay p t buf st
 
@@ -248,13 +247,13 @@ pub record_way : (p : AwaitedRecord) (t : Session) (buf : List ℕ)
 unfolding next_after_record_read next_after_last_record
 record_way p t buf = go (kth_record_of_accepted_afl (stored_afl (store_bytes t)) (p.number + 1)) refl
   where
-    go : (x : RecordFound) → kth_record_of_accepted_afl (stored_afl (store_bytes t)) (p.number + 1) ≡ x
+    go : (x : Option CardRecord) → kth_record_of_accepted_afl (stored_afl (store_bytes t)) (p.number + 1) ≡ x
         → RecordWay p t buf
         (step_of_next t.count buf (request_kth_record_if_found p.limit (p.number + 1) (store_bytes t)
         (next_after_last_record p.limit (store_bytes t)) x))
-    go RecordFound.Nothing e = if_ind (λ (x : NextAction). RecordWay p t buf (step_of_next t.count buf x)) _ _ _
+    go None e = if_ind (λ (x : NextAction). RecordWay p t buf (step_of_next t.count buf x)) _ _ _
         (λ m. last e m (records_way p.limit t buf)) (λ m. striped e m (mag_stripe_way p.limit t buf))
-    go (RecordFound.At r) e = next r e
+    go (Some r) e = next r e
 
 -- ---- after the cryptogram
 
@@ -265,8 +264,8 @@ pub data CryptogramWay (m : ℕ) (t : Session) : Reply → Type 0 where
 
 -- a decision has no reason
 abbrev Fine : Option Outcome → Type 0
-Fine none = Unit {0}
-Fine (some o) = reason_matches_outcome o reason_none ≡ true
+Fine None = Unit {0}
+Fine (Some o) = reason_matches_outcome o reason_none ≡ true
 
 fine_online : (c : Choice) → Fine (outcome_for_arqc c)
 fine_online Choice.Decline = tt
@@ -299,8 +298,8 @@ cryptogram_way a t =
 
     go : (o : Option Outcome) → Fine o
         → CryptogramWay m t (ended_reply m t.count (store_bytes t) (ending_for_decision o))
-    go none f = failed reason_cryptogram_type_not_allowed (reason 8 (omega arith) (omega arith))
-    go (some o) f = decides o f
+    go None f = failed reason_cryptogram_type_not_allowed (reason 8 (omega arith) (omega arith))
+    go (Some o) f = decides o f
 
 -- ---- after the checksum
 
@@ -331,7 +330,7 @@ pub data AnswerWay (s : Session) (card buf : List ℕ) : Step → Type 0 where
       → GpoWay (taken Awaited.Gpo s card) buf st → AnswerWay s card buf st
   recorded : {st : Step} (p : AwaitedRecord) (r : CardRecord) → Admitted s (length buf)
       → s.phase ≡ Phase.Waiting (AwaitedResponse.Record p) → kth_record_of_accepted_afl (stored_afl (store_bytes s))
-      p.number ≡ RecordFound.At r
+      p.number ≡ Some r
       → RecordWay p (taken (Awaited.Record (record { number = r.sfi })) s card) buf st → AnswerWay s card buf st
   cryptogram : {q : Reply} (a : RequestedCryptogram) → Admitted s (length buf)
       → s.phase ≡ Phase.Waiting (AwaitedResponse.Cryptogram a)
@@ -364,11 +363,11 @@ module _ (s : Session) (card buf : List ℕ) (i : Admitted s (length buf)) where
   unfolding next_on_record_response
   step_record p q = go (kth_record_of_accepted_afl (stored_afl (store_bytes s)) p.number) refl
     where
-      go : (x : RecordFound) → kth_record_of_accepted_afl (stored_afl (store_bytes s)) p.number ≡ x
+      go : (x : Option CardRecord) → kth_record_of_accepted_afl (stored_afl (store_bytes s)) p.number ≡ x
           → P (next_on_response_for_record_found p (store_bytes s) card x)
-      go RecordFound.Nothing e = unread _ reason_afl_invalid i (reason 5 (omega arith) (omega arith))
+      go None e = unread _ reason_afl_invalid i (reason 5 (omega arith) (omega arith))
           (sym (ap held_number q)) (λ z. omega arith)
-      go (RecordFound.At r) e =
+      go (Some r) e =
           step_read (Awaited.Record (record { number = r.sfi })) (AwaitedResponse.Record p) (next_after_record_read p) q
           (λ z. recorded p r i q e (record_way p (taken (Awaited.Record (record { number = r.sfi })) s card) buf))
 
@@ -421,13 +420,13 @@ load_most b bytes n = if_ind P _ _ _ (λ e. by_run (primitive_objects bytes))
     few m h e = let z : m ≡ n = cc in omega arith
 
     by_set : (x : Option (List ℕ)) → P (loaded_after_setting x)
-    by_set none = few refusal_bad_start_object (omega arith)
-    by_set (some c) = if_ind P _ _ _ (λ t e. let z : ◌≡◌ {A = ℕ} 0 1 = cc in absurd (omega arith))
+    by_set None = few refusal_bad_start_object (omega arith)
+    by_set (Some c) = if_ind P _ _ _ (λ t e. let z : ◌≡◌ {A = ℕ} 0 1 = cc in absurd (omega arith))
         (λ t. few refusal_required_object_absent (omega arith))
 
     by_run : (x : Option (List Object)) → P (loaded_from_objects b x)
-    by_run none = few refusal_bad_start_bytes (omega arith)
-    by_run (some os) = by_set (set_start_objects b os)
+    by_run None = few refusal_bad_start_bytes (omega arith)
+    by_run (Some os) = by_set (set_start_objects b os)
 
 -- the session with the store that a start loaded
 abbrev pub loaded_session : Session → List ℕ → Session
@@ -440,7 +439,7 @@ pub data StartWay (s : Session) (bytes buf : List ℕ) : Step → Type 0 where
       → StartWay s bytes buf (failed_step cvm_number_not_applicable s.count (store_bytes (loaded_session s b))
       reason_dol_broken_or_bad_length buf)
   asked : (b c : List ℕ) → Admitted s (length buf) → s.phase ≡ Phase.Fresh → load_start_bytes (store_bytes s) bytes
-      ≡ loaded b → get_processing_options (store_bytes (loaded_session s b)) ≡ some c
+      ≡ loaded b → get_processing_options (store_bytes (loaded_session s b)) ≡ Some c
       → StartWay s bytes buf (command_step s.count (store_bytes (loaded_session s b)) AwaitedResponse.Gpo c buf)
 
 pub start_way : (s : Session) (bytes buf : List ℕ) → StartWay s bytes buf (start_step s bytes buf)
@@ -454,8 +453,8 @@ start_way s bytes buf = admitted_ind P s buf _ refused (λ i. go i s.phase refl)
         ≡ loaded b → (x : Option (List ℕ)) → get_processing_options (store_bytes (loaded_session s b)) ≡ x
         → P (step_of_next s.count buf (request_command_or_end_for_dol AwaitedResponse.Gpo (store_bytes (loaded_session s b))
         x))
-    sent b i q e none f = unlisted b i q e
-    sent b i q e (some c) f = asked b c i q e f
+    sent b i q e None f = unlisted b i q e
+    sent b i q e (Some c) f = asked b c i q e f
 
     by : Admitted s (length buf) → s.phase ≡ Phase.Fresh → (x : LoadedStore) → load_start_bytes (store_bytes s) bytes ≡ x
         → P (step_of_effect s buf (start_effect_after_loading x))

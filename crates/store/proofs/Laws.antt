@@ -2,6 +2,7 @@
 -- other place is untouched, puts of two rows commute. A put is a run of stores at a place, and the places lie apart;
 -- and a store copied whole.
 -- Assumes nothing.
+use Rattle.std.specs.Prelude.{Some, None}
 use mathlib.Core.Path.{◌≡◌, refl, sym, ap, ap₂, ◌∙◌}
 use mathlib.Core.Bool.{Bool, true, false, not}
 use mathlib.Core.Logic.{◌⊎◌, inl, inr}
@@ -20,7 +21,6 @@ use Rattle.basics.specs.Choice.{if}
 use Rattle.basics.proofs.Laws.{if_yes, if_no}
 use Rattle.basics.proofs.Order.{le-or-gt, sides}
 use Rattle.dictionary.specs.Rows.{Row, row_in, find_row}
-use Rattle.dictionary.specs.declared.RowFound.TheVariants.{At, Unknown}
 use Rattle.store.specs.Place.{StoredValue, absent, present, bytes_or_empty_if_absent, is_present, row_size_in_store}
 use Rattle.store.specs.Place.{row_offset, store_size_of, row_place_bytes, value_in_place, row_value}
 use Rattle.store.specs.Place.{row_length_plus_one_or_zero, length_and_value_written_at, put_row, value_of_row_found}
@@ -110,13 +110,6 @@ module _ (table : List Row) (b : List ℕ) (k : ℕ) where
   pub no_place : length b ≤ row_offset table k → row_value table b k ≡ absent
   no_place h = absent_is (length_byte_at ∙ get_or-eq_default b 0 h)
 
-  pub there_absent : is_present (row_value table b k) ≡ false → row_value table b k ≡ absent
-  there_absent e = go (row_value table b k) e
-    where
-      go : (x : StoredValue) → is_present x ≡ false → x ≡ absent
-      go absent p = refl
-      go (present v) p = cc
-
 -- ---- a run of stores
 
 -- a part before it, and a part after it
@@ -145,22 +138,6 @@ sets_sets (y ∷ ws) vs l i j h =
     ap (λ (r : List ℕ). sets r (suc j) ws) (set_sets vs l i j y h) ∙ sets_sets ws vs (set l j y) i (suc j) (omega arith)
 
 -- ---- a put is such a run
-
--- the length byte stored, and then the value copied after it
-pub paste_written : (b : List ℕ) (o : ℕ) (v : List ℕ) → o + 1 + length v ≤ length b
-    → paste (set b o (length v + 1)) (o + 1) v (length v) ≡ length_and_value_written_at b o v
-paste_written b o v f =
-    let h : o < length b = omega arith in
-    let q : o < suc o + length v = omega arith in
-    rw (
-      add-one o,
-      take-length v,
-      take-suc-set b o (length v + 1) h,
-      drop-set-lt (suc o + length v) b o (length v + 1)
-          q,
-    )
-    (append_assoc (take o b ++ ((length v + 1) ∷ [])) v (drop (suc o + length v) b) ∙ append_snoc (take o b)
-    (length v + 1) (v ++ drop (suc o + length v) b))
 
 -- the value v fits row k of the table, and the store is large enough
 pub record Fits (table : List Row) (b : List ℕ) (k : ℕ) (v : List ℕ) : Type 0 where
@@ -316,12 +293,12 @@ module _ (table : List Row) where
 
 -- ---- by tag
 
-pub by_row : (table : List Row) (b : List ℕ) (t k : ℕ) → find_row table t ≡ At k
+pub by_row : (table : List Row) (b : List ℕ) (t k : ℕ) → find_row table t ≡ Some k
     → object_value_in table b t ≡ row_value table b k
 unfolding object_value_in
 by_row table b t k e = ap (value_of_row_found table b) e
 
-pub unknown_absent : (table : List Row) (b : List ℕ) (t : ℕ) → find_row table t ≡ Unknown
+pub unknown_absent : (table : List Row) (b : List ℕ) (t : ℕ) → find_row table t ≡ None
     → object_value_in table b t ≡ absent
 unfolding object_value_in
 unknown_absent table b t e = ap (value_of_row_found table b) e

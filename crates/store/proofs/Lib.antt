@@ -1,5 +1,4 @@
 pub mod Places
 pub mod Laws
 pub mod Rows
-pub mod Cleared
 pub mod Cases

@@ -1,11 +1,10 @@
 -- What a store holds of a tag: present, absent, not empty, its bytes one by one (document 01, "Dictionary"; an object
 -- of no bytes is there).
 -- Assumes nothing.
-use Rattle.std.specs.Prelude.{Bool, not, ℕ, ◌-◌, length, get_or}
+use Rattle.std.specs.Prelude.{Bool, not, ℕ, ◌-◌, length, get_or, Option, Some, None}
 use Rattle.basics.specs.Choice.{◌<?◌, ◌=?◌, every}
 use Rattle.basics.specs.Types.{StoreBytes, Value, Byte, Tag}
 use Rattle.dictionary.specs.Rows.{dictionary_rows, find_row}
-use Rattle.dictionary.specs.declared.RowFound.{RowFound}
 use Rattle.store.specs.Place.{object_value, bytes_or_empty_if_absent, is_present, row_length_plus_one_or_zero}
 
 -- the object is present, empty or not
@@ -37,9 +36,9 @@ abbrev pub is_object_zero_or_absent : StoreBytes → Tag → Bool
 is_object_zero_or_absent b t = every is_zero_byte (stored_bytes b t)
 
 -- the length byte of its place as it is: the length + 1, 0 where it is absent
-abbrev pub length_plus_one_or_zero_of_row_found : StoreBytes → RowFound → Byte
-length_plus_one_or_zero_of_row_found b RowFound.Unknown = 0
-length_plus_one_or_zero_of_row_found b (RowFound.At k) = row_length_plus_one_or_zero dictionary_rows b k
+abbrev pub length_plus_one_or_zero_of_row_found : StoreBytes → Option ℕ → Byte
+length_plus_one_or_zero_of_row_found b None = 0
+length_plus_one_or_zero_of_row_found b (Some k) = row_length_plus_one_or_zero dictionary_rows b k
 
 -- by its row; 0 for an unknown tag
 unfoldable pub stored_length_plus_one_or_zero : StoreBytes → Tag → Byte

@@ -1,12 +1,11 @@
 -- The store (document 01, "Dictionary" and "The shape of some places"): a fixed place for each row of a table, with
 -- room for every row at its greatest length at once. What holds here holds of every table.
 -- Assumes nothing.
+use Rattle.std.specs.Prelude.{Option, Some, None}
 use Rattle.std.specs.Prelude.{Bool, true, false, List, [], ◌∷◌, ◌++◌, zero, suc, ◌+◌, ◌-◌, length, get_or, take, drop}
 use Rattle.basics.specs.Choice.{when◌then◌else◌, ◌=?◌}
 use Rattle.basics.specs.Types.{Bytes, StoreBytes, Value, Byte, Tag, Length, Offset, RowNumber}
 use Rattle.dictionary.specs.Rows.{Row, dictionary_rows, row_in, find_row}
-use Rattle.dictionary.specs.declared.RowFound.{RowFound}
-use Rattle.dictionary.specs.declared.RowFound.TheVariants.{At, Unknown}
 
 -- the value of an object: absent, or its bytes, which may be none
 pub data StoredValue : Type 0 where
@@ -22,6 +21,11 @@ bytes_or_empty_if_absent (present v) = v
 abbrev pub is_present : StoredValue → Bool
 is_present absent = false
 is_present (present v) = true
+
+-- a value that is passed in, none where the object is absent
+abbrev pub stored_value_of : Option Value → StoredValue
+stored_value_of None = absent
+stored_value_of (Some v) = present v
 
 -- ---- places
 
@@ -74,9 +78,9 @@ put_row table b k v = length_and_value_written_at b (row_offset table k) v
 -- ---- by tag
 
 -- the value of the row that a lookup found
-abbrev pub value_of_row_found : List Row → StoreBytes → RowFound → StoredValue
-value_of_row_found table b Unknown = absent
-value_of_row_found table b (At k) = row_value table b k
+abbrev pub value_of_row_found : List Row → StoreBytes → Option RowNumber → StoredValue
+value_of_row_found table b None = absent
+value_of_row_found table b (Some k) = row_value table b k
 
 -- the value of a tag: absent where the tag is unknown
 unfoldable pub object_value_in : List Row → StoreBytes → Tag → StoredValue

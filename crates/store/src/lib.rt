@@ -7,9 +7,9 @@
 
 mod offsets;
 
-ghost use Rattle.std.specs.Prelude.{◌≡◌, ◌+◌, ◌-◌, ◌≤◌, ◌<◌, min, length, replicate};
+ghost use Rattle.std.specs.Prelude.{option_copied, ◌≡◌, ◌+◌, ◌-◌, ◌≤◌, ◌<◌, min, length, replicate};
 ghost use Rattle.dictionary.specs.Rows.{dictionary_rows, row_at, row_count, store_size};
-ghost use Rattle.store.specs.Place.{row_length_plus_one_or_zero, row_value, bytes_or_empty_if_absent, is_present, length_and_value_written_at, put_row};
+ghost use Rattle.store.specs.Place.{row_length_plus_one_or_zero, row_value, bytes_or_empty_if_absent, is_present, stored_value_of, length_and_value_written_at, put_row};
 ghost use Rattle.store.specs.Inner.{row_offset_and_max_length, unpacked_row_offset_and_max_length};
 
 use dictionary::SIZE;
@@ -41,26 +41,16 @@ pub fn empty() -> Store
 pub fn clear(bytes: &mut [u8])
     ensures { bytes.new ≡ replicate (length bytes.old) 0 }
 {
-    let mut i = 0;
-    while i < bytes.len() {
-        bytes[i] = 0;
-        i += 1;
-    }
+    bytes.fill(0);
 }
 
 // A row's place; past the last row it is the store's end.
+#[tactic(auto, using(crate::proofs::Rows::row_placed))]
 fn span_of(row: usize) -> RowOffsetAndMaxLength
     ensures value { result ≡ row_offset_and_max_length row }
     ensures at_le_store_size { result.at ≤ store_size }
 {
     unpacked(place_at(row))
-}
-
-// Where a row's place starts.
-fn start_of(row: usize) -> usize
-    ensures { result ≡ (row_offset_and_max_length row).at }
-{
-    unpacked(place_at(row)).at
 }
 
 // A place's number taken apart.
@@ -74,13 +64,15 @@ fn unpacked(place: u32) -> RowOffsetAndMaxLength
 }
 
 // The length byte of a row's place as it is: 0 where the object is absent, else its length + 1.
+#[tactic(auto, using(crate::proofs::Laws::length_byte_at))]
 pub fn length_plus_one_or_zero(bytes: &[u8], row: usize) -> u8
     ensures { result ≡ row_length_plus_one_or_zero dictionary_rows bytes.now row }
 {
-    basics::byte_at(bytes, start_of(row))
+    basics::byte_at(bytes, span_of(row).at)
 }
 
 // Whether a row's object is present.
+#[tactic(auto, using(crate::proofs::Laws::there_is))]
 pub fn is_present(bytes: &[u8], row: usize) -> bool
     ensures { result ≡ is_present (row_value dictionary_rows bytes.now row) }
 {
@@ -93,14 +85,7 @@ fn value_length(stored: u8, most: usize) -> usize
     ensures value { result ≡ min (stored - 1) most }
     ensures upper_bound { result < 256 }
 {
-    let stored = basics::widen(stored);
-    if stored == 0 {
-        return 0;
-    }
-    if most < stored {
-        return most;
-    }
-    stored - 1
+    usize::from(stored).saturating_sub(1).min(most)
 }
 
 // A row's value: its bytes, and no bytes where the object is absent.
@@ -108,28 +93,25 @@ pub fn value(bytes: &[u8], row: usize) -> &[u8]
     ensures { result.now ≡ bytes_or_empty_if_absent (row_value dictionary_rows bytes.now row) }
 {
     let span = span_of(row);
-    let at = span.at;
-    let first = at + 1;
-    let n = value_length(basics::byte_at(bytes, at), span.most);
-    let e = first + n;
-    if e <= bytes.len() {
-        return &bytes[first..e];
-    }
-    if first <= bytes.len() {
-        return &bytes[first..];
-    }
-    &bytes[..0]
+    let n = value_length(basics::byte_at(bytes, span.at), span.most);
+    let behind = &bytes[bytes.len().min(span.at + 1)..];
+    &behind[..n.min(behind.len())]
+}
+
+// A row's value where its object is present.
+pub fn value_if_present(bytes: &[u8], row: usize) -> Option<&[u8]>
+    ensures { stored_value_of (option_copied result) ≡ row_value dictionary_rows bytes.now row }
+{
+    is_present(bytes, row).then(|| value(bytes, row))
 }
 
 // Puts a value into a row's place, over what is there.
-pub fn put(bytes: &mut [u8], row: usize, v: &[u8])
-    requires bytes_len { length bytes.old ≡ store_size }
-    requires row_lt_row_count { (row < row_count) × (length v.now ≤ (row_at row).greatest) }
-    ensures stored { bytes.new ≡ put_row dictionary_rows bytes.old row v.now }
-    ensures sized { length bytes.new ≡ store_size }
+#[tactic(auto, using(crate::proofs::Rows::row_inside), unfolding(crate::specs::Place::put_row))]
+pub fn put(bytes: &mut [u8; SIZE], row: usize, v: &[u8])
+    requires { (row < row_count) × (length v.now ≤ (row_at row).greatest) }
+    ensures { bytes.new ≡ put_row dictionary_rows bytes.old row v.now }
 {
-    let at = start_of(row);
-    write(bytes, at, v);
+    write(bytes, span_of(row).at, v);
 }
 
 // Writes a length byte and a value at a place.
@@ -139,9 +121,5 @@ fn write(bytes: &mut [u8], at: usize, v: &[u8])
 {
     let start = at + 1;
     bytes[at] = (v.len() + 1) as u8;
-    let mut i = 0;
-    while i < v.len() {
-        bytes[start + i] = v[i];
-        i += 1;
-    }
+    bytes[start..start + v.len()].copy_from_slice(v);
 }

@@ -4,7 +4,7 @@
 
 ghost use Rattle.std.specs.Prelude.{◌≤◌, length};
 
-use call_list::PlayResult;
+use call_list::PlayError;
 
 fn main(rt: HostRuntime) {
     purchase(&rt);
@@ -160,11 +160,7 @@ fn answer(calls: &mut [u8], at: usize, card: &[u8]) -> usize
 
 // 127 records that bring nothing.
 fn empty_records(calls: &mut [u8], at: usize) -> usize {
-    let mut end = at;
-    for _ in 0..127u8 {
-        end = answer(calls, end, b"\x70\x00\x90\x00");
-    }
-    end
+    (0..127u8).fold(at, |end, _| answer(calls, end, b"\x70\x00\x90\x00"))
 }
 
 // Writes a call at a place of a slice of zeros; where it ends. Its buffer is of zeros.
@@ -175,29 +171,22 @@ fn put(calls: &mut [u8], at: usize, kind: u8, incoming: &[u8], capacity: usize) 
     if calls.len() < at {
         return calls.len();
     }
-    if 65535 < n {
-        return at;
-    }
-    if 65535 < capacity {
-        return at;
-    }
-    if calls.len() - at < 17 + n + capacity {
+    if 65535 < n || 65535 < capacity || calls.len() - at < 17 + n + capacity {
         return at;
     }
     let from = at + 17;
     let end = from + n;
-    basics::copy(&header(kind, n, capacity), &mut calls[at..from]);
-    basics::copy(incoming, &mut calls[from..end]);
+    calls[at..from].copy_from_slice(&header(kind, n, capacity));
+    calls[from..end].copy_from_slice(incoming);
     end + capacity
 }
 
-// The kind and the two lengths, each below 65,536.
+// The kind and the two lengths, each in eight bytes, high byte first.
 fn header(kind: u8, n: usize, capacity: usize) -> [u8; 17] {
-    let a = (n / 256 % 256) as u8;
-    let b = (n % 256) as u8;
-    let c = (capacity / 256 % 256) as u8;
-    let d = (capacity % 256) as u8;
-    [kind, 0, 0, 0, 0, 0, 0, a, b, 0, 0, 0, 0, 0, 0, c, d]
+    let mut out = [kind; 17];
+    out[1..9].copy_from_slice(&n.to_be_bytes());
+    out[9..].copy_from_slice(&capacity.to_be_bytes());
+    out
 }
 
 // ---- what is shown
@@ -208,16 +197,14 @@ fn play(rt: &impl Print, calls: &mut [u8], end: usize, replies: &mut [u8]) {
         return;
     }
     let ran = call_list::play_list(&mut calls[0..end], replies);
-    let said = ran.said;
-    let session = ran.session;
     lines(rt, replies);
-    match said {
-        PlayResult::Played => print::print_text(rt, b"played"),
-        PlayResult::Malformed => print::print_text(rt, b"no list of calls"),
-        PlayResult::TooShort => print::print_text(rt, b"too little room"),
+    match ran.said {
+        Ok(()) => print::print_text(rt, b"played"),
+        Err(PlayError::Malformed) => print::print_text(rt, b"no list of calls"),
+        Err(PlayError::TooShort) => print::print_text(rt, b"too little room"),
     }
     print::print_text(rt, b", count ");
-    print::print_number(rt, basics::widen(session_record::command_count(session)));
+    print::print_number(rt, usize::from(session_record::command_count(ran.session)));
     print::print_text(rt, b", commands ");
     print::print_number(rt, kinds(replies, 0));
     print::print_text(rt, b", outcomes ");
@@ -245,13 +232,7 @@ fn kinds(replies: &[u8], kind: u8) -> usize {
 
 // The first bytes of the buffer of 261 bytes that ends at a place.
 fn command(rt: &impl Print, calls: &[u8], end: usize, n: usize) {
-    if calls.len() < end {
-        return;
-    }
-    if end < 261 {
-        return;
-    }
-    if 261 < n {
+    if calls.len() < end || end < 261 || 261 < n {
         return;
     }
     let from = end - 261;

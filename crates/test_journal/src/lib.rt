@@ -15,15 +15,14 @@ use journal::JournalVerdict;
 pub fn emv_test_journal(bytes: &[u8], first: usize, part: usize) -> u32
     ensures { result ≡ verdict_word (journal_verdict_of bytes.now) }
 {
-    let mut at = least(first, bytes.len());
+    let mut at = first.min(bytes.len());
     let mut checker = journal::feed(journal::begin(), &bytes[..at]);
     while at < bytes.len() {
         let end = end_of(at, part, bytes.len());
         checker = journal::feed(checker, &bytes[at..end]);
         at = end;
     }
-    let verdict = journal::finish(checker);
-    word(verdict)
+    word(journal::finish(checker))
 }
 
 // The one conforming record in place of the first mismatching one: its size, and its bytes at the front of `out`. Size
@@ -32,19 +31,14 @@ pub fn emv_test_wanted(bytes: &[u8], out: &mut [u8]) -> usize
     ensures { GivesBytesIfRoom result out.new (expected_reply_at_first_mismatch bytes.now) out.old }
 {
     let wanted = journal::expected_reply_record(journal::feed(journal::begin(), bytes));
-    let record = wanted.bytes;
-    let size = wanted.size;
-    put(front(&record, size), out)
+    put(front(&wanted.bytes, wanted.size), out)
 }
 
 // The front of some bytes, all of them where there are no more.
 fn front(s: &[u8], n: usize) -> &[u8]
     ensures { result.now ≡ take n s.now }
 {
-    if n <= s.len() {
-        return &s[..n];
-    }
-    s
+    s.get(..n).unwrap_or(s)
 }
 
 // Copies bytes into the front of others, where there is room, and reports how many.
@@ -57,21 +51,12 @@ fn put(s: &[u8], out: &mut [u8]) -> usize
     basics::copy(s, out)
 }
 
-fn least(a: usize, b: usize) -> usize
-    ensures { result ≤ b }
-{
-    if a < b { a } else { b }
-}
-
 // Where the part that starts at a place ends: after its size, or with the bytes.
 fn end_of(at: usize, part: usize, all: usize) -> usize
     requires { at < all }
     ensures { (at < result) × (result ≤ all) }
 {
-    if part == 0 {
-        return all;
-    }
-    if all - at <= part {
+    if part == 0 || all - at <= part {
         return all;
     }
     at + part

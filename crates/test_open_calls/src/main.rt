@@ -5,10 +5,10 @@
 #![tactic(auto)]
 
 use analysis::choice::Choice;
-use call_list::PlayResult;
-use dictionary::SIZE;
+use call_list::PlayError;
+use dictionary::{RowAttributes, SIZE};
 use journal::{JournalChecker, JournalVerdict};
-use layout::{DecodedRecordHead, RECORD_SIZE};
+use layout::{RECORD_SIZE, SessionRecordHead};
 use reading::{Awaited, BothReadings};
 use session_record::Session;
 
@@ -17,6 +17,7 @@ const STATE_SIZE: usize = RECORD_SIZE + 16;
 
 fn main(rt: HostRuntime) {
     statements(&rt);
+    unprinted();
     parts(&rt);
     readers(&rt);
     calls(&rt);
@@ -43,7 +44,7 @@ fn statements(rt: &impl Print) {
     line(
         rt,
         b"rank::rank, of offline",
-        basics::widen(rank_of(Choice::Offline)),
+        usize::from(rank_of(Choice::Offline)),
     );
     found(
         rt,
@@ -53,16 +54,39 @@ fn statements(rt: &impl Print) {
     host_claim::host_calls_follow_published_order();
     worked_examples::examples_hold();
     worked_words::word_examples_hold();
-    let rows = dictionary::used_rows();
-    line(
-        rt,
-        b"dictionary::used_rows, the last",
-        rows[dictionary::USED - 1],
-    );
+    dictionary_rows(rt);
+}
+
+// Calls that print nothing: no other code makes them.
+fn unprinted() {
+    basics::widen(0);
+    basics::is_between(0, 0, 0);
 }
 
 fn rank_of(choice: Choice) -> u8 {
     laws::stricter::choice_rank(choice)
+}
+
+// ---- the dictionary's rows
+
+// Of tags and of what a row may be nothing is shown: `test_dictionary_rows` shows them of each row.
+fn dictionary_rows(rt: &impl Print) {
+    let rows = dictionary::used_rows();
+    let last = rows[dictionary::USED - 1];
+    line(rt, b"dictionary::used_rows, the last", last);
+    let _ = dictionary::dictionary_tags();
+    let attributes = dictionary::attributes_of(last);
+    let _ = is_brought_by(attributes, dictionary::GPO);
+    let _ = is_in(attributes, dictionary::IN_70);
+}
+
+// The one condition of these two is that there is a bit: what 0 stands for is no answer and no template.
+fn is_brought_by(attributes: RowAttributes, answer: u8) -> bool {
+    answer != 0 && attributes.may_be_brought_by(answer)
+}
+
+fn is_in(attributes: RowAttributes, template: u8) -> bool {
+    template != 0 && attributes.may_be_in(template)
 }
 
 // ---- the record
@@ -71,28 +95,30 @@ fn parts(rt: &impl Print) {
     line(
         rt,
         b"run::said_number",
-        basics::widen(said_number(PlayResult::Played)),
+        widened(said_number(Ok(()))) as usize,
     );
     if in_ranges(session_record::fresh_session()) {
         print::print_text(rt, b"record::in_ranges: a fresh session is\n");
     }
-    let held = decode(b"");
-    let DecodedRecordHead::Nothing = held else {
-        return;
-    };
-    print::print_text(rt, b"layout::decode: no bytes hold no record\n");
+    if decode(b"").is_none() {
+        print::print_text(rt, b"layout::decode: no bytes hold no record\n");
+    }
 }
 
 fn in_ranges(session: Session) -> bool {
     session_record::session_record_in_ranges(session)
 }
 
-fn decode(bytes: &[u8]) -> DecodedRecordHead {
+fn decode(bytes: &[u8]) -> Option<SessionRecordHead> {
     let mut store = [0u8; SIZE];
     layout::decode_record(bytes, &mut store)
 }
 
-fn said_number(said: PlayResult) -> u8 {
+fn widened(number: u8) -> u32 {
+    basics::widen32(number)
+}
+
+fn said_number(said: Result<(), PlayError>) -> u8 {
     call_list::play_result_number(said)
 }
 
@@ -100,22 +126,20 @@ fn said_number(said: PlayResult) -> u8 {
 
 fn readers(rt: &impl Print) {
     let read = both(Awaited::Gpo, b"\x77\x00\x90\x00");
-    let first = read.recursive;
-    let second = read.flat;
     line(
         rt,
         b"reading::read_both, the first's objects",
-        first.objects,
+        read.recursive.objects,
     );
     line(
         rt,
         b"reading::read_both, the second's objects",
-        second.objects,
+        read.flat.objects,
     );
     line(
         rt,
         b"reading::flat::judge_answer",
-        basics::widen(judged(Awaited::Gpo, b"\x90\x01")),
+        usize::from(judged(Awaited::Gpo, b"\x90\x01")),
     );
     let mut store = [0u8; SIZE];
     word(
@@ -292,8 +316,7 @@ fn cabinet_find(site: &[u8], defaults: &[u8], tag: u32) -> u64 {
 }
 
 fn looked_up<'a>(site: &'a [u8], defaults: &'a [u8], tag: u32) -> usize {
-    let value = cabinet_lookup::lookup_value(site, defaults, tag);
-    value.len()
+    cabinet_lookup::lookup_value(site, defaults, tag).len()
 }
 
 fn card(rt: &impl Print) {
@@ -320,11 +343,9 @@ fn write_card(
 
 fn judge(rt: &impl Print) {
     line(rt, b"journal::wanted, its size", wanted_size(fed()));
-    let verdict = finish(fed());
-    let JournalVerdict::Mismatch(n) = verdict else {
-        return;
-    };
-    line(rt, b"journal::finish: unlike", n);
+    if let JournalVerdict::Mismatch(n) = finish(fed()) {
+        line(rt, b"journal::finish: unlike", n);
+    }
 }
 
 // A checker that read a byte that is no kind of record.
@@ -341,8 +362,7 @@ fn finish(checker: JournalChecker) -> JournalVerdict {
 }
 
 fn wanted_size(checker: JournalChecker) -> usize {
-    let wanted = journal::expected_reply_record(checker);
-    wanted.size
+    journal::expected_reply_record(checker).size
 }
 
 // ---- lines

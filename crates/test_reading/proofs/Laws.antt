@@ -1,5 +1,6 @@
 -- One reading over the caller's store, by cases: nothing is requested, or an answer, whose count is small.
 -- Assumes nothing.
+use Rattle.std.specs.Prelude.{Option, Some, None}
 use mathlib.Core.Path.{◌≡◌, refl, ap, subst⁻¹, ◌∙◌}
 use mathlib.Core.Logic.{inl, inr}
 use mathlib.Core.List.{List}
@@ -14,16 +15,15 @@ use Rattle.reading.specs.declared.Awaited.{Awaited}
 use Rattle.reading.specs.declared.Reading.{Reading}
 use Rattle.reading.specs.Answer.{ReadingOutcome, ReadingAndStoreMatchOutcome, verdict_number, read_answer}
 use Rattle.reading.proofs.Stages.{answer_long}
-use Rattle.test_reading.specs.declared.AwaitedAnswer.{AwaitedAnswer}
 use Rattle.test_reading.specs.Read.{ReturnsTestReading, test_read_awaited, awaited_by_number_if_store_sized, test_read}
 use Rattle.test_reading.specs.Read.{reason_weight_in_word}
 
 -- an answer is requested only where the store has its size
-pub asked_sized : (size n sfi : ℕ) (a : Awaited) → awaited_by_number_if_store_sized size n sfi ≡ AwaitedAnswer.Answer a
+pub asked_sized : (size n sfi : ℕ) (a : Awaited) → awaited_by_number_if_store_sized size n sfi ≡ Some a
     → size ≡ store_size
 unfolding awaited_by_number_if_store_sized
 asked_sized size n sfi a =
-    if_ind (λ (x : AwaitedAnswer). x ≡ AwaitedAnswer.Answer a → size ≡ store_size) _ _ _ (λ t e. eqb-true _ _ t)
+    if_ind (λ (x : Option Awaited). x ≡ Some a → size ≡ store_size) _ _ _ (λ t e. eqb-true _ _ t)
     (λ t e. let z : ◌≡◌ {A = ℕ} 0 1 = cc in absurd (omega arith))
 
 -- an answer that is too long counts no objects, and the others have few bytes
@@ -37,27 +37,27 @@ count_small a b s c r g h =
     ]
 
 module _ (n sfi : ℕ) (b s : List ℕ) where
-  reads : (x : AwaitedAnswer) → awaited_by_number_if_store_sized (length b) n sfi ≡ x
+  reads : (x : Option Awaited) → awaited_by_number_if_store_sized (length b) n sfi ≡ x
       → test_read n sfi b s ≡ test_read_awaited x b s
   unfolding test_read
-  reads x e = ap (λ (y : AwaitedAnswer). test_read_awaited y b s) e
+  reads x e = ap (λ (y : Option Awaited). test_read_awaited y b s) e
 
   -- a store of another size, or a number that is no answer
-  pub unread : awaited_by_number_if_store_sized (length b) n sfi ≡ AwaitedAnswer.Nothing
+  pub unread : awaited_by_number_if_store_sized (length b) n sfi ≡ None
       → ReturnsTestReading 0xFFFFFFFF b (test_read n sfi b s)
-  unread e = subst⁻¹ (ReturnsTestReading 0xFFFFFFFF b) (reads AwaitedAnswer.Nothing e)
+  unread e = subst⁻¹ (ReturnsTestReading 0xFFFFFFFF b) (reads None e)
       (record { word = refl; store = refl })
 
   -- an answer, whose count is small
   pub read : (a : Awaited) (w : ℕ) (c : List ℕ) (r : Reading) → awaited_by_number_if_store_sized (length b) n sfi
-      ≡ AwaitedAnswer.Answer a
+      ≡ Some a
       → ReadingAndStoreMatchOutcome r c (read_answer a b s) → 2 * r.objects ≤ length s - 2
       → w ≡ verdict_number r.verdict * reason_weight_in_word + r.objects % reason_weight_in_word
       → ReturnsTestReading w c (test_read n sfi b s)
   read a w c r e g h k =
       let m = count_small a b s c r g h in
       let z : r.objects % reason_weight_in_word ≡ r.objects = omega arith in
-      subst⁻¹ (ReturnsTestReading w c) (reads (AwaitedAnswer.Answer a) e)
+      subst⁻¹ (ReturnsTestReading w c) (reads (Some a) e)
       (record {
         word = k ∙ ap (λ (x : ℕ). verdict_number r.verdict * reason_weight_in_word + x) z ∙ λ i. g.reason i
             * reason_weight_in_word + g.objects i;

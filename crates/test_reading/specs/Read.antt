@@ -1,13 +1,11 @@
 -- One reading over the caller's store, its reason and object count as one number of 32 bits.
 -- Assumes nothing.
-use Rattle.std.specs.Prelude.{◌≡◌, ℕ, ◌+◌, ◌*◌, length}
+use Rattle.std.specs.Prelude.{◌≡◌, ℕ, ◌+◌, ◌*◌, length, Option, Some, None}
 use Rattle.basics.specs.Types.{StoreBytes, Response, ResultWord, SfiNumber, Length, Count}
 use Rattle.basics.specs.Choice.{when◌then◌else◌, ◌=?◌}
 use Rattle.dictionary.specs.Rows.{store_size}
 use Rattle.reading.specs.declared.Awaited.{Awaited}
 use Rattle.reading.specs.Answer.{ReadingOutcome, read_answer}
-use Rattle.test_reading.specs.declared.AwaitedAnswer.{AwaitedAnswer}
-use Rattle.test_reading.specs.declared.AwaitedAnswer.TheVariants.{Answer, Nothing}
 
 -- the number that is returned, and the store after
 pub record TestReading : Type 0 where
@@ -33,24 +31,24 @@ abbrev pub nothing_read : StoreBytes → TestReading
 nothing_read b = record { word = 0xFFFFFFFF; store = b }
 
 -- the answers by number: 0 GPO, 1 a record of this file, 2 the cryptogram, 3 the checksum
-unfoldable pub awaited_by_number : ℕ → SfiNumber → AwaitedAnswer
+unfoldable pub awaited_by_number : ℕ → SfiNumber → Option Awaited
 awaited_by_number n sfi =
-    when n =? 0 then Answer Awaited.Gpo
-    else when n =? 1 then Answer (Awaited.Record (record { number = sfi }))
-    else when n =? 2 then Answer Awaited.Cryptogram
-    else when n =? 3 then Answer Awaited.Checksum
-    else Nothing
+    when n =? 0 then Some Awaited.Gpo
+    else when n =? 1 then Some (Awaited.Record (record { number = sfi }))
+    else when n =? 2 then Some Awaited.Cryptogram
+    else when n =? 3 then Some Awaited.Checksum
+    else None
 
 -- the same for a store of so many bytes, which must be its size
-unfoldable pub awaited_by_number_if_store_sized : Length → ℕ → SfiNumber → AwaitedAnswer
+unfoldable pub awaited_by_number_if_store_sized : Length → ℕ → SfiNumber → Option Awaited
 awaited_by_number_if_store_sized size n sfi =
     when size =? store_size then awaited_by_number n sfi
-    else Nothing
+    else None
 
 -- the card's answer s to what is expected, into the store b
-abbrev pub test_read_awaited : AwaitedAnswer → StoreBytes → Response → TestReading
-test_read_awaited Nothing b s = nothing_read b
-test_read_awaited (Answer a) b s = test_reading_of (read_answer a b s)
+abbrev pub test_read_awaited : Option Awaited → StoreBytes → Response → TestReading
+test_read_awaited None b s = nothing_read b
+test_read_awaited (Some a) b s = test_reading_of (read_answer a b s)
 
 -- one reading
 unfoldable pub test_read : ℕ → SfiNumber → StoreBytes → Response → TestReading

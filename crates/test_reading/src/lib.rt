@@ -13,13 +13,6 @@ ghost use Rattle.test_reading.specs.Read.{ReturnsTestReading, test_read, awaited
 use dictionary::SIZE;
 use reading::{Awaited, Reading, Sfi};
 
-// The answer that is awaited, or none.
-#[derive(Clone, Copy)]
-pub enum AwaitedAnswer {
-    Answer(Awaited),
-    Nothing,
-}
-
 // What is given where no answer was read.
 pub const NOT_READ: u32 = 0xFFFFFFFF;
 
@@ -32,47 +25,45 @@ const REASON: u32 = 0x10000;
 pub fn emv_test_read(store: &mut [u8], awaited: u32, sfi: u8, card: &[u8]) -> u32
     ensures { ReturnsTestReading result store.new (test_read awaited sfi store.old card.now) }
 {
-    let answer = awaited_by_number(store.len(), awaited, sfi);
-    let AwaitedAnswer::Answer(a) = answer else {
+    let Some(a) = awaited_by_number(store.len(), awaited, sfi) else {
         return NOT_READ;
     };
-    let reading = reading::read_answer(store, a, card);
-    reading_word(reading)
+    let Some(store) = store.as_mut_array::<SIZE>() else {
+        return NOT_READ;
+    };
+    reading_word(reading::read_answer(store, a, card))
 }
 
 // The answer of a number, for a store of its size.
-pub fn awaited_by_number(size: usize, awaited: u32, sfi: u8) -> AwaitedAnswer
+#[tactic(auto, using(basics::proofs::Laws::if_yes, basics::proofs::Laws::if_no), unfolding(crate::specs::Read::awaited_by_number_if_store_sized))]
+pub fn awaited_by_number(size: usize, awaited: u32, sfi: u8) -> Option<Awaited>
     ensures { result ≡ awaited_by_number_if_store_sized size awaited sfi }
 {
-    if size != SIZE {
-        return AwaitedAnswer::Nothing;
+    if size == SIZE {
+        wanted_of(awaited, sfi)
+    } else {
+        None
     }
-    wanted_of(awaited, sfi)
 }
 
 // The answer of a number.
-fn wanted_of(awaited: u32, sfi: u8) -> AwaitedAnswer
+#[tactic(auto, using(basics::proofs::Laws::if_yes, basics::proofs::Laws::if_no), unfolding(crate::specs::Read::awaited_by_number))]
+fn wanted_of(awaited: u32, sfi: u8) -> Option<Awaited>
     ensures { result ≡ awaited_by_number awaited sfi }
 {
-    if awaited == 0 {
-        return AwaitedAnswer::Answer(Awaited::Gpo);
+    match awaited {
+        0 => Some(Awaited::Gpo),
+        1 => Some(Awaited::Record(Sfi { number: sfi })),
+        2 => Some(Awaited::Cryptogram),
+        3 => Some(Awaited::Checksum),
+        _ => None,
     }
-    if awaited == 1 {
-        return AwaitedAnswer::Answer(Awaited::Record(Sfi { number: sfi }));
-    }
-    if awaited == 2 {
-        return AwaitedAnswer::Answer(Awaited::Cryptogram);
-    }
-    if awaited == 3 {
-        return AwaitedAnswer::Answer(Awaited::Checksum);
-    }
-    AwaitedAnswer::Nothing
 }
 
 // A reading as one number; of a count the lower 16 bits.
 pub fn reading_word(reading: Reading) -> u32
     ensures { result ≡ verdict_number reading.verdict * reason_weight_in_word + reading.objects % reason_weight_in_word }
 {
-    let verdict = reading.verdict;
-    REASON * basics::widen32(reading::verdict_number(verdict)) + (reading.objects % 0x10000) as u32
+    REASON * u32::from(reading::verdict_number(reading.verdict))
+        + (reading.objects % 0x10000) as u32
 }

@@ -369,6 +369,6 @@ fn longest(rt: &impl Print) {
     );
     let session = reply.session;
     print::print_text(rt, b"commands handed out: ");
-    print::print_number(rt, basics::widen(session_record::command_count(session)));
+    print::print_number(rt, usize::from(session_record::command_count(session)));
     print::print_text(rt, b"\n");
 }

@@ -1,16 +1,17 @@
 -- The front part of a text whose characters pass a test, and the text after it.
 -- Assumes nothing.
 use mathlib.Core.Path.{◌≡◌, refl, ap, ◌∙◌}
-use mathlib.Core.Bool.{Bool, true, false}
+use mathlib.Core.Bool.{Bool, true, false, not}
+use mathlib.Core.Logic.{inl, inr}
+use borrow.Author.Tests.{not-true, not-false}
 use mathlib.Core.List.{List, [], ◌∷◌}
 use Prim.Native.Nat.{ℕ, ◌+◌, ◌-◌, ◌≤◌, ◌<◌}
 use native.Mathlib.Nat.{le_refl}
-use native.Mathlib.Numerals.{add-one}
 use native.Mathlib.Omega.{arith}
-use lib.ListN.{length, get_or, take, drop, length-drop, drop_of_length-le}
-use lib.Seq.{drop-cons, take_all}
+use lib.ListN.{length, get_or, take, drop, length-drop}
+use lib.Seq.{take_all}
 use Rattle.basics.specs.Choice.{if}
-use Rattle.basics.proofs.Laws.{if_yes, if_no, if_ind}
+use Rattle.basics.proofs.Laws.{if_yes, if_no, if_ind, bool_cases}
 use Rattle.text_line.specs.Text.{longest_prefix, after_longest_prefix}
 
 -- the end of a text as a part of its slice
@@ -57,17 +58,24 @@ module _ (f : ℕ → Bool) where
       if_ind (λ (t : List ℕ). 0 < length t → f (get_or t 0 0) ≡ false) (f c) (after_longest_prefix f s) (c ∷ s)
       (λ e k. past_first s k) (λ e k. e) h
 
-  -- the part's length, a character at a time
-  module _ (s : List ℕ) (i : ℕ) where
-    pub front_stops : i < length s → f (get_or s i 0) ≡ false → i + length (longest_prefix f (drop i s)) ≡ i
-    unfolding longest_prefix
-    front_stops h e = rw (drop-cons s i 0) (ap (λ (t : List ℕ). i + length t) (if_no _ _ e) ∙ omega arith)
+-- ---- the part's length, by the first character that does not pass
 
-    pub front_goes_on : i < length s → f (get_or s i 0) ≡ true → i + length (longest_prefix f (drop i s)) ≡ i + 1
-        + length (longest_prefix f (drop (i + 1) s))
-    unfolding longest_prefix
-    front_goes_on h e = rw (add-one, drop-cons s i 0) (ap (λ (t : List ℕ). i + length t) (if_yes _ _ e) ∙ omega arith)
+module _ (f : ℕ → Bool) where
+  pub prefix_ends : (c : ℕ) (s : List ℕ) → not (f c) ≡ true → length (longest_prefix f (c ∷ s)) ≡ 0
+  unfolding longest_prefix
+  prefix_ends c s e = ap length (if_no _ _ (not-true _ e))
 
-    pub front_ends : length s ≤ i → i + length (longest_prefix f (drop i s)) ≡ i
-    unfolding longest_prefix
-    front_ends h = rw (drop_of_length-le s h) (omega arith)
+  pub prefix_grows : (c : ℕ) (s : List ℕ) → not (f c) ≡ false → length (longest_prefix f (c ∷ s)) ≡ length (longest_prefix f s) + 1
+  unfolding longest_prefix
+  prefix_grows c s e = ap length (if_yes _ _ (not-false _ e)) ∙ omega arith
+
+  pub prefix_none : length (longest_prefix f []) ≡ 0
+  unfolding longest_prefix
+  prefix_none = refl
+
+  pub prefix_most : (s : List ℕ) → length (longest_prefix f s) ≤ length s
+  prefix_most [] = omega (arith, prefix_none)
+  prefix_most (c ∷ s) = elim (bool_cases (f c)) [
+    | inl y ↦ omega (arith, prefix_grows c s (ap not y), prefix_most s)
+    | inr n ↦ omega (arith, prefix_ends c s (ap not n))
+  ]

@@ -1,12 +1,13 @@
 -- Digits: hexadecimal pairs as bytes, with blanks between them, and a decimal number.
 -- Assumes nothing.
-use Rattle.std.specs.Prelude.{Bool, ◌≡◌, [], ◌∷◌, ◌++◌, ℕ, ◌+◌, ◌*◌, ◌-◌, length, take}
+use Rattle.std.specs.Prelude.{Bool, ◌≡◌, [], ◌∷◌, ◌++◌, ℕ, ◌+◌, ◌*◌, ◌-◌, length, take, Result, Ok, Err}
 use Rattle.basics.specs.Choice.{when◌then◌else◌, ◌and◌, ◌≤?◌, ◌<?◌, every}
 use Rattle.basics.specs.Front.{written_over_front}
 use Rattle.basics.specs.Number.{between}
 use Rattle.basics.specs.Types.{Byte, Bytes, Length}
 use Rattle.text_line.specs.declared.HexDecoded.{HexDecoded}
 use Rattle.text_line.specs.declared.Line.{Line}
+use Rattle.text_line.specs.declared.LineProblem.{LineProblem}
 use Rattle.text_line.specs.Text.{is_blank}
 
 -- the value of a hexadecimal digit '0' to '9', 'A' to 'F', 'a' to 'f'; 16 for any other character
@@ -75,8 +76,8 @@ abbrev pub is_decimal_digit : Byte → Bool
 is_decimal_digit c = hex_digit_value_or16 c <? 10
 
 -- a buffer's length: one or more decimal digits whose number is at most 4,096 (else 6)
-unfoldable pub buffer_line_if_up_to4096 : Bytes → Line
+unfoldable pub buffer_line_if_up_to4096 : Bytes → Result Line LineProblem
 buffer_line_if_up_to4096 w =
     when 0 <? length w and every is_decimal_digit w and append_decimal_characters 0 w ≤? 4096
-    then Line.Buffer (record { bytes = append_decimal_characters 0 w })
-    else Line.Wrong (record { number = 6 })
+    then Ok (Line.Buffer (record { bytes = append_decimal_characters 0 w }))
+    else Err (record { number = 6 })

@@ -14,8 +14,8 @@ ghost use Rattle.std.specs.Prelude.{◌≡◌, ◌≤◌, length};
 ghost use Rattle.text_line.specs.Text.{is_character_of_kind, longest_prefix, after_longest_prefix, uncommented as uncommented_of};
 ghost use Rattle.text_line.specs.Text.{first_word, behind_first_word};
 ghost use Rattle.text_line.specs.Digits.{hex_digit_value_or16, hex_decoding_of, hex_decoding_within_room, DecodesHex, buffer_line_if_up_to4096};
-ghost use Rattle.text_line.specs.Line.{line_word_of, line_if_only_blanks_follow as alone_as, line_if_hex_decoded, line_meaning, ReturnsLineMeaning};
-ghost use Rattle.text_line.specs.Inner.{hex_pair_at_front};
+ghost use Rattle.text_line.specs.Line.{line_word_of, line_if_only_blanks_follow as alone_as, line_meaning, ReturnsLineMeaning};
+ghost use Rattle.text_line.specs.Inner.{hex_pair_at_front, hex_decoded_count};
 
 // How many bytes a call brings: the front of the caller's slice.
 #[derive(Clone, Copy)]
@@ -30,11 +30,12 @@ pub struct LineBufferSize {
 }
 
 // What is wrong with a line.
-#[derive(Clone, Copy)]
+#[derive(Clone, Copy, PartialEq, Eq)]
 pub struct LineProblem {
     pub number: u8,
 }
 
+// What a line requests.
 #[derive(Clone, Copy)]
 pub enum Line {
     Blank,
@@ -44,7 +45,6 @@ pub enum Line {
     Stop,
     Buffer(LineBufferSize),
     Session,
-    Wrong(LineProblem),
 }
 
 // The numbers of the problems.
@@ -66,37 +66,24 @@ pub const MOST: usize = 8192;
 // The longest command buffer.
 pub const LONGEST: usize = 4096;
 
-// The first word of a line.
+// The first word of a line that has one.
 #[derive(Drop)]
 enum LineWord {
-    Absent,
     Start,
     Answer,
     LinkFailed,
     Stop,
     Buffer,
     Session,
-    Unknown,
 }
 
 // Kinds of characters.
+// Kept: an enum, since `is_character_of_kind` names each test; a closure would bring its own law to each of the calls.
 #[derive(Clone, Copy)]
 enum CharacterKind {
     Blank,
     NotBlank,
     NotHash,
-}
-
-// Two characters read as a byte.
-#[derive(Drop)]
-struct HexByte {
-    byte: u8,
-}
-
-#[derive(Drop)]
-enum HexPair {
-    Byte(HexByte),
-    Broken,
 }
 
 // How many bytes were decoded, and the number of the problem that stopped it, 0 for none.
@@ -107,24 +94,24 @@ pub struct HexDecoded {
 }
 
 // What a line means. The bytes of a start or an answer are at the front of `out`.
-pub fn parse_line(line: &[u8], out: &mut [u8]) -> Line
+pub fn parse_line(line: &[u8], out: &mut [u8]) -> Result<Line, LineProblem>
     ensures { ReturnsLineMeaning result out.new (line_meaning line.now out.old) }
 {
     if MOST < line.len() {
-        return Line::Wrong(LineProblem { number: LONG });
+        return Err(LineProblem { number: LONG });
     }
     let text = uncommented(line);
     let rest = after_first_word(text);
-    let word = word_named(first_word(text));
+    let Some(word) = word_named(first_word(text))? else {
+        return Ok(Line::Blank);
+    };
     match word {
-        LineWord::Absent => Line::Blank,
-        LineWord::Start => start_line(decode_hex(rest, out)),
-        LineWord::Answer => answer_line(decode_hex(rest, out)),
-        LineWord::LinkFailed => alone(rest, Line::LinkFailed),
-        LineWord::Stop => alone(rest, Line::Stop),
+        LineWord::Start => count_of(decode_hex(rest, out)).map(Line::Start),
+        LineWord::Answer => count_of(decode_hex(rest, out)).map(Line::Answer),
+        LineWord::LinkFailed => alone(rest, Ok(Line::LinkFailed)),
+        LineWord::Stop => alone(rest, Ok(Line::Stop)),
         LineWord::Buffer => alone(after_first_word(rest), size_line(first_word(rest))),
-        LineWord::Session => alone(rest, Line::Session),
-        LineWord::Unknown => Line::Wrong(LineProblem { number: WORD }),
+        LineWord::Session => alone(rest, Ok(Line::Session)),
     }
 }
 
@@ -145,27 +132,14 @@ fn is_of(kind: CharacterKind, c: u8) -> bool
 fn is_blank(c: u8) -> bool
     ensures { result ≡ is_character_of_kind CharacterKind.Blank c }
 {
-    if c == b' ' {
-        return true;
-    }
-    if c == b'\t' {
-        return true;
-    }
-    c == b'\r'
+    c == b' ' || c == b'\t' || c == b'\r'
 }
 
 // How many characters at the front are of a kind.
 fn front_length(s: &[u8], kind: CharacterKind) -> usize
     ensures { (result ≡ length (longest_prefix (is_character_of_kind kind) s.now)) × (result ≤ length s.now) }
 {
-    let mut i = 0;
-    while i < s.len() {
-        if !is_of(kind, s[i]) {
-            return i;
-        }
-        i += 1;
-    }
-    i
+    s.iter().position(|c| !is_of(kind, *c)).unwrap_or(s.len())
 }
 
 // The line up to its comment.
@@ -202,87 +176,78 @@ pub fn after_first_word(s: &[u8]) -> &[u8]
     &t[n..]
 }
 
-// Which word it is.
-fn word_named(w: &[u8]) -> LineWord
+// Which word it is; none for no characters.
+// Kept: `==` needs `.as_slice()` at each literal; a `match` on the literals has 41 exits to prove, character by character.
+fn word_named(w: &[u8]) -> Result<Option<LineWord>, LineProblem>
     ensures { result ≡ line_word_of w.now }
 {
     if basics::bytes_equal(w, b"") {
-        return LineWord::Absent;
+        return Ok(None);
     }
     if basics::bytes_equal(w, b"start") {
-        return LineWord::Start;
+        return Ok(Some(LineWord::Start));
     }
     if basics::bytes_equal(w, b"answer") {
-        return LineWord::Answer;
+        return Ok(Some(LineWord::Answer));
     }
     if basics::bytes_equal(w, b"link-failed") {
-        return LineWord::LinkFailed;
+        return Ok(Some(LineWord::LinkFailed));
     }
     if basics::bytes_equal(w, b"stop") {
-        return LineWord::Stop;
+        return Ok(Some(LineWord::Stop));
     }
     if basics::bytes_equal(w, b"buffer") {
-        return LineWord::Buffer;
+        return Ok(Some(LineWord::Buffer));
     }
     if basics::bytes_equal(w, b"session") {
-        return LineWord::Session;
+        return Ok(Some(LineWord::Session));
     }
-    LineWord::Unknown
+    Err(LineProblem { number: WORD })
 }
 
 // ---- what follows a word
 
 // A line with only blanks after its words.
-fn alone(rest: &[u8], line: Line) -> Line
+fn alone(rest: &[u8], line: Result<Line, LineProblem>) -> Result<Line, LineProblem>
     ensures { result ≡ alone_as rest.now line }
 {
     if past_blanks(rest).len() == 0 {
-        return line;
+        line
+    } else {
+        Err(LineProblem { number: BEHIND })
     }
-    Line::Wrong(LineProblem { number: BEHIND })
 }
 
-// A start with the bytes that were decoded.
-fn start_line(d: HexDecoded) -> Line
-    ensures { result ≡ line_if_hex_decoded Line.Start d }
+// How many bytes were decoded, unless a problem stopped it.
+fn count_of(d: HexDecoded) -> Result<LineByteCount, LineProblem>
+    ensures { result ≡ hex_decoded_count d }
 {
     if d.problem == 0 {
-        return Line::Start(LineByteCount { size: d.size });
+        Ok(LineByteCount { size: d.size })
+    } else {
+        Err(LineProblem { number: d.problem })
     }
-    Line::Wrong(LineProblem { number: d.problem })
-}
-
-// An answer with the bytes that were decoded.
-fn answer_line(d: HexDecoded) -> Line
-    ensures { result ≡ line_if_hex_decoded Line.Answer d }
-{
-    if d.problem == 0 {
-        return Line::Answer(LineByteCount { size: d.size });
-    }
-    Line::Wrong(LineProblem { number: d.problem })
 }
 
 // The length that a word requests.
-fn size_line(w: &[u8]) -> Line
+fn size_line(w: &[u8]) -> Result<Line, LineProblem>
     ensures { result ≡ buffer_line_if_up_to4096 w.now }
 {
     if w.len() == 0 {
-        return Line::Wrong(LineProblem { number: NUMBER });
+        return Err(LineProblem { number: NUMBER });
     }
     let mut n: usize = 0;
-    let mut i = 0;
-    while i < w.len() {
-        let d = basics::widen(digit(w[i]));
+    for c in w {
+        let d = usize::from(digit(*c));
         if 10 <= d {
-            return Line::Wrong(LineProblem { number: NUMBER });
+            return Err(LineProblem { number: NUMBER });
         }
         n = n * 10 + d;
         if LONGEST < n {
-            return Line::Wrong(LineProblem { number: NUMBER });
+            return Err(LineProblem { number: NUMBER });
         }
-        i += 1;
     }
-    Line::Buffer(LineBufferSize { bytes: n })
+    Ok(Line::Buffer(LineBufferSize { bytes: n }))
 }
 
 // Decodes pairs of hexadecimal digits with blanks between them into the front of `out`, up to the first
@@ -292,9 +257,9 @@ pub fn decode_hex(s: &[u8], out: &mut [u8]) -> HexDecoded
 {
     let mut rest = past_blanks(s);
     let mut n: usize = 0;
+    // Kept: the blanks between the pairs set each step's size, so that no iterator over chunks gives the pairs.
     while rest.len() != 0 {
-        let pair = pair_at(rest);
-        let HexPair::Byte(value) = pair else {
+        let Some(value) = pair_at(rest) else {
             return HexDecoded {
                 size: n,
                 problem: HEX,
@@ -306,7 +271,7 @@ pub fn decode_hex(s: &[u8], out: &mut [u8]) -> HexDecoded
                 problem: ROOM,
             };
         }
-        out[n] = value.byte;
+        out[n] = value;
         n += 1;
         rest = past_blanks(&rest[2..]);
     }
@@ -317,37 +282,29 @@ pub fn decode_hex(s: &[u8], out: &mut [u8]) -> HexDecoded
 }
 
 // The first two characters as a byte.
-fn pair_at(s: &[u8]) -> HexPair
+fn pair_at(s: &[u8]) -> Option<u8>
     ensures { result ≡ hex_pair_at_front s.now }
 {
-    if s.len() < 2 {
-        return HexPair::Broken;
+    let [a, b, ..] = s else {
+        return None;
+    };
+    let high = digit(*a);
+    let low = digit(*b);
+    if high < 16 && low < 16 {
+        Some(high * 16 + low)
+    } else {
+        None
     }
-    let high = digit(s[0]);
-    let low = digit(s[1]);
-    if 16 <= high {
-        return HexPair::Broken;
-    }
-    if 16 <= low {
-        return HexPair::Broken;
-    }
-    HexPair::Byte(HexByte {
-        byte: high * 16 + low,
-    })
 }
 
 // The value of a hexadecimal digit, and 16 for any other character.
 fn digit(c: u8) -> u8
     ensures { (result ≡ hex_digit_value_or16 c) × (result ≤ 16) }
 {
-    if basics::is_between(48, c, 57) {
-        return c - 48;
+    match c {
+        b'0'..=b'9' => c - b'0',
+        b'A'..=b'F' => c - b'A' + 10,
+        b'a'..=b'f' => c - b'a' + 10,
+        _ => 16,
     }
-    if basics::is_between(65, c, 70) {
-        return c - 55;
-    }
-    if basics::is_between(97, c, 102) {
-        return c - 87;
-    }
-    16
 }

@@ -2,10 +2,10 @@
 -- length's bytes its value, whatever is after them; so an encoded object is next with its own header, and its parts are
 -- those that were encoded.
 -- Assumes nothing.
+use Rattle.std.specs.Prelude.{Some}
 use mathlib.Core.Path.{◌≡◌, refl, sym, ap, ◌∙◌}
 use mathlib.Core.Bool.{true}
 use mathlib.Core.List.{List, [], ◌∷◌, ◌++◌, append_assoc}
-use mathlib.Core.Option.{some}
 use Prim.Native.Nat.{ℕ, zero, suc, ◌+◌, ◌*◌, ◌/◌, ◌%◌, ◌≤◌}
 use native.Mathlib.Numerals.{sub-one}
 use native.Mathlib.Omega.{arith}
@@ -15,7 +15,6 @@ use borrow.Author.Tests.{eqb-true}
 use Rattle.basics.specs.Choice.{if}
 use Rattle.basics.specs.Number.{append_big_endian_bytes, big_endian_number}
 use Rattle.basics.proofs.Laws.{if_yes, if_ind, both_right}
-use Rattle.tlv.specs.declared.ObjectFront.TheVariants.{Object}
 use Rattle.tlv.specs.declared.NextInTemplate.TheVariants.{Inner}
 use Rattle.tlv.specs.Tag.{tag_size, tag_parsed, tag_at}
 use Rattle.tlv.specs.Length.{length_after81, length_after82, length_parsed, length_at}
@@ -95,11 +94,11 @@ module _ (t : ℕ) (v r : List ℕ) where
   object_behind : behind_object bytes (tlv_header t start (length v)) ≡ r
   object_behind = sym (drop-drop (length v) start bytes) ∙ rw behind_header (drop-append_seam v r)
 
-  pub header_encoded : well_formed_tag t ≡ true → header_of bytes ≡ Object (tlv_header t start (length v))
+  pub header_encoded : well_formed_tag t ≡ true → header_of bytes ≡ Some (tlv_header t start (length v))
   header_encoded w =
       let k = length (tag_bytes t) in
-      header_with bytes _ _ refl (ap tag_at apart ∙ tag_encoded t (length_bytes (length v) ++ (v ++ r)) w)
-      _ refl _ (ap length_at (tail-is bytes k ∙ behind_tag) ∙ length_encoded (length v) (v ++ r))
+      header_with bytes _ (ap tag_at apart ∙ tag_encoded t (length_bytes (length v) ++ (v ++ r)) w) _
+      (ap length_at (tail-is bytes k ∙ behind_tag) ∙ length_encoded (length v) (v ++ r))
       ∙ with_whole bytes _ _ (simp length-append (omega arith))
 
   next_encoded : well_formed_tag t ≡ true → next_in_template bytes ≡ Inner (tlv_header t start (length v))
@@ -108,7 +107,7 @@ module _ (t : ℕ) (v r : List ℕ) where
 -- ---- a tree's bytes, padded or not
 
 pub parse_padded : {f : Forest} {s : List ℕ} → EncodesTreeWithPadding f s → (l : ℕ) → EncodableWithinLevels f l
-    → parse_tree l s ≡ some f
+    → parse_tree l s ≡ Some f
 parse_padded nothing l u = parse_end l [] (next-empty [] refl)
 parse_padded (padding p) l u = zeros_in_front 1 l _ ∙ parse_padded p l u
 parse_padded (primitive t v {r} {s} p) l u =
@@ -128,7 +127,7 @@ encode_padded (leaf t v r) l u = primitive t v (encode_padded r l u.3)
 encode_padded (node t f r) zero u = absurd u.3
 encode_padded (node t f r) (suc l) u = template t u.2 (encode_padded f l u.3) (encode_padded r (suc l) u.4)
 
-pub parse_encode : (f : Forest) (l : ℕ) → EncodableWithinLevels f l → parse_tree l (encode_tree f) ≡ some f
+pub parse_encode : (f : Forest) (l : ℕ) → EncodableWithinLevels f l → parse_tree l (encode_tree f) ≡ Some f
 parse_encode f l u = parse_padded (encode_padded f l u) l u
 
 pub passes_over : (s : List ℕ) → PaddingDoesNotChangeParse s

@@ -1,12 +1,11 @@
 -- Worked contents of templates, by computation: what is next after padding, and the trees of padded bytes.
 -- Assumes nothing.
+use Rattle.std.specs.Prelude.{None, Some}
 use mathlib.Core.Path.{◌≡◌, refl}
 use mathlib.Core.List.{[], ◌∷◌, map}
-use mathlib.Core.Option.{some, none}
 use Rattle.basics.specs.Choice.{if}
 use Rattle.basics.specs.Number.{append_big_endian_bytes}
 use Rattle.basics.specs.Recursion.{recurse_with_fuel_from_length, recurse_with_fuel}
-use Rattle.tlv.specs.declared.ObjectFront.{ObjectFront}
 use Rattle.tlv.specs.declared.NextInTemplate.TheVariants.{End, Inner, Malformed}
 use Rattle.tlv.specs.Tag.{tag_size, tag_size_from_second_byte, tag_size_from_third_byte, tag_at, tag_first_byte, is_template}
 use Rattle.tlv.specs.Tag.{is_private}
@@ -30,7 +29,7 @@ unfolding next_in_template header_of tag_at tag_size tag_size_from_second_byte t
 next = refl
 
 -- the object at the front of bytes is none after padding
-front : header_of (0x00 ∷ 0x95 ∷ 0x00 ∷ []) ≡ ObjectFront.Broken
+front : header_of (0x00 ∷ 0x95 ∷ 0x00 ∷ []) ≡ None
 unfolding header_of tag_at tag_size if
 front = refl
 
@@ -45,7 +44,7 @@ trees : map (parse_tree 1)
     ∷ (0xE1 ∷ 0x02 ∷ 0x00 ∷ 0x00 ∷ 0x00 ∷ [])
     ∷ (0xE1 ∷ 0x06 ∷ 0x00 ∷ 0x95 ∷ 0x01 ∷ 0x00 ∷ 0x00 ∷ 0x00 ∷ 0x00 ∷ 0x95 ∷ 0x01 ∷ 0x00 ∷ [])
     ∷ [])
-    ≡ some one ∷ some one ∷ some (leaf 0x9C [] one) ∷ some (node 0xE1 end end) ∷ some (node 0xE1 one one) ∷ []
+    ≡ Some one ∷ Some one ∷ Some (leaf 0x9C [] one) ∷ Some (node 0xE1 end end) ∷ Some (node 0xE1 one one) ∷ []
 unfolding parse_tree recurse_with_fuel_from_length recurse_with_fuel next_in_template prepend_leaf prepend_node header_of tag_at
     tag_size length_at tag_first_byte is_template is_private append_big_endian_bytes if
 trees = refl
@@ -56,7 +55,7 @@ inside : map (parse_tree 1)
     ∷ (0x95 ∷ 0x00 ∷ 0x01 ∷ 0x00 ∷ [])
     ∷ (0x95 ∷ 0x02 ∷ 0x00 ∷ [])
     ∷ [])
-    ≡ none ∷ some (leaf 0x95 [] (leaf 0x01 [] end)) ∷ none ∷ []
+    ≡ None ∷ Some (leaf 0x95 [] (leaf 0x01 [] end)) ∷ None ∷ []
 unfolding parse_tree recurse_with_fuel_from_length recurse_with_fuel next_in_template prepend_leaf prepend_node header_of tag_at
     tag_size tag_size_from_second_byte length_at tag_first_byte is_template is_private append_big_endian_bytes if
 inside = refl

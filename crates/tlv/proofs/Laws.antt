@@ -2,6 +2,7 @@
 -- places, so each has its form by places first; then what lies inside the list, the first byte of a tag, and each way
 -- out of the code.
 -- Assumes nothing.
+use Rattle.std.specs.Prelude.{Option, Some, None}
 use mathlib.Core.Path.{◌≡◌, refl, sym, ap, ◌∙◌}
 use mathlib.Core.Bool.{false}
 use mathlib.Core.List.{List, [], ◌∷◌}
@@ -16,14 +17,8 @@ use Rattle.basics.specs.Choice.{if}
 use Rattle.basics.specs.Number.{append_big_endian_bytes, big_endian_number, has_bit_of_weight}
 use Rattle.basics.proofs.Laws.{if_yes, if_no, if_ind}
 use Rattle.tlv.specs.declared.Tag.{Tag}
-use Rattle.tlv.specs.declared.TagFront.{TagFront}
-use Rattle.tlv.specs.declared.TagFront.TheVariants.{Tagged, Untagged}
 use Rattle.tlv.specs.declared.TlvLength.{TlvLength}
-use Rattle.tlv.specs.declared.LengthFront.{LengthFront}
-use Rattle.tlv.specs.declared.LengthFront.TheVariants.{Sized, Unsized}
 use Rattle.tlv.specs.declared.TlvHeader.{TlvHeader}
-use Rattle.tlv.specs.declared.ObjectFront.{ObjectFront}
-use Rattle.tlv.specs.declared.ObjectFront.TheVariants.{Object, Broken}
 use Rattle.tlv.specs.Tag.{tag_first_byte_continues, tag_later_byte_continues, tag_size_from_third_byte}
 use Rattle.tlv.specs.Tag.{tag_size_from_second_byte, tag_size, tag_parsed, tag_at, tag_first_byte, is_template, is_private}
 use Rattle.tlv.specs.Length.{length_parsed, length_after81, length_after82, length_at}
@@ -56,14 +51,14 @@ tag_size_by (a ∷ b ∷ c ∷ s) = simp (
 )
 
 -- what is left to test of a length once its first byte is no length itself
-abbrev pub from_long : List ℕ → LengthFront
+abbrev pub from_long : List ℕ → Option TlvLength
 from_long s =
-    if (eqb (get_or s 0 0) 0x81) (if (ltb (length s) 2) Unsized (length_parsed (get_or s 1 0) 2))
-    (if (eqb (get_or s 0 0) 0x82) (if (ltb (length s) 3) Unsized (length_parsed (get_or s 1 0 * 256 + get_or s 2 0) 3))
-    Unsized)
+    if (eqb (get_or s 0 0) 0x81) (if (ltb (length s) 2) None (length_parsed (get_or s 1 0) 2))
+    (if (eqb (get_or s 0 0) 0x82) (if (ltb (length s) 3) None (length_parsed (get_or s 1 0 * 256 + get_or s 2 0) 3))
+    None)
 
 pub length_by : (s : List ℕ)
-    → length_at s ≡ if (ltb (length s) 1) Unsized (if (ltb (get_or s 0 0) 0x80) (length_parsed (get_or s 0 0) 1) (from_long s))
+    → length_at s ≡ if (ltb (length s) 1) None (if (ltb (get_or s 0 0) 0x80) (length_parsed (get_or s 0 0) 1) (from_long s))
 unfolding length_at length_after81 length_after82 if
 length_by [] = refl
 length_by (a ∷ []) = refl
@@ -97,7 +92,7 @@ number_three (a ∷ []) h = absurd (omega arith)
 number_three (a ∷ b ∷ []) h = absurd (omega arith)
 number_three (a ∷ b ∷ c ∷ s) h = omega arith
 
-pub tag_none : (s : List ℕ) (k : ℕ) → k ≡ tag_size s → k ≡ 0 → tag_at s ≡ Untagged
+pub tag_none : (s : List ℕ) (k : ℕ) → k ≡ tag_size s → k ≡ 0 → tag_at s ≡ None
 unfolding tag_at
 tag_none s k p q = if_yes _ _ (eq-eqb (tag_size s) 0 (sym p ∙ q))
 
@@ -132,9 +127,9 @@ pub record TagFits (s : List ℕ) (t : Tag) : Type 0 where
   pub is : t.size ≡ tag_size s
   pub reads : t.number ≡ big_endian_number (take t.size s)
 
-abbrev TagOk : List ℕ → TagFront → Type 0
-TagOk s Untagged = Unit {0}
-TagOk s (Tagged t) = TagFits s t
+abbrev TagOk : List ℕ → Option Tag → Type 0
+TagOk s None = Unit {0}
+TagOk s (Some t) = TagFits s t
 
 tag_ok : (s : List ℕ) → TagOk s (tag_at s)
 unfolding tag_at
@@ -143,7 +138,7 @@ tag_ok s =
     (λ e. let n = eqb-false (tag_size s) 0 e in let i = size_inside s in
     record { some = omega arith; few = i.0; inside = i.1; is = refl; reads = refl })
 
-pub tag_fits : (s : List ℕ) (t : Tag) → tag_at s ≡ Tagged t → TagFits s t
+pub tag_fits : (s : List ℕ) (t : Tag) → tag_at s ≡ Some t → TagFits s t
 tag_fits s t e = rw e at (tag_ok s)
 
 -- a whole length: one to three bytes of the list
@@ -152,9 +147,9 @@ pub record LengthFits (s : List ℕ) (e : TlvLength) : Type 0 where
   pub few : e.size ≤ 3
   pub inside : e.size ≤ length s
 
-abbrev LengthOk : List ℕ → LengthFront → Type 0
-LengthOk s Unsized = Unit {0}
-LengthOk s (Sized e) = LengthFits s e
+abbrev LengthOk : List ℕ → Option TlvLength → Type 0
+LengthOk s None = Unit {0}
+LengthOk s (Some e) = LengthFits s e
 
 length_ok : (s : List ℕ) → LengthOk s (length_at s)
 length_ok s =
@@ -170,19 +165,19 @@ length_ok s =
     (λ b. record { some = omega arith; few = omega arith; inside = omega (arith, ltb-false) }))
     (λ _. tt)))))
 
-pub length_fits : (s : List ℕ) (e : TlvLength) → length_at s ≡ Sized e → LengthFits s e
+pub length_fits : (s : List ℕ) (e : TlvLength) → length_at s ≡ Some e → LengthFits s e
 length_fits s e p = rw p at (length_ok s)
 
 -- every entry is a byte (past its end a list reads as 0)
 abbrev pub Bytes : List ℕ → Type 0
 Bytes s = (i : ℕ) → get_or s i 0 < 256
 
-abbrev Small : LengthFront → Type 0
-Small Unsized = Unit {0}
-Small (Sized e) = e.len < 0x10000
+abbrev Small : Option TlvLength → Type 0
+Small None = Unit {0}
+Small (Some e) = e.len < 0x10000
 
 -- a length of bytes is below 65,536
-pub length_small : (s : List ℕ) (e : TlvLength) → Bytes s → length_at s ≡ Sized e → e.len < 0x10000
+pub length_small : (s : List ℕ) (e : TlvLength) → Bytes s → length_at s ≡ Some e → e.len < 0x10000
 length_small s e b p = rw p at small
   where
     small : Small (length_at s)
@@ -200,24 +195,36 @@ pub record HeaderFits (s : List ℕ) (h : TlvHeader) : Type 0 where
   pub inside : h.start + h.len ≤ length s
   pub whole : h ≡ tlv_header h.tag h.start h.len
 
-abbrev HeaderOk : List ℕ → ObjectFront → Type 0
-HeaderOk s Broken = Unit {0}
-HeaderOk s (Object h) = HeaderFits s h
+abbrev HeaderOk : List ℕ → Option TlvHeader → Type 0
+HeaderOk s None = Unit {0}
+HeaderOk s (Some h) = HeaderFits s h
 
-with_length_ok : (s : List ℕ) (t : Tag) (x : LengthFront) → TagFits s t → LengthOk (drop t.size s) x
+with_length_ok : (s : List ℕ) (t : Tag) (x : Option TlvLength) → TagFits s t → LengthOk (drop t.size s) x
     → HeaderOk s (header_with_length s t x)
-with_length_ok s t Unsized f g = tt
-with_length_ok s t (Sized e) f g =
+with_length_ok s t None f g = tt
+with_length_ok s t (Some e) f g =
     if_ind (HeaderOk s) _ _ _ (λ l. record { two = omega arith; inside = omega (arith, leb-true); whole = refl })
     (λ _. tt)
 
-with_tag_ok : (s : List ℕ) (x : TagFront) → TagOk s x → HeaderOk s (header_with_tag s x)
-with_tag_ok s Untagged f = tt
-with_tag_ok s (Tagged t) f = with_length_ok s t (length_at (drop t.size s)) f (length_ok (drop t.size s))
+with_tag_ok : (s : List ℕ) (x : Option Tag) → TagOk s x → HeaderOk s (header_with_tag s x)
+with_tag_ok s None f = tt
+with_tag_ok s (Some t) f = with_length_ok s t (length_at (drop t.size s)) f (length_ok (drop t.size s))
 
-pub header_fits : (s : List ℕ) (h : TlvHeader) → header_of s ≡ Object h → HeaderFits s h
+pub header_fits : (s : List ℕ) (h : TlvHeader) → header_of s ≡ Some h → HeaderFits s h
 unfolding header_of
 header_fits s h e = rw e at (with_tag_ok s (tag_at s) (tag_ok s))
+
+-- ---- the tag by its count of bytes
+
+pub tag_one : (s : List ℕ) → tag_size s ≡ 1 → tag_at s ≡ tag_parsed (get_or s 0 0) 1
+tag_one s e = tag_some s 1 (sym e) (λ z. omega arith) ∙ rw (number_one s)
+
+pub tag_two : (s : List ℕ) → tag_size s ≡ 2 → tag_at s ≡ tag_parsed (get_or s 0 0 * 256 + get_or s 1 0) 2
+tag_two s e = let i = size_inside s in tag_some s 2 (sym e) (λ z. omega arith) ∙ rw (number_two s (omega arith))
+
+pub tag_three : (s : List ℕ) → tag_size s ≡ 3
+    → tag_at s ≡ tag_parsed ((get_or s 0 0 * 256 + get_or s 1 0) * 256 + get_or s 2 0) 3
+tag_three s e = let i = size_inside s in tag_some s 3 (sym e) (λ z. omega arith) ∙ rw (number_three s (omega arith))
 
 -- ---- the first byte of a number
 
@@ -250,18 +257,18 @@ first_of s (suc (suc (suc zero))) b f h k n =
 first_of s (suc (suc (suc (suc k)))) b f h k' n = absurd (omega arith)
 
 -- where a whole tag is at the front of bytes, the first byte of its number is the first of them
-pub first_byte_is : (s : List ℕ) (t : Tag) → Bytes s → tag_at s ≡ Tagged t → tag_first_byte t.number ≡ get_or s 0 0
+pub first_byte_is : (s : List ℕ) (t : Tag) → Bytes s → tag_at s ≡ Some t → tag_first_byte t.number ≡ get_or s 0 0
 first_byte_is s t b e =
     let f = tag_fits s t e in
     rw f.reads (first_of s t.size b (starts s (λ z. omega arith)) f.few f.inside (omega arith))
 
 -- so the tests on a tag's number are tests on that byte
-pub template_is : (s : List ℕ) (t : Tag) → Bytes s → tag_at s ≡ Tagged t
+pub template_is : (s : List ℕ) (t : Tag) → Bytes s → tag_at s ≡ Some t
     → is_template t.number ≡ has_bit_of_weight (get_or s 0 0) 32
 unfolding is_template
 template_is s t b e = rw (first_byte_is s t b e)
 
-pub private_is : (s : List ℕ) (t : Tag) → Bytes s → tag_at s ≡ Tagged t → is_private t.number ≡ eqb (get_or s 0 0 / 64) 3
+pub private_is : (s : List ℕ) (t : Tag) → Bytes s → tag_at s ≡ Some t → is_private t.number ≡ eqb (get_or s 0 0 / 64) 3
 unfolding is_private
 private_is s t b e = rw (first_byte_is s t b e)
 
@@ -281,18 +288,18 @@ tail-is s e = take_all (length s - e) (drop e s) (simp length-drop (le_refl _))
 
 -- ---- a header as the code reads it: the tag x, then the length y in the bytes after it
 
-pub header_untagged : (s : List ℕ) (x : TagFront) → x ≡ tag_at s → x ≡ Untagged → header_of s ≡ Broken
+pub header_untagged : (s : List ℕ) → tag_at s ≡ None → header_of s ≡ None
 unfolding header_of
-header_untagged s x p q = rw (← p, q)
+header_untagged s e = rw e
 
 pub with_whole : (s : List ℕ) (t : Tag) (e : TlvLength) → t.size + e.size + e.len ≤ length s
-    → header_with_length s t (Sized e) ≡ Object (tlv_header t.number (t.size + e.size) e.len)
+    → header_with_length s t (Some e) ≡ Some (tlv_header t.number (t.size + e.size) e.len)
 with_whole s t e h = if_yes _ _ (le-leb (t.size + e.size + e.len) (length s) h)
 
 -- both were read from bytes: what is left is a test, on small numbers, whether the value lies inside, and the class by
 -- the first byte
 pub record HeaderRead (s : List ℕ) (t : Tag) (e : TlvLength) : Type 0 where
-  pub is : header_of s ≡ header_with_length s t (Sized e)
+  pub is : header_of s ≡ header_with_length s t (Some e)
   pub some : 1 ≤ length s
   pub small : t.size + e.size + e.len < 0x10006
   pub template : is_template t.number ≡ has_bit_of_weight (get_or s 0 0) 32
@@ -300,7 +307,7 @@ pub record HeaderRead (s : List ℕ) (t : Tag) (e : TlvLength) : Type 0 where
 
 module _ {s : List ℕ} {t : Tag} {e : TlvLength} (r : HeaderRead s t e) where
   pub header_whole : t.size + e.size + e.len ≤ length s → header_of s ≡
-      Object (record {
+      Some (record {
         tag = t.number;
         start = t.size + e.size;
         len = e.len;
@@ -310,24 +317,22 @@ module _ {s : List ℕ} {t : Tag} {e : TlvLength} (r : HeaderRead s t e) where
       })
   header_whole h = r.is ∙ with_whole s t e h ∙ rw (r.template, r.private)
 
-  pub header_short : length s < t.size + e.size + e.len → header_of s ≡ Broken
+  pub header_short : length s < t.size + e.size + e.len → header_of s ≡ None
   header_short h = r.is ∙ if_no _ _ (lt-leb (t.size + e.size + e.len) (length s) h)
 
-module _ (s : List ℕ) (x : TagFront) (t : Tag) (p : x ≡ tag_at s) (q : x ≡ Tagged t) (y : LengthFront)
-    (g : y ≡ length_at (tail s t.size)) where
-  pub header_with : (z : LengthFront) → y ≡ z → header_of s ≡ header_with_length s t z
+module _ (s : List ℕ) (t : Tag) (told : tag_at s ≡ Some t) where
+  pub header_with : (x : Option TlvLength) → length_at (tail s t.size) ≡ x → header_of s ≡ header_with_length s t x
   unfolding header_of
-  header_with z h = rw (← p, q, ← (tail-is s t.size), ← g, h)
+  header_with x h = rw (told, ← (tail-is s t.size), h)
 
-  pub header_read : Bytes s → (e : TlvLength) → y ≡ Sized e → HeaderRead s t e
+  pub header_read : Bytes s → (e : TlvLength) → length_at (tail s t.size) ≡ Some e → HeaderRead s t e
   header_read b e h =
-      let told = sym p ∙ q in
       let f = tag_fits s t told in
-      let z : length_at (drop t.size s) ≡ Sized e = ap length_at (sym (tail-is s t.size)) ∙ sym g ∙ h in
+      let z : length_at (drop t.size s) ≡ Some e = ap length_at (sym (tail-is s t.size)) ∙ h in
       let l = length_fits (drop t.size s) e z in
       let n = length_small (drop t.size s) e (λ i. rw (get_or-drop t.size s i 0) (b (t.size + i))) z in
       record {
-        is = header_with (Sized e) h;
+        is = header_with (Some e) h;
         some = omega arith;
         small = omega arith;
         template = template_is s t b told;

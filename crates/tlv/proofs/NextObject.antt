@@ -2,11 +2,13 @@
 -- then what is next is after it, one place further on (`next_zero`), or it is not, and then it is the object at the
 -- front (`next-first`).
 -- Assumes nothing.
+use Rattle.std.specs.Prelude.{Option, Some, None, ◌==◌, take_while}
+use Rattle.std.specs.List.{prefix_len}
+use Rattle.std.proofs.lemmas.List.Folds.{length-prefix_len}
 use mathlib.Core.Path.{◌≡◌, refl, sym, ap, subst, subst⁻¹, ◌∙◌}
 use mathlib.Core.Logic.{◌↔◌}
 use mathlib.Core.List.{List, [], ◌∷◌, ◌++◌}
 use Prim.Native.Nat.{ℕ, zero, suc, ◌+◌, ◌≤◌, ◌<◌}
-use native.Mathlib.Numerals.{add-one}
 use native.Mathlib.Omega.{arith}
 use lib.ListN.{length, get_or, drop, replicate, drop_of_length-le}
 use lib.Seq.{drop-cons}
@@ -14,14 +16,13 @@ use borrow.Author.Tests.{ne_eqb}
 use Rattle.basics.specs.Choice.{if}
 use Rattle.basics.proofs.Laws.{if_no}
 use Rattle.tlv.specs.declared.TlvHeader.{TlvHeader}
-use Rattle.tlv.specs.declared.ObjectFront.{ObjectFront}
-use Rattle.tlv.specs.declared.ObjectFront.TheVariants.{Object, Broken}
 use Rattle.tlv.specs.declared.NextInTemplate.{NextInTemplate}
 use Rattle.tlv.specs.declared.NextInTemplate.TheVariants.{End, Inner, Malformed}
 use Rattle.tlv.specs.Tag.{tag_size, tag_at}
 use Rattle.tlv.specs.Object.{header_of, header_shifted}
 use Rattle.tlv.specs.Tree.{next_in_template_of_front, next_in_template_shifted, next_in_template}
-use Rattle.tlv.proofs.Laws.{HeaderFits, header_fits}
+use Rattle.tlv.specs.Padding.{LeadingPaddingEndsAt}
+use Rattle.tlv.proofs.Laws.{HeaderFits, header_fits, tail, tail-is}
 use Rattle.tlv.proofs.Prefix.{header_kept}
 
 -- ---- so many places further on
@@ -57,21 +58,37 @@ next-empty (b ∷ s) e = absurd (omega arith)
 
 -- ---- as the code reads it: a place up to which all bytes are padding
 
-module _ (s : List ℕ) (i : ℕ) where
-  pub passed_all : length s ≤ i → next_in_template_shifted i (next_in_template (drop i s)) ≡ End
-  passed_all h = rw (drop_of_length-le s h, next-empty [] refl)
+-- at the place that padding ends at: nothing more, or the object there
+module _ (s : List ℕ) (i : ℕ) (p : LeadingPaddingEndsAt s i) where
+  pub passed_all : length s ≤ i → next_in_template s ≡ End
+  passed_all h = p.next ∙ rw (drop_of_length-le s h, next-empty [] refl)
 
-  module _ (h : i < length s) where
-    pub pass_zero : get_or s i 0 ≡ 0 → next_in_template_shifted i (next_in_template (drop i s)) ≡ next_in_template_shifted (i + 1)
-        (next_in_template (drop (i + 1) s))
-    pass_zero z = rw (add-one, drop-cons s i 0 h, z, next_zero (drop (suc i) s))
-        (rw add-one at (moved_twice i 1 (next_in_template (drop (suc i) s))))
+  pub stop_at : i < length s → (x : Option TlvHeader) → header_of (tail s i) ≡ x
+      → next_in_template s ≡ next_in_template_shifted i (next_in_template_of_front x)
+  stop_at h x e =
+      let d = drop-cons s i 0 h in
+      p.next ∙ ap (next_in_template_shifted i) (ap next_in_template d ∙ next-first (get_or s i 0) (drop (suc i) s)
+      (p.stops h) ∙ ap next_in_template_of_front (ap header_of (sym d ∙ sym (tail-is s i)) ∙ e))
 
-    pub stop_at : (get_or s i 0 ≡ 0 → ⊥) → next_in_template (drop i s) ≡ next_in_template_of_front (header_of (drop i s))
-    stop_at n =
-        let d = drop-cons s i 0 h in
-        ap next_in_template d ∙ next-first (get_or s i 0) (drop (suc i) s) n ∙ ap
-        (λ (r : List ℕ). next_in_template_of_front (header_of r)) (sym d)
+-- padding ends at the front where no 00 is there, else after as many bytes as are 00
+pub no_padding : (s : List ℕ) → (0 < length s → get_or s 0 0 ≡ 0 → ⊥) → LeadingPaddingEndsAt s 0
+no_padding s n = record { inside = omega arith; next = sym (moved_zero _); stops = n }
+
+zeros_end : (s : List ℕ) → LeadingPaddingEndsAt s (prefix_len (λ b. b == 0) s)
+zeros_end [] = no_padding [] (λ h e. omega arith)
+zeros_end (zero ∷ s) =
+    let p = zeros_end s in
+    let k = prefix_len (λ b. b == 0) s in
+    let e : 1 + k ≡ suc k = omega arith in
+    record {
+      inside = omega arith;
+      next = next_zero s ∙ ap (next_in_template_shifted 1) p.next ∙ moved_twice 1 k (next_in_template (drop k s)) ∙ rw e;
+      stops = rw e (λ h. p.stops (omega arith));
+    }
+zeros_end (suc b ∷ s) = rw (ne_eqb (suc b) 0 (λ z. omega arith)) (no_padding (suc b ∷ s) (λ h e. omega arith))
+
+pub padding_ends : (s : List ℕ) → LeadingPaddingEndsAt s (length (take_while (λ b. b == 0) s))
+padding_ends s = rw (length-prefix_len (λ b. b == 0) s) (zeros_end s)
 
 -- ---- what the parse needs
 
@@ -80,9 +97,9 @@ moved_ends End e = refl
 moved_ends Malformed e = cc
 moved_ends (Inner h) e = cc
 
-front_ends : (x : ObjectFront) → next_in_template_of_front x ≡ End → ⊥
-front_ends Broken e = let z : ◌≡◌ {A = ℕ} 0 1 = cc in omega arith
-front_ends (Object h) e = let z : ◌≡◌ {A = ℕ} 0 1 = cc in omega arith
+front_ends : (x : Option TlvHeader) → next_in_template_of_front x ≡ End → ⊥
+front_ends None e = let z : ◌≡◌ {A = ℕ} 0 1 = cc in omega arith
+front_ends (Some h) e = let z : ◌≡◌ {A = ℕ} 0 1 = cc in omega arith
 
 -- nothing is next exactly where nothing but padding is left
 pub next-end : (s : List ℕ) → next_in_template s ≡ End ↔ s ≡ replicate (length s) 0
@@ -101,18 +118,18 @@ next_zeros zero = next-empty [] refl
 next_zeros (suc n) = next_zero (replicate n 0) ∙ ap (next_in_template_shifted 1) (next_zeros n)
 
 -- an object at the front is next, and no object begins with padding
-zero_broken : (s : List ℕ) → header_of (0 ∷ s) ≡ Broken
+zero_broken : (s : List ℕ) → header_of (0 ∷ s) ≡ None
 unfolding header_of tag_at tag_size if
 zero_broken s = refl
 
-pub next_object : (s : List ℕ) (h : TlvHeader) → header_of s ≡ Object h → next_in_template s ≡ Inner h
+pub next_object : (s : List ℕ) (h : TlvHeader) → header_of s ≡ Some h → next_in_template s ≡ Inner h
 next_object [] h e = let f = header_fits [] h e in absurd (omega arith)
 next_object (zero ∷ s) h e = cc (zero_broken s)
 next_object (suc b ∷ s) h e = next-first (suc b) s (λ z. omega arith) ∙ ap next_in_template_of_front e
 
-front_object : (x : ObjectFront) (h : TlvHeader) → next_in_template_of_front x ≡ Inner h → x ≡ Object h
-front_object Broken h e = cc
-front_object (Object k) h e = cc
+front_object : (x : Option TlvHeader) (h : TlvHeader) → next_in_template_of_front x ≡ Inner h → x ≡ Some h
+front_object None h e = cc
+front_object (Some k) h e = cc
 
 -- the next object lies inside its list and takes two bytes at least; its class is its tag's
 moved_fits : (s : List ℕ) (h : TlvHeader) (x : NextInTemplate) → next_in_template_shifted 1 x ≡ Inner h
@@ -148,9 +165,9 @@ moved_join s r End j =
     next_zero (s ++ r) ∙ ap (next_in_template_shifted 1) j ∙ moved_twice 1 (length s) (next_in_template r) ∙ ap
     (λ (n : ℕ). next_in_template_shifted n (next_in_template r)) e
 
-front_join : (s r : List ℕ) (x : ObjectFront) → header_of s ≡ x → Joined s r (next_in_template_of_front x)
-front_join s r Broken e = tt
-front_join s r (Object h) e = next_object (s ++ r) h (header_kept s r h e)
+front_join : (s r : List ℕ) (x : Option TlvHeader) → header_of s ≡ x → Joined s r (next_in_template_of_front x)
+front_join s r None e = tt
+front_join s r (Some h) e = next_object (s ++ r) h (header_kept s r h e)
 
 next_joined : (s r : List ℕ) → Joined s r (next_in_template s)
 next_joined [] r = subst⁻¹ (Joined [] r) (next-empty [] refl) (sym (moved_zero (next_in_template r)))

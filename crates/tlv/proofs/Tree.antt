@@ -2,11 +2,11 @@
 -- law for each way out of a step, one induction over a parse that succeeds (`parse_ind`), and from it joining, counting
 -- and deeper levels. Padding is a run of no object, so it can be joined before and after.
 -- Assumes nothing.
+use Rattle.std.specs.Prelude.{Option, Some, None}
 use mathlib.Core.Path.{◌≡◌, refl, sym, ap, ap₂, subst, ◌∙◌}
 use mathlib.Core.Bool.{true, false}
 use mathlib.Core.Logic.{◌⊎◌, inl, inr}
 use mathlib.Core.List.{List, ◌++◌}
-use mathlib.Core.Option.{Option, some, none}
 use Prim.Native.Nat.{ℕ, zero, suc, ◌+◌, ◌-◌, ◌*◌, ◌≤◌, ◌<◌}
 use native.Mathlib.Numerals.{sub-one}
 use native.Mathlib.Omega.{arith}
@@ -65,7 +65,7 @@ next_same k k' s same = λ i l. object_same (λ m v. k v m) (λ m v. k' v m) l s
 
 pub unroll : (l : ℕ) (s : List ℕ) → parse_tree l s ≡ forest_of_object_then_rest parse_tree l s (next_in_template s)
 unfolding parse_tree
-unroll l s = ap (λ (p : ℕ → Option Forest). p l) (recurse_unroll (λ l. none) parse_tree_step next_same s)
+unroll l s = ap (λ (p : ℕ → Option Forest). p l) (recurse_unroll (λ l. None) parse_tree_step next_same s)
 
 -- ---- one law for each way out of a step
 
@@ -73,13 +73,13 @@ at : (l : ℕ) (s : List ℕ) (x : NextInTemplate) → next_in_template s ≡ x 
     l s x
 at l s x e = unroll l s ∙ ap (forest_of_object_then_rest parse_tree l s) e
 
-pub parse_end : (l : ℕ) (s : List ℕ) → next_in_template s ≡ End → parse_tree l s ≡ some end
+pub parse_end : (l : ℕ) (s : List ℕ) → next_in_template s ≡ End → parse_tree l s ≡ Some end
 parse_end l s e = at l s End e
 
-pub parse_malformed : (l : ℕ) (s : List ℕ) → next_in_template s ≡ Malformed → parse_tree l s ≡ none
+pub parse_malformed : (l : ℕ) (s : List ℕ) → next_in_template s ≡ Malformed → parse_tree l s ≡ None
 parse_malformed l s e = at l s Malformed e
 
-nested_deep : (l t : ℕ) (v r : List ℕ) → l ≡ 0 → forest_of_template_then_rest parse_tree l t v r ≡ none
+nested_deep : (l t : ℕ) (v r : List ℕ) → l ≡ 0 → forest_of_template_then_rest parse_tree l t v r ≡ None
 nested_deep zero t v r z = refl
 nested_deep (suc l) t v r z = absurd (omega arith)
 
@@ -90,7 +90,7 @@ nested_at (suc l) t v r n = rw (sub-one (suc l))
 
 module _ (l : ℕ) (s : List ℕ) (h : TlvHeader) (e : next_in_template s ≡ Inner h) where
   -- a template with no level left
-  pub parse_deep : h.template ≡ true → l ≡ 0 → parse_tree l s ≡ none
+  pub parse_deep : h.template ≡ true → l ≡ 0 → parse_tree l s ≡ None
   parse_deep t z = at l s (Inner h) e ∙ if_yes _ _ t ∙ nested_deep l _ _ _ z
 
   -- a template: its contents with a level less, and what is after it
@@ -109,13 +109,13 @@ zero_cases (suc n) = inr (λ z. omega arith)
 
 -- ---- a run after an object
 
-pub with_leaf : (t : ℕ) (v : List ℕ) (x : Option Forest) (r : Forest) → x ≡ some r
-    → prepend_leaf t v x ≡ some (leaf t v r)
+pub with_leaf : (t : ℕ) (v : List ℕ) (x : Option Forest) (r : Forest) → x ≡ Some r
+    → prepend_leaf t v x ≡ Some (leaf t v r)
 unfolding prepend_leaf
 with_leaf t v x r e = rw e
 
-pub with_node : (t : ℕ) (x y : Option Forest) (f r : Forest) → x ≡ some f → y ≡ some r
-    → prepend_node t x y ≡ some (node t f r)
+pub with_node : (t : ℕ) (x y : Option Forest) (f r : Forest) → x ≡ Some f → y ≡ Some r
+    → prepend_node t x y ≡ Some (node t f r)
 unfolding prepend_node
 with_node t x y f r p q = rw (p, q)
 
@@ -125,39 +125,39 @@ module _
     (P : ℕ → List ℕ → Forest → Type 0)
     (at-end : (l : ℕ) (s : List ℕ) → next_in_template s ≡ End → P l s end)
     (at_leaf : (l : ℕ) (s : List ℕ) (h : TlvHeader) (r : Forest) → next_in_template s ≡ Inner h → h.template ≡ false
-    → parse_tree l (behind_object s h) ≡ some r → P l (behind_object s h) r → P l s (leaf h.tag (header_value s h) r))
+    → parse_tree l (behind_object s h) ≡ Some r → P l (behind_object s h) r → P l s (leaf h.tag (header_value s h) r))
     (at_node : (l : ℕ) (s : List ℕ) (h : TlvHeader) (f r : Forest) → next_in_template s ≡ Inner h → h.template ≡ true
     → (l ≡ 0 → ⊥)
-    → parse_tree (l - 1) (header_value s h) ≡ some f → P (l - 1) (header_value s h) f → parse_tree l (behind_object s h)
-    ≡ some r → P l (behind_object s h) r
+    → parse_tree (l - 1) (header_value s h) ≡ Some f → P (l - 1) (header_value s h) f → parse_tree l (behind_object s h)
+    ≡ Some r → P l (behind_object s h) r
     → P l s (node h.tag f r))
   where
     Holds : List ℕ → Type 0
-    Holds s = (l : ℕ) (f : Forest) → parse_tree l s ≡ some f → P l s f
+    Holds s = (l : ℕ) (f : Forest) → parse_tree l s ≡ Some f → P l s f
 
     module _ (s : List ℕ) (before : (v : List ℕ) → length v < length s → Holds v) (l : ℕ) (g : Forest)
-        (e : parse_tree l s ≡ some g) where
+        (e : parse_tree l s ≡ Some g) where
       -- what the parse gives is the tree in hand, and it gives one
-      this : (f : Forest) → parse_tree l s ≡ some f → P l s f → P l s g
+      this : (f : Forest) → parse_tree l s ≡ Some f → P l s f → P l s g
       this f p h = let q : f ≡ g = cc in subst (P l s) q h
 
-      never : parse_tree l s ≡ none → P l s g
+      never : parse_tree l s ≡ None → P l s g
       never p = let z : ◌≡◌ {A = ℕ} 0 1 = cc in absurd (omega arith)
 
       of_leaf : (h : TlvHeader) → next_in_template s ≡ Inner h → h.template ≡ false → (x : Option Forest)
           → parse_tree l (behind_object s h) ≡ x → P l s g
       unfolding prepend_leaf Holds
-      of_leaf h p t none q = never (parse_leaf l s h p t ∙ rw q)
-      of_leaf h p t (some r) q =
+      of_leaf h p t None q = never (parse_leaf l s h p t ∙ rw q)
+      of_leaf h p t (Some r) q =
           this _ (parse_leaf l s h p t ∙ rw q)
           (at_leaf l s h r p t q (before (behind_object s h) (shorter_behind (next_fits s h p)) l r q))
 
       of_node : (h : TlvHeader) → next_in_template s ≡ Inner h → h.template ≡ true → (l ≡ 0 → ⊥) → (x y : Option Forest)
           → parse_tree (l - 1) (header_value s h) ≡ x → parse_tree l (behind_object s h) ≡ y → P l s g
       unfolding prepend_node Holds
-      of_node h p t n none y q r = never (parse_node l s h p t n ∙ rw q)
-      of_node h p t n (some f) none q r = never (parse_node l s h p t n ∙ rw (q, r))
-      of_node h p t n (some f) (some b) q r =
+      of_node h p t n None y q r = never (parse_node l s h p t n ∙ rw q)
+      of_node h p t n (Some f) None q r = never (parse_node l s h p t n ∙ rw (q, r))
+      of_node h p t n (Some f) (Some b) q r =
           let i = next_fits s h p in
           this _ (parse_node l s h p t n ∙ rw (q, r))
           (at_node l s h f b p t n q (before (header_value s h) (shorter_value i) (l - 1) f q) r
@@ -171,13 +171,13 @@ module _
         | inr t ↦ of_leaf h p t _ refl
       ]
 
-    pub parse_ind : (l : ℕ) (s : List ℕ) (f : Forest) → parse_tree l s ≡ some f → P l s f
+    pub parse_ind : (l : ℕ) (s : List ℕ) (f : Forest) → parse_tree l s ≡ Some f → P l s f
     unfolding Holds
     parse_ind l s f e = shorter_first Holds (λ s before l f e. of_next s before l f e (next_in_template s) refl) s l f e
 
 -- ---- an object takes two bytes at least, so there are at most half as many as bytes
 
-pub parse_count : (l : ℕ) (s : List ℕ) (f : Forest) → parse_tree l s ≡ some f → 2 * object_count f ≤ length s
+pub parse_count : (l : ℕ) (s : List ℕ) (f : Forest) → parse_tree l s ≡ Some f → 2 * object_count f ≤ length s
 unfolding object_count
 parse_count l s f =
     parse_ind (λ l s f. 2 * object_count f ≤ length s)
@@ -190,9 +190,9 @@ parse_count l s f =
 
 -- ---- more levels change nothing
 
-pub parse_deeper : (l m : ℕ) (s : List ℕ) (f : Forest) → parse_tree l s ≡ some f → l ≤ m → parse_tree m s ≡ some f
+pub parse_deeper : (l m : ℕ) (s : List ℕ) (f : Forest) → parse_tree l s ≡ Some f → l ≤ m → parse_tree m s ≡ Some f
 parse_deeper l m s f e =
-    parse_ind (λ l s f. (m : ℕ) → l ≤ m → parse_tree m s ≡ some f)
+    parse_ind (λ l s f. (m : ℕ) → l ≤ m → parse_tree m s ≡ Some f)
     (λ l s e m le. parse_end m s e)
     (λ l s h r e t q k m le. parse_leaf m s h e t ∙ with_leaf _ _ _ r (k m le))
     (λ l s h f r e t n p j q k m le. parse_node m s h e t (omega arith) ∙ with_node _ _ _ f r (j (m - 1) (omega arith))
@@ -236,11 +236,11 @@ module _ (s r : List ℕ) where
   parse_moved : (l : ℕ) → next_in_template s ≡ End → parse_tree l (s ++ r) ≡ parse_tree l r
   parse_moved l e = at l (s ++ r) _ (next_join s r End e) ∙ object_moved l (next_in_template r) ∙ sym (unroll l r)
 
-pub parse_join : (l : ℕ) (s t : List ℕ) (f g : Forest) → parse_tree l s ≡ some f → parse_tree l t ≡ some g
-    → parse_tree l (s ++ t) ≡ some (join f g)
+pub parse_join : (l : ℕ) (s t : List ℕ) (f g : Forest) → parse_tree l s ≡ Some f → parse_tree l t ≡ Some g
+    → parse_tree l (s ++ t) ≡ Some (join f g)
 unfolding join
 parse_join l s t f g =
-    parse_ind (λ l s f. parse_tree l t ≡ some g → parse_tree l (s ++ t) ≡ some (join f g))
+    parse_ind (λ l s f. parse_tree l t ≡ Some g → parse_tree l (s ++ t) ≡ Some (join f g))
     (λ l s e p. parse_moved s t l e ∙ p)
     (λ l s h r e q y k p.
     let i = next_fits s h e in
@@ -263,12 +263,12 @@ join_end end = refl
 join_end (leaf t v r) = ap (leaf t v) (join_end r)
 join_end (node t f r) = ap (node t f) (join_end r)
 
-pub zeros_between : (n l : ℕ) (s t : List ℕ) (f g : Forest) → parse_tree l s ≡ some f → parse_tree l t ≡ some g
+pub zeros_between : (n l : ℕ) (s t : List ℕ) (f g : Forest) → parse_tree l s ≡ Some f → parse_tree l t ≡ Some g
     → parse_tree l (s ++ (padding_zeros n ++ t)) ≡ parse_tree l (s ++ t)
 zeros_between n l s t f g e d = parse_join l s (padding_zeros n ++ t) f g e (zeros_in_front n l t ∙ d) ∙ sym
     (parse_join l s t f g e d)
 
-pub zeros_behind : (n l : ℕ) (s : List ℕ) (f : Forest) → parse_tree l s ≡ some f → parse_tree l (s ++ padding_zeros n)
-    ≡ some f
-zeros_behind n l s f e = parse_join l s (padding_zeros n) f end e (parse_end l (padding_zeros n) (next_zeros n)) ∙ ap some
+pub zeros_behind : (n l : ℕ) (s : List ℕ) (f : Forest) → parse_tree l s ≡ Some f → parse_tree l (s ++ padding_zeros n)
+    ≡ Some f
+zeros_behind n l s f e = parse_join l s (padding_zeros n) f end e (parse_end l (padding_zeros n) (next_zeros n)) ∙ ap Some
     (join_end f)

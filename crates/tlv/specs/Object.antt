@@ -1,15 +1,10 @@
 -- A data object at the front of some bytes (document 01, "Reading an answer"): tag, length and value, all inside them.
 -- Assumes nothing.
-use Rattle.std.specs.Prelude.{List, ℕ, ◌+◌, length, take, drop}
+use Rattle.tlv.specs.declared.TlvLength.{TlvLength}
+use Rattle.std.specs.Prelude.{List, ℕ, ◌+◌, length, take, drop, Option, Some, None}
 use Rattle.basics.specs.Choice.{when◌then◌else◌, ◌≤?◌}
 use Rattle.tlv.specs.declared.Tag.{Tag}
-use Rattle.tlv.specs.declared.TagFront.{TagFront}
-use Rattle.tlv.specs.declared.TagFront.TheVariants.{Tagged, Untagged}
-use Rattle.tlv.specs.declared.LengthFront.{LengthFront}
-use Rattle.tlv.specs.declared.LengthFront.TheVariants.{Sized, Unsized}
 use Rattle.tlv.specs.declared.TlvHeader.{TlvHeader}
-use Rattle.tlv.specs.declared.ObjectFront.{ObjectFront}
-use Rattle.tlv.specs.declared.ObjectFront.TheVariants.{Object, Broken}
 use Rattle.tlv.specs.Tag.{tag_at, is_template, is_private}
 use Rattle.tlv.specs.Length.{length_at}
 
@@ -18,19 +13,19 @@ abbrev pub tlv_header : ℕ → ℕ → ℕ → TlvHeader
 tlv_header t a n = record { tag = t; start = a; len = n; template = is_template t; private = is_private t }
 
 -- a tag and a length: an object where the value lies inside the bytes
-abbrev pub header_with_length : List ℕ → Tag → LengthFront → ObjectFront
-header_with_length s t Unsized = Broken
-header_with_length s t (Sized e) =
-    when t.size + e.size + e.len ≤? length s then Object (tlv_header t.number (t.size + e.size) e.len)
-    else Broken
+abbrev pub header_with_length : List ℕ → Tag → Option TlvLength → Option TlvHeader
+header_with_length s t None = None
+header_with_length s t (Some e) =
+    when t.size + e.size + e.len ≤? length s then Some (tlv_header t.number (t.size + e.size) e.len)
+    else None
 
 -- a tag: its length follows it
-abbrev pub header_with_tag : List ℕ → TagFront → ObjectFront
-header_with_tag s Untagged = Broken
-header_with_tag s (Tagged t) = header_with_length s t (length_at (drop t.size s))
+abbrev pub header_with_tag : List ℕ → Option Tag → Option TlvHeader
+header_with_tag s None = None
+header_with_tag s (Some t) = header_with_length s t (length_at (drop t.size s))
 
 -- the object at the front of the bytes
-unfoldable pub header_of : List ℕ → ObjectFront
+unfoldable pub header_of : List ℕ → Option TlvHeader
 header_of s = header_with_tag s (tag_at s)
 
 -- the same object, with so many more bytes before it

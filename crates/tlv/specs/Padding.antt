@@ -1,8 +1,7 @@
 -- Padding within a template (document 02, Item 6): bytes of 00 before, between and after the objects, at every level.
 -- `next_in_template` (specs/Tree) skips them; here is what that comes to.
 -- Assumes nothing.
-use Rattle.std.specs.Prelude.{◌≡◌, List, [], ◌∷◌, ◌++◌, ℕ, ◌*◌, ◌≤◌, ◌<◌, length, replicate, get_or, drop}
-use Rattle.std.proofs.Math.Option.{some}
+use Rattle.std.specs.Prelude.{◌≡◌, List, [], ◌∷◌, ◌++◌, ℕ, ◌*◌, ◌≤◌, ◌<◌, length, replicate, get_or, drop, Some}
 use Rattle.tlv.specs.Tree.{Forest, end, leaf, node, object_count, next_in_template_shifted, next_in_template, parse_tree}
 use Rattle.tlv.specs.Encoding.{object_bytes, EncodableWithinLevels}
 
@@ -27,17 +26,17 @@ pub record PaddingDoesNotChangeParse (template_contents : List ℕ) : Type 0 whe
   pub in_front : (n levels : ℕ)
       → parse_tree levels (padding_zeros n ++ template_contents) ≡ parse_tree levels template_contents
   -- padding after a whole run changes nothing
-  pub behind : (n levels : ℕ) (f : Forest) → parse_tree levels template_contents ≡ some f
-      → parse_tree levels (template_contents ++ padding_zeros n) ≡ some f
+  pub behind : (n levels : ℕ) (f : Forest) → parse_tree levels template_contents ≡ Some f
+      → parse_tree levels (template_contents ++ padding_zeros n) ≡ Some f
   -- padding between two whole runs changes nothing
-  pub between : (t : List ℕ) (n levels : ℕ) (f g : Forest) → parse_tree levels template_contents ≡ some f
-      → parse_tree levels t ≡ some g
+  pub between : (t : List ℕ) (n levels : ℕ) (f g : Forest) → parse_tree levels template_contents ≡ Some f
+      → parse_tree levels t ≡ Some g
       → parse_tree levels (template_contents ++ (padding_zeros n ++ t)) ≡ parse_tree levels (template_contents ++ t)
   -- a padded encoding of a tree that can be encoded is read as that tree
   pub encoded : (f : Forest) (levels : ℕ) → EncodableWithinLevels f levels
-      → EncodesTreeWithPadding f template_contents → parse_tree levels template_contents ≡ some f
+      → EncodesTreeWithPadding f template_contents → parse_tree levels template_contents ≡ Some f
   -- padding is no object: there are at most half as many as bytes
-  pub half : (levels : ℕ) (f : Forest) → parse_tree levels template_contents ≡ some f
+  pub half : (levels : ℕ) (f : Forest) → parse_tree levels template_contents ≡ Some f
       → 2 * object_count f ≤ length template_contents
 
 -- ---- what holds of it, promised by `next`, proved in proofs/Tree and proofs/Encoding for all lists

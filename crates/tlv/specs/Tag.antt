@@ -1,10 +1,9 @@
 -- Tag of a data object (document 01, "Reading an answer"; Book 3, annex B): one to three bytes.
 -- Assumes nothing.
-use Rattle.std.specs.Prelude.{Bool, List, [], ◌∷◌, ℕ, ◌/◌, ◌%◌, take}
+use Rattle.tlv.specs.declared.Tag.{Tag}
+use Rattle.std.specs.Prelude.{Bool, List, [], ◌∷◌, ℕ, ◌/◌, ◌%◌, take, Option, Some, None}
 use Rattle.basics.specs.Choice.{when◌then◌else◌, ◌≤?◌, ◌<?◌, ◌=?◌}
 use Rattle.basics.specs.Number.{big_endian_number, has_bit_of_weight}
-use Rattle.tlv.specs.declared.TagFront.{TagFront}
-use Rattle.tlv.specs.declared.TagFront.TheVariants.{Tagged, Untagged}
 
 -- the low five bits of a first byte, all set, indicate that another byte follows
 abbrev pub tag_first_byte_continues : ℕ → Bool
@@ -38,13 +37,13 @@ tag_size (b ∷ s) =
     else 1
 
 -- a tag of k bytes that are the number n
-abbrev pub tag_parsed : ℕ → ℕ → TagFront
-tag_parsed n k = Tagged (record { number = n; size = k })
+abbrev pub tag_parsed : ℕ → ℕ → Option Tag
+tag_parsed n k = Some (record { number = n; size = k })
 
 -- the tag at the front: its bytes as one number, and their count
-unfoldable pub tag_at : List ℕ → TagFront
+unfoldable pub tag_at : List ℕ → Option Tag
 tag_at s =
-    when tag_size s =? 0 then Untagged
+    when tag_size s =? 0 then None
     else tag_parsed (big_endian_number (take (tag_size s) s)) (tag_size s)
 
 -- the first byte of a tag that is given as a number

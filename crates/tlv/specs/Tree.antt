@@ -2,12 +2,10 @@
 -- at most so many levels deep, and how many objects there are, templates included. Bytes of 00 before, between and
 -- after the objects are padding (document 02, Item 6).
 -- Assumes nothing.
-use Rattle.std.specs.Prelude.{List, [], ◌∷◌, ℕ, zero, suc, ◌+◌}
-use Rattle.std.proofs.Math.Option.{Option, some, none}
+use Rattle.tlv.specs.declared.TlvHeader.{TlvHeader}
+use Rattle.std.specs.Prelude.{List, [], ◌∷◌, ℕ, zero, suc, ◌+◌, Option, Some, None}
 use Rattle.basics.specs.Choice.{when◌then◌else◌, ◌=?◌}
 use Rattle.basics.specs.Recursion.{recurse_with_fuel_from_length}
-use Rattle.tlv.specs.declared.ObjectFront.{ObjectFront}
-use Rattle.tlv.specs.declared.ObjectFront.TheVariants.{Object, Broken}
 use Rattle.tlv.specs.declared.NextInTemplate.{NextInTemplate}
 use Rattle.tlv.specs.declared.NextInTemplate.TheVariants.{End, Inner, Malformed}
 use Rattle.tlv.specs.Object.{header_of, header_shifted, header_value, behind_object}
@@ -27,9 +25,9 @@ object_count (node t f r) = 1 + object_count f + object_count r
 -- ---- parsing
 
 -- an object at the front is next
-abbrev pub next_in_template_of_front : ObjectFront → NextInTemplate
-next_in_template_of_front Broken = Malformed
-next_in_template_of_front (Object h) = Inner h
+abbrev pub next_in_template_of_front : Option TlvHeader → NextInTemplate
+next_in_template_of_front None = Malformed
+next_in_template_of_front (Some h) = Inner h
 
 -- what is next, with so many more bytes before it
 abbrev pub next_in_template_shifted : ℕ → NextInTemplate → NextInTemplate
@@ -46,24 +44,24 @@ next_in_template (b ∷ s) =
 
 -- a run after a leaf, or after a node; malformed where any part is
 unfoldable pub prepend_leaf : ℕ → List ℕ → Option Forest → Option Forest
-prepend_leaf t v none = none
-prepend_leaf t v (some r) = some (leaf t v r)
+prepend_leaf t v None = None
+prepend_leaf t v (Some r) = Some (leaf t v r)
 
 -- a run after a template, malformed where its contents or the run are
 unfoldable pub prepend_node : ℕ → Option Forest → Option Forest → Option Forest
-prepend_node t none r = none
-prepend_node t (some f) none = none
-prepend_node t (some f) (some r) = some (node t f r)
+prepend_node t None r = None
+prepend_node t (Some f) None = None
+prepend_node t (Some f) (Some r) = Some (node t f r)
 
 -- a template takes one of the levels still allowed; with none left it is malformed
 abbrev pub forest_of_template_then_rest : (ℕ → List ℕ → Option Forest) → ℕ → ℕ → List ℕ → List ℕ → Option Forest
-forest_of_template_then_rest k zero t v r = none
+forest_of_template_then_rest k zero t v r = None
 forest_of_template_then_rest k (suc l) t v r = prepend_node t (k l v) (k (suc l) r)
 
 -- one object, and what k parses of its contents and of the bytes after it
 abbrev pub forest_of_object_then_rest : (ℕ → List ℕ → Option Forest) → ℕ → List ℕ → NextInTemplate → Option Forest
-forest_of_object_then_rest k levels s End = some end
-forest_of_object_then_rest k levels s Malformed = none
+forest_of_object_then_rest k levels s End = Some end
+forest_of_object_then_rest k levels s Malformed = None
 forest_of_object_then_rest k levels s (Inner h) =
     when h.template then forest_of_template_then_rest k levels h.tag (header_value s h) (behind_object s h)
     else prepend_leaf h.tag (header_value s h) (k levels (behind_object s h))
@@ -76,7 +74,7 @@ parse_tree_step k s levels = forest_of_object_then_rest (λ l v. k v l) levels s
 -- the objects of s, with templates nested at most `levels` deep, or none where s is malformed. An object's contents and
 -- the bytes after it are shorter than its list, so the recursion ends by itself (`unroll`).
 unfoldable pub parse_tree : ℕ → List ℕ → Option Forest
-parse_tree levels s = recurse_with_fuel_from_length (λ l. none) parse_tree_step s levels
+parse_tree levels s = recurse_with_fuel_from_length (λ l. None) parse_tree_step s levels
 
 -- ---- what holds of it, proved in proofs/ (NextObject, Tree, Encoding) for all lists, levels and trees
 --   next-fits       an object that is next starts its value at 2 or later and ends inside the list; its class is

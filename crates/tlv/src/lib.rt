@@ -1,18 +1,19 @@
 // One data object at the front of some bytes: its tag, where its value starts and how long it is.
 //
-// `tag_at` reads a tag alone, as a DOL needs it; `object_header` reads a whole object's header; `next` is what is next
-// within a template's contents, and `next_behind_padding` the same. `primitive_at_front` and `is_primitive_list` are
-// for bytes that hold primitive objects alone. The tree of an encoding, its count and its laws are in specs/.
+// `tag_at` reads a tag alone, as a DOL needs it; `object_header` reads a whole object's header; `next_in_template` is
+// what is next within a template's contents, and `next_behind_padding` the same. `primitive_at_front`,
+// `PrimitiveObjects` and `is_primitive_list` are for bytes that hold primitive objects alone. The tree of an encoding,
+// its count and its laws are in specs/.
 #![tactic(auto)]
 
-ghost use Rattle.std.specs.Prelude.{◌≡◌, ◌+◌, ◌≤◌, ◌<◌, length, take, drop};
-ghost use Rattle.basics.specs.Number.{big_endian_number};
-ghost use Rattle.tlv.specs.Tag.{tag_size, tag_at, tag_first_byte, is_template, is_private};
+ghost use Rattle.std.specs.Prelude.{◌≡◌, ◌==◌, length, take_while};
+ghost use Rattle.tlv.specs.Tag.{tag_at, tag_first_byte, is_template, is_private};
 ghost use Rattle.tlv.specs.Length.{length_at};
 ghost use Rattle.tlv.specs.Object.{header_of};
-ghost use Rattle.tlv.specs.Tree.{next_in_template_of_front, next_in_template_shifted, next_in_template};
+ghost use Rattle.tlv.specs.Tree.{next_in_template};
 ghost use Rattle.tlv.specs.Padding.{PaddingDoesNotChangeParse, LeadingPaddingEndsAt};
-ghost use Rattle.tlv.specs.Primitives.{primitive_at_front, primitive_objects, are_primitive_objects_parsed};
+ghost use Rattle.tlv.specs.Primitives.{primitive_at_front, primitive_objects, are_primitive_objects_parsed, leading_primitive_objects, object_read};
+ghost use Rattle.std.specs.Iterator.{YieldsFirstBy, item_count};
 
 // A tag: its bytes read as one number, and how many they are.
 #[derive(Clone, Copy)]
@@ -21,25 +22,11 @@ pub struct Tag {
     pub size: usize,
 }
 
-// What is read where a tag is expected: a whole one, or none.
-#[derive(Clone, Copy)]
-pub enum TagFront {
-    Tagged(Tag),
-    Untagged,
-}
-
 // A length: its value, and how many bytes carry it.
 #[derive(Clone, Copy)]
 pub struct TlvLength {
     pub len: usize,
     pub size: usize,
-}
-
-// What is read where a length is expected: a whole one, or none.
-#[derive(Clone, Copy)]
-pub enum LengthFront {
-    Sized(TlvLength),
-    Unsized,
 }
 
 // An object's header: the tag, where the value starts, how many bytes it has, and whether the tag is a template's
@@ -53,14 +40,8 @@ pub struct TlvHeader {
     pub private: bool,
 }
 
-// What is at the front of some bytes: an object that lies whole inside them, or none.
-#[derive(Clone, Copy)]
-pub enum ObjectFront {
-    Object(TlvHeader),
-    Broken,
-}
-
-// What is next within a template's contents: nothing more, an object, or no object.
+// What is next within a template's contents: nothing more, an object, or no object. An enum of its own, since it has
+// three cases.
 #[derive(Clone, Copy)]
 pub enum NextInTemplate {
     End,
@@ -68,113 +49,66 @@ pub enum NextInTemplate {
     Malformed,
 }
 
-// How many bytes at the front are a tag; 0 where no whole tag is there.
-fn tag_size(s: &[u8]) -> usize
-    ensures size { result ≡ tag_size s.now }
-    ensures inside { (result ≤ 3) × (result ≤ length s.now) }
-{
-    if s.len() < 1 {
-        return 0;
-    }
-    if s[0] == 0 {
-        return 0;
-    }
-    if s[0] % 32 != 31 {
-        return 1;
-    }
-    if s.len() < 2 {
-        return 0;
-    }
-    if s[1] == 0x80 {
-        return 0;
-    }
-    if s[1] < 0x80 {
-        return 2;
-    }
-    if s.len() < 3 {
-        return 0;
-    }
-    if s[2] < 0x80 {
-        return 3;
-    }
-    0
-}
-
-// The bytes of a tag as one number.
-fn tag_number(s: &[u8], size: usize) -> u32
-    requires { (0 < size) × (size ≤ 3) × (size ≤ length s.now) }
-    ensures { result ≡ big_endian_number (take size s.now) }
-{
-    let one = basics::widen32(s[0]);
-    if size == 1 {
-        return one;
-    }
-    let two = one * 256 + basics::widen32(s[1]);
-    if size == 2 {
-        return two;
-    }
-    two * 256 + basics::widen32(s[2])
-}
-
 // The tag at the front.
-pub fn tag_at(s: &[u8]) -> TagFront
+#[tactic(auto, using(crate::proofs::Laws::tag_size_by, crate::proofs::Laws::tag_none, crate::proofs::Laws::tag_one, crate::proofs::Laws::tag_two, crate::proofs::Laws::tag_three, basics::proofs::Laws::if_yes, basics::proofs::Laws::if_no, std::proofs::lemmas::Bool::Decides::nat_tests))]
+pub fn tag_at(s: &[u8]) -> Option<Tag>
     ensures { result ≡ tag_at s.now }
 {
-    let size = tag_size(s);
-    if size == 0 {
-        return TagFront::Untagged;
+    match *s {
+        [] | [0, ..] => None,
+        [a, ..] if a % 32 != 31 => Some(Tag {
+            number: u32::from(a),
+            size: 1,
+        }),
+        [_, 0x80, ..] => None,
+        [a, b, ..] if b < 0x80 => Some(Tag {
+            number: u32::from(a) * 256 + u32::from(b),
+            size: 2,
+        }),
+        [a, b, c, ..] if c < 0x80 => Some(Tag {
+            number: (u32::from(a) * 256 + u32::from(b)) * 256 + u32::from(c),
+            size: 3,
+        }),
+        _ => None,
     }
-    let number = tag_number(s, size);
-    TagFront::Tagged(Tag { number, size })
 }
 
 // The length at the front.
-fn length_at(s: &[u8]) -> LengthFront
+#[tactic(auto, using(crate::proofs::Laws::length_by, basics::proofs::Laws::if_yes, basics::proofs::Laws::if_no, std::proofs::lemmas::Bool::Decides::nat_tests))]
+fn length_at(s: &[u8]) -> Option<TlvLength>
     ensures { result ≡ length_at s.now }
 {
-    if s.len() < 1 {
-        return LengthFront::Unsized;
-    }
-    let b = s[0];
-    if b < 0x80 {
-        return LengthFront::Sized(TlvLength {
-            len: basics::widen(b),
+    match *s {
+        [n, ..] if n < 0x80 => Some(TlvLength {
+            len: usize::from(n),
             size: 1,
-        });
-    }
-    if b == 0x81 {
-        if s.len() < 2 {
-            return LengthFront::Unsized;
-        }
-        return LengthFront::Sized(TlvLength {
-            len: basics::widen(s[1]),
+        }),
+        [0x81, n, ..] => Some(TlvLength {
+            len: usize::from(n),
             size: 2,
-        });
+        }),
+        [0x82, high, low, ..] => Some(TlvLength {
+            len: usize::from(high) * 256 + usize::from(low),
+            size: 3,
+        }),
+        _ => None,
     }
-    if b == 0x82 {
-        if s.len() < 3 {
-            return LengthFront::Unsized;
-        }
-        let len = basics::widen(s[1]) * 256 + basics::widen(s[2]);
-        return LengthFront::Sized(TlvLength { len, size: 3 });
-    }
-    LengthFront::Unsized
 }
 
 // The first byte of a tag that is given as a number.
+#[tactic(auto, using(crate::proofs::Laws::first_one, crate::proofs::Laws::first_two, crate::proofs::Laws::first_three))]
 fn first_byte(tag: u32) -> u32
     ensures { result ≡ tag_first_byte tag }
 {
-    if tag < 0x100 {
-        return tag;
+    match tag {
+        0..=0xFF => tag,
+        0x100..=0xFFFF => tag / 0x100,
+        _ => tag / 0x10000,
     }
-    if tag < 0x10000 {
-        return tag / 0x100;
-    }
-    tag / 0x10000
 }
 
 // Whether a tag marks a template.
+#[tactic(auto, unfolding(crate::specs::Tag::is_template))]
 pub fn is_template(tag: u32) -> bool
     ensures { result ≡ is_template tag }
 {
@@ -182,6 +116,7 @@ pub fn is_template(tag: u32) -> bool
 }
 
 // Whether a tag is of the private class.
+#[tactic(auto, unfolding(crate::specs::Tag::is_private))]
 pub fn is_private(tag: u32) -> bool
     ensures { result ≡ is_private tag }
 {
@@ -189,31 +124,24 @@ pub fn is_private(tag: u32) -> bool
 }
 
 // The object at the front.
-pub fn object_header(s: &[u8]) -> ObjectFront
+pub fn object_header(s: &[u8]) -> Option<TlvHeader>
     ensures { result ≡ header_of s.now }
 {
-    let front = tag_at(s);
-    let TagFront::Tagged(t) = front else {
-        return ObjectFront::Broken;
-    };
-    let at = t.size;
-    let sized = length_at(&s[at..]);
-    let LengthFront::Sized(e) = sized else {
-        return ObjectFront::Broken;
-    };
-    let start = at + e.size;
-    let len = e.len;
-    if start + len <= s.len() {
-        let first = s[0];
-        return ObjectFront::Object(TlvHeader {
-            tag: t.number,
-            start,
-            len,
-            template: first / 32 % 2 == 1,
-            private: first / 64 == 3,
-        });
+    let t = tag_at(s)?;
+    let e = length_at(&s[t.size..])?;
+    let start = t.size + e.size;
+    let end = start + e.len;
+    if s.len() < end {
+        return None;
     }
-    ObjectFront::Broken
+    let first = s[0];
+    Some(TlvHeader {
+        tag: t.number,
+        start,
+        len: e.len,
+        template: first / 32 % 2 == 1,
+        private: first / 64 == 3,
+    })
 }
 
 // What is next within a template's contents, after any bytes of 00; the value's start counts them.
@@ -225,8 +153,9 @@ pub fn next_in_template(s: &[u8]) -> NextInTemplate
     object_behind(s, at)
 }
 
-// The same, for a search of a single object: so the library calls `next` in one place, its reader, and the compiler
-// puts it inline there.
+// The same, for a search of a single object.
+// Kept: with the two functions the library calls `next_in_template` in one place, its reader, and it is put inline there.
+#[tactic(auto, using(crate::proofs::NextObject::padding_ends))]
 pub fn next_behind_padding(s: &[u8]) -> NextInTemplate
     ensures { result ≡ next_in_template s.now }
 {
@@ -235,33 +164,25 @@ pub fn next_behind_padding(s: &[u8]) -> NextInTemplate
 }
 
 // How many bytes of 00 are at the front; most often none.
+// Kept: apart from `padding`, so that the reader reads an object with none in front without a loop, which is slower.
+#[tactic(auto, using(crate::proofs::NextObject::padding_ends, crate::proofs::NextObject::no_padding))]
 fn padding_in_front(s: &[u8]) -> usize
     ensures { LeadingPaddingEndsAt s.now result }
 {
-    if s.len() == 0 {
-        return 0;
+    match *s {
+        [0, ..] => padding(s),
+        _ => 0,
     }
-    if s[0] != 0 {
-        return 0;
-    }
-    padding(s)
 }
 
 // The same, byte after byte.
 fn padding(s: &[u8]) -> usize
-    ensures { LeadingPaddingEndsAt s.now result }
+    ensures { result ≡ length (take_while (λ b. b == 0) s.now) }
 {
-    let mut at = 0;
-    while at < s.len() {
-        if s[at] != 0 {
-            return at;
-        }
-        at += 1;
-    }
-    at
+    s.iter().take_while(|b| **b == 0).count()
 }
 
-// What follows the padding, whose bytes are counted.
+// What follows the padding, whose bytes are counted: the value's start is counted from the front.
 fn object_behind(s: &[u8], at: usize) -> NextInTemplate
     requires { LeadingPaddingEndsAt s.now at }
     ensures { result ≡ next_in_template s.now }
@@ -269,55 +190,65 @@ fn object_behind(s: &[u8], at: usize) -> NextInTemplate
     if at == s.len() {
         return NextInTemplate::End;
     }
-    object_at(s, at)
-}
-
-// The object at a place, its value's start counted from the front.
-fn object_at(s: &[u8], at: usize) -> NextInTemplate
-    requires { at ≤ length s.now }
-    ensures { result ≡ next_in_template_shifted at (next_in_template_of_front (header_of (drop at s.now))) }
-{
-    let front = object_header(&s[at..]);
-    let ObjectFront::Object(h) = front else {
-        return NextInTemplate::Malformed;
-    };
-    let start = at + h.start;
-    NextInTemplate::Inner(TlvHeader {
-        tag: h.tag,
-        start,
-        len: h.len,
-        template: h.template,
-        private: h.private,
-    })
+    match object_header(&s[at..]) {
+        Some(h) => NextInTemplate::Inner(TlvHeader {
+            start: at + h.start,
+            ..h
+        }),
+        None => NextInTemplate::Malformed,
+    }
 }
 
 // The primitive object at the front; a template is none.
-pub fn primitive_at_front(s: &[u8]) -> ObjectFront
+#[tactic(auto, using(basics::proofs::Laws::if_yes, basics::proofs::Laws::if_no), unfolding(crate::specs::Primitives::primitive_at_front))]
+pub fn primitive_at_front(s: &[u8]) -> Option<TlvHeader>
     ensures { result ≡ primitive_at_front s.now }
 {
-    let front = object_header(s);
-    let ObjectFront::Object(h) = front else {
-        return ObjectFront::Broken;
-    };
-    if h.template {
-        return ObjectFront::Broken;
+    object_header(s).filter(|h| !h.template)
+}
+
+// A primitive object: its tag and its value.
+#[derive(Clone, Copy)]
+pub struct PrimitiveObject<'a> {
+    pub tag: u32,
+    pub value: &'a [u8],
+}
+
+// The primitive objects at the front of some bytes, one after the other, up to the first bytes that are no whole
+// primitive object: the bytes that are left.
+#[derive(Drop)]
+pub struct PrimitiveObjects<'a>(pub &'a [u8]);
+
+impl<'a> Iterator for PrimitiveObjects<'a> {
+    type Item = PrimitiveObject<'a>;
+
+    ghost next_gives = { YieldsFirstBy object_read (λ s. leading_primitive_objects s.0.now) };
+
+    ghost remaining = { item_count (λ s. leading_primitive_objects s.0.now) };
+
+    #[tactic(auto, using(crate::proofs::Primitives::read_inside))]
+    fn next(&mut self) -> Option<PrimitiveObject<'a>> {
+        let s = self.0;
+        let h = primitive_at_front(s)?;
+        let end = h.start + h.len;
+        self.0 = &s[end..];
+        Some(PrimitiveObject {
+            tag: h.tag,
+            value: &s[h.start..end],
+        })
     }
-    ObjectFront::Object(h)
 }
 
 // Whether the bytes are a run of whole primitive objects.
+// Kept: a loop, since the bytes that are left are tested at its end; `PrimitiveObjects` says which objects it gives, not
+// which bytes it leaves.
+#[tactic(auto, using(crate::proofs::Primitives::read_inside))]
 pub fn is_primitive_list(bytes: &[u8]) -> bool
     ensures { result ≡ are_primitive_objects_parsed (primitive_objects bytes.now) }
 {
     let mut s = bytes;
-    while s.len() != 0 {
-        let front = primitive_at_front(s);
-        let ObjectFront::Object(h) = front else {
-            return false;
-        };
-        let start = h.start;
-        let e = start + h.len;
-        s = &s[e..];
+    while let Some(h) = primitive_at_front(s) {
+        s = &s[h.start + h.len..];
     }
-    true
+    s.is_empty()
 }

@@ -1,8 +1,7 @@
 -- A list of calls in bytes (run): the kinds of its calls, what a reply is written as, and the number that a run is
 -- reported by.
 -- Assumes nothing.
-use Rattle.std.specs.Prelude.{◌≡◌, List, [], ◌∷◌, ◌++◌, map, ℕ, replicate}
-use Rattle.std.proofs.Math.Option.{some, none}
+use Rattle.std.specs.Prelude.{◌≡◌, List, [], ◌∷◌, ◌++◌, map, ℕ, replicate, Some, None}
 use Rattle.basics.specs.Types.{Bytes, Length}
 use Rattle.session_record.specs.declared.Outcome.{Outcome}
 use Rattle.session.specs.Calls.{Call, start, answer, link_failed, stop}
@@ -34,13 +33,13 @@ example_play_result_number bytes room = play_result_number (play_result_of (pars
 
 pub record CallListExamples : Type 0 where
   pub calls_written : map encoded_call example_calls ≡ example_calls_in_bytes
-  pub calls_read : map parsed_calls example_calls_in_bytes ≡ map (λ c. some (c ∷ [])) example_calls
+  pub calls_read : map parsed_calls example_calls_in_bytes ≡ map (λ c. Some (c ∷ [])) example_calls
   -- kind 0, kind 5, and a link failure that brings a byte
   pub no_calls :
       map parsed_calls
       ((0 ∷ length_in_eight_bytes 0 ++ length_in_eight_bytes 0) ∷ (5 ∷ length_in_eight_bytes 0 ++ length_in_eight_bytes 0)
       ∷ (3 ∷ length_in_eight_bytes 1 ++ length_in_eight_bytes 0 ++ (0x07 ∷ [])) ∷ [])
-      ≡ none ∷ none ∷ none ∷ []
+      ≡ None ∷ None ∷ None ∷ []
   pub replies : map result_bytes (command_result 261 ∷ outcome_result Outcome.Ended 8 2 ∷ refusal_result 25 ∷ [])
       ≡ (0 ∷ 0x01 ∷ 0x05 ∷ []) ∷ (1 ∷ 3 ∷ 8 ∷ []) ∷ (2 ∷ 0 ∷ 25 ∷ []) ∷ []
   -- a stop with room for its reply; no list of calls; a stop with a byte too little room

@@ -2,8 +2,7 @@
 -- 6 outcome; what each of a call is read as; and a journal of two calls, of which the first call, which is refused, is
 -- not written.
 -- Assumes nothing.
-use Rattle.std.specs.Prelude.{◌≡◌, List, [], ◌∷◌, ◌++◌, map, replicate}
-use Rattle.std.proofs.Math.Option.{some, none}
+use Rattle.std.specs.Prelude.{◌≡◌, List, [], ◌∷◌, ◌++◌, map, replicate, Some, None}
 use Rattle.basics.specs.Types.{Bytes, Buffer}
 use Rattle.session_record.specs.declared.CallResult.{CallResult}
 use Rattle.session_record.specs.declared.Outcome.{Outcome}
@@ -62,8 +61,8 @@ journal_records_of_played_calls =
 
 pub record JournalExamples : Type 0 where
   pub calls_written : map journal_call_record journal_example_calls ≡ journal_example_call_records
-  pub calls_read : map call_from_journal_record journal_example_call_records ≡ map (λ c. some c) journal_example_calls
-  pub no_call : map call_from_journal_record ((5 ∷ []) ∷ (6 ∷ []) ∷ []) ≡ none ∷ none ∷ []
+  pub calls_read : map call_from_journal_record journal_example_call_records ≡ map (λ c. Some c) journal_example_calls
+  pub no_call : map call_from_journal_record ((5 ∷ []) ∷ (6 ∷ []) ∷ []) ≡ None ∷ None ∷ []
   pub replies_written : map (λ a. journal_reply_record a buffer_with_record_command) journal_example_results
       ≡ journal_example_reply_records
   -- a command of 261 bytes

@@ -1,8 +1,7 @@
 -- The words of a cabinet's calls (document 02, Item 14): cabinet_open, cabinet_left, and the refusals besides the
 -- kernel's, which come after them.
 -- Assumes nothing.
-use Rattle.std.specs.Prelude.{◌≡◌, List, [], ◌∷◌, ◌-◌, replicate}
-use Rattle.std.proofs.Math.Option.{some}
+use Rattle.std.specs.Prelude.{◌≡◌, List, [], ◌∷◌, ◌-◌, replicate, Some}
 use Rattle.basics.specs.Types.{StartBytes, Buffer, Amount, ResultWord}
 use Rattle.session_record.specs.Session.{fresh_session}
 use Rattle.cabinet.specs.State.{cabinet_state_size, cabinet, decoded_cabinet_if_valid}
@@ -30,7 +29,7 @@ pub record CabinetWordExamples : Type 0 where
       ≡ 0x20019 ∷ 0x2001F ∷ 0 ∷ []
   -- bytes that hold no cabinet; a cabinet with 1,000 left
   pub left_none : remaining_amount_or_all_ones (decoded_cabinet_if_valid []) ≡ 0xFFFFFFFFFFFFFFFF
-  pub left : remaining_amount_or_all_ones (some (cabinet fresh_session 1000 0)) ≡ 1000
+  pub left : remaining_amount_or_all_ones (Some (cabinet fresh_session 1000 0)) ≡ 1000
   -- an amount of 10.00: with 9.99 left (30), with as much left; a start that the kernel refuses (24) with nothing left
   pub aside_too_much : start_word_on_fresh_cabinet start_bytes_with_all_required 999 ≡ 0x2001E
   pub aside_all : start_word_on_fresh_cabinet start_bytes_with_all_required 1000 ≡ 8

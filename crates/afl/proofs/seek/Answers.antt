@@ -1,32 +1,27 @@
 -- `afl::seek` meets its contract. The loop's invariant: the record at the place sought is that of the rest at the place
--- left, what the entries passed named being taken off. The measure is the length of the rest.
+-- left, what the entries passed named being taken off.
 -- Assumes nothing.
-use mathlib.Core.Path.{refl, sym, ◌∙◌}
+use mathlib.Core.Path.{sym, ◌∙◌}
 use native.Mathlib.Omega.{arith}
-use Rattle.afl.proofs.Walk.{tail_less, seek_here, seek_past, seek_end}
+use Rattle.afl.proofs.Walk.{seek_here, seek_past, seek_end}
 use Rattle.afl.proofs.seek.Goals as goal
-
-pub loop-rest-init : goal.loop-rest-init
-loop-rest-init c = refl
 
 pub returns-then-left-n : goal.returns-then-left-n
 returns-then-left-n c =
-    let lp = c.loop-rest in
-    let f = c.front-e in
-    let n = c.count-n in
-    sym (lp.invariant ∙ seek_here lp.left lp.rest.now (omega arith) f.result f.ensures n.result
-    n.ensures.0 (omega arith))
+    let lp = c.loop-bytes in
+    let t = c.in-Some.ensures.steps in
+    rw c.sfi.ensures (sym (lp.invariant.3 ∙ seek_here _ _ _ t.1.0 (t.1.1 ∙ lp.invariant.2) _ c.at_front-e.ensures lp.left
+    (omega arith)))
 
-pub loop-rest-smaller : goal.loop-rest-smaller
-loop-rest-smaller c = tail_less c.loop-rest.rest.now (omega arith)
-
-pub loop-rest-preserved : goal.loop-rest-preserved
-loop-rest-preserved c =
-    let lp = c.loop-rest in
-    let f = c.front-e in
-    let n = c.count-n in
-    lp.invariant ∙ seek_past lp.left lp.rest.now (omega arith) f.result f.ensures n.result n.ensures.0
-    (omega arith)
+pub loop-bytes-preserved : goal.loop-bytes-preserved
+loop-bytes-preserved c =
+    let lp = c.loop-bytes in
+    let t = c.in-Some.ensures.steps in
+    let e = lp.invariant.3 ∙ seek_past _ _ _ t.1.0 (t.1.1 ∙ lp.invariant.2) _ c.at_front-e.ensures lp.left (omega arith) in
+    (omega arith, tt, t.0 ∙ lp.invariant.2, rw c.record_count-n.ensures.0 e)
 
 pub returns : goal.returns
-returns c = let lp = c.loop-rest in sym (lp.invariant ∙ seek_end lp.left lp.rest.now (omega arith))
+returns c =
+    let lp = c.loop-bytes in
+    let t = c.in-None.ensures.steps in
+    sym (lp.invariant.3 ∙ seek_end _ _ (omega arith))

@@ -1,19 +1,18 @@
 -- `cabinet::start_fresh` meets its contract: the kernel's start on a fresh session, its refusal, then 30; else store
 -- and command are copied over.
 -- Assumes nothing.
-use mathlib.Core.Path.{sym, ap, ◌∙◌}
+use mathlib.Core.Path.{ap, ◌∙◌}
 use mathlib.Core.List.{List}
 use Prim.Native.Nat.{ℕ, ◌-◌, ◌≤◌}
 use native.Mathlib.Omega.{arith}
 use lib.ListN.{length, replicate, length-replicate}
 use borrow.Rule.Slice.PartMut.{put_mid}
 use Rattle.dictionary.specs.Rows.{store_size}
-use Rattle.store.proofs.Laws.{copied}
 use Rattle.session.specs.Steps.{least_buffer}
 use Rattle.layout.specs.Layout.{record_head_size}
 use Rattle.cabinet.specs.declared.Amounts.{Amounts}
 use Rattle.cabinet.specs.Inner.{state_after_transition}
-use Rattle.cabinet.proofs.Laws.{store_long, not_refused, fresh_store, fresh_size, fresh_length, fresh_refused}
+use Rattle.cabinet.proofs.Laws.{not_refused, fresh_store, fresh_size, fresh_length, fresh_refused}
 use Rattle.cabinet.proofs.Laws.{fresh_left, fresh_taken}
 use Rattle.cabinet.proofs.start_fresh.Goals as goal
 
@@ -58,8 +57,7 @@ returns c =
     c.amount_in-amount.ensures in
     let z = fresh_store c.args.terminal.now l _ c.args.command.now c.args.remaining own c.requires.least_buffer_in_bounds
     _ _ _ d in
-    let k = copied b _ _ (z ∙ sym (store_long l (omega (arith, c.requires.cabinet_state_size_in_bounds))))
-    c.copy.ensures.1 in
+    let k = c.copy_from_slice.ensures.after in
     let f = c.finish.ensures in
     let n =
     c.amount_in-amount.result in

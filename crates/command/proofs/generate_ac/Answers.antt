@@ -1,8 +1,8 @@
 -- `generate_ac`: the list of row 8C, filled and carried.
 -- Assumes nothing.
+use Rattle.std.specs.Prelude.{Option}
 use mathlib.Core.Path.{sym, ap, ◌∙◌}
 use mathlib.Core.List.{List}
-use mathlib.Core.Option.{Option}
 use Prim.Native.Nat.{ℕ}
 use Rattle.command.specs.WithList.{dol_command_of, reason_dol_if_no_command, buffer_with_command}
 use Rattle.command.proofs.Parts.{cryptogram_of}

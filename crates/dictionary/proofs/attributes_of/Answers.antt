@@ -1,20 +1,17 @@
 -- `dictionary::attributes_of` meets its contract: the row's number taken apart, and past the last row the number 0.
 -- Assumes nothing.
 use mathlib.Core.Path.{ap, ◌∙◌}
-use native.Mathlib.Omega.{arith}
-use Rattle.dictionary.specs.Rows.{dictionary_rows}
-use Rattle.dictionary.specs.Packing.{attributes_of, packed_row_attributes, unpacked_row_attributes}
-use Rattle.dictionary.proofs.Table.{column, beyond}
-use Rattle.dictionary.proofs.Packing.{code_unpacks}
+use mathlib.Core.Logic.{inl, inr}
+use Rattle.basics.proofs.Order.{le-or-gt}
+use Rattle.dictionary.specs.Rows.{dictionary_rows, row_count}
+use Rattle.dictionary.specs.Packing.{packed_row_attributes, unpacked_row_attributes}
+use Rattle.dictionary.proofs.Table.{column}
+use Rattle.dictionary.proofs.Packing.{code_unpacks, code_unpacks_beyond}
 use Rattle.dictionary.proofs.attributes_of.Goals as goal
 
-pub returns-then-row-lt-ROWS : goal.returns-then-row-lt-ROWS
-unfolding dictionary_rows
-returns-then-row-lt-ROWS c =
-    let k = c.args.row in
-    c.unpack_row_attributes.ensures ∙ ap unpacked_row_attributes (column packed_row_attributes dictionary_rows k) ∙
-    code_unpacks k (omega arith)
-
 pub returns : goal.returns
-returns c = c.unpack_row_attributes-2.ensures ∙ beyond attributes_of c.args.row
-    c.if-row-lt-ROWS.false
+unfolding dictionary_rows
+returns c =
+    let k = c.args.row in
+    c.unpack_row_attributes.ensures ∙ ap unpacked_row_attributes (c.entry_or_zero.ensures ∙ column packed_row_attributes dictionary_rows k)
+    ∙ elim (le-or-gt row_count k) [ inl h ↦ code_unpacks_beyond k h | inr h ↦ code_unpacks k h ]

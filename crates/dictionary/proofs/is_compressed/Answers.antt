@@ -1,30 +1,32 @@
 -- `dictionary::is_compressed` meets its contract. The first byte that is not two decimal digits decides.
 -- Assumes nothing.
-use mathlib.Core.Path.{sym, ◌∙◌}
+use mathlib.Core.Path.{◌∙◌}
 use native.Mathlib.Omega.{arith}
-use Rattle.dictionary.proofs.Digits.{is_ff, is_half, is_wrong, all_digits}
+use borrow.Author.Tests.{ne_eqb}
+use Rattle.std.proofs.lemmas.List.Sums.{prefix_len-le-length}
+use Rattle.dictionary.specs.Inner.{is_decimal_byte}
+use Rattle.dictionary.proofs.Digits.{behind, is_other, is_half, is_wrong, all_digits}
 use Rattle.dictionary.proofs.is_compressed.Goals as goal
 
-pub returns-then-at-v : goal.returns-then-at-v
-returns-then-at-v c = sym (all_digits _ (sym c.digit_bytes-at.ensures.value ∙ c.if-at-v.true))
+pub slice_bounds-t-8-count : goal.slice_bounds-t-8-count
+slice_bounds-t-8-count c = omega (arith, prefix_len-le-length is_decimal_byte c.args.v.now)
 
-pub returns-then-b : goal.returns-then-b
-returns-then-b c =
-    let d = c.digit_bytes-at in
-    c.only_fs.ensures ∙ sym (is_ff _ d.result d.ensures.value (omega arith) c.if-b.true)
+pub slice_bounds-t-9-start : goal.slice_bounds-t-9-start
+slice_bounds-t-9-start c = omega (arith, prefix_len-le-length is_decimal_byte c.args.v.now)
+
+pub returns-in-empty : goal.returns-in-empty
+returns-in-empty c = all_digits _ (behind _ c.digit_bytes.ensures) c.in-empty.len_below
 
 pub returns-then-b-eq15 : goal.returns-then-b-eq15
 returns-then-b-eq15 c =
-    let d = c.digit_bytes-at in
-    c.only_fs-then-b-eq15.ensures ∙ sym (is_half _ d.result d.ensures.value (omega arith) c.if-b-lt10.true
-    c.if-b-eq15.true)
+    c.only_fs.ensures
+    ∙ is_half _ (behind _ c.digit_bytes.ensures) (omega arith) c.if-b-lt10.true c.if-b-eq15.true
 
 pub returns-else-b-eq15 : goal.returns-else-b-eq15
 returns-else-b-eq15 c =
-    let d = c.digit_bytes-at in
-    sym (is_wrong _ d.result d.ensures.value (omega arith) c.if-b.false (λ a e. c.if-b-eq15.false e))
+    ne_eqb _ _ c.if-b-eq15.false
+    ∙ is_wrong _ (behind _ c.digit_bytes.ensures) (omega arith) c.if-b-lt10.true c.if-b-eq15.false
 
-pub returns-else-b-lt10 : goal.returns-else-b-lt10
-returns-else-b-lt10 c =
-    let d = c.digit_bytes-at in
-    sym (is_wrong _ d.result d.ensures.value (omega arith) c.if-b.false (λ a e. omega arith))
+pub returns-in_default : goal.returns-in_default
+returns-in_default c =
+    c.only_fs-in_default.ensures ∙ is_other _ (behind _ c.digit_bytes.ensures) (omega arith) c.if-b-lt10.false

@@ -10,6 +10,6 @@ pub returns-then-form-eq-FORM_CN : goal.returns-then-form-eq-FORM_CN
 unfolding padding_byte
 returns-then-form-eq-FORM_CN c = sym (if_yes _ _ (eq-eqb c.args.form 2 c.if-form-eq-FORM_CN.true))
 
-pub returns : goal.returns
+pub returns-else-form-eq-FORM_CN : goal.returns-else-form-eq-FORM_CN
 unfolding padding_byte
-returns c = sym (if_no _ _ (ne_eqb c.args.form 2 c.if-form-eq-FORM_CN.false))
+returns-else-form-eq-FORM_CN c = sym (if_no _ _ (ne_eqb c.args.form 2 c.if-form-eq-FORM_CN.false))

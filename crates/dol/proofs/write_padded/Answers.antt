@@ -1,38 +1,26 @@
--- `write_padded`: the value and what it gains, written one after another: the run first if n, else the value first.
+-- `write_padded`: the value and what it gains, one after another: the run first if n, else the value first.
 -- Assumes nothing.
-use mathlib.Core.Path.{◌≡◌, refl, sym, ap, ◌∙◌}
+use mathlib.Core.Path.{◌≡◌, sym, ap₂, ◌∙◌}
 use mathlib.Core.List.{◌++◌}
-use Prim.Native.Nat.{ℕ, ◌+◌, ◌-◌, ◌≤◌}
+use Prim.Native.Nat.{◌-◌}
 use native.Mathlib.Omega.{arith}
-use lib.ListN.{length, replicate, length-replicate}
-use Rattle.dol.specs.Measure.{buffer_with_bytes_at}
-use Rattle.dol.proofs.Buffer.{over_then}
+use lib.ListN.{length, replicate}
+use Rattle.dol.specs.Filling.{zero_bytes, padding_byte}
 use Rattle.dol.proofs.Fitting.{padded_n, padded_other}
 use Rattle.dol.proofs.write_padded.Goals as goal
 
 pub returns-then-form-ne-FORM_N : goal.returns-then-form-ne-FORM_N
 returns-then-form-ne-FORM_N c =
     let a = c.args in
-    let v = a.v.now in
-    let p = c.padding_byte in
-    let h : a.at + length v ≤ length a.buffer.now = omega (arith, c.requires) in
-    over_then a.buffer.now a.at v h _ (replicate (a.n - length v) p.result) _ _ refl
-    c.place.ensures c.repeat.ensures
-    ∙ ap (λ (x : ℕ). buffer_with_bytes_at a.buffer.now a.at (v ++ replicate (a.n - length v) x)) p.ensures
-    ∙ ap (buffer_with_bytes_at a.buffer.now a.at)
-    (sym
-    (padded_other a.form a.n v
-    c.if-form-ne-FORM_N.true))
+    let n : length c.split_at_mut-front.result.1.now ≡ length a.room.now - length a.v.now = omega (arith, c.split_at_mut-front.ensures.back_len) in
+    let e : c.fill.new.self ≡ replicate (length a.room.now - length a.v.now) (padding_byte a.form) =
+    c.fill.ensures.after (λ y e. e) ∙ rw (n, c.padding_byte.ensures) in
+    ap₂ ◌++◌ c.copy_from_slice.ensures.after e ∙ sym (padded_other a.form _ a.v.now c.if-form-ne-FORM_N.true)
 
-pub returns : goal.returns
-returns c =
+pub returns-else-form-ne-FORM_N : goal.returns-else-form-ne-FORM_N
+returns-else-form-ne-FORM_N c =
     let a = c.args in
-    let v = a.v.now in
-    let g = a.n - length v in
-    let l : length (replicate {A = ℕ} g 0) ≡ g = length-replicate g 0 in
-    let h : a.at + length (replicate {A = ℕ} g 0) ≤ length a.buffer.now = omega (arith, c.requires) in
-    let k : a.at + g ≡ a.at + length (replicate {A = ℕ} g 0) = omega arith in
-    over_then a.buffer.now a.at (replicate g 0) h (a.at + g) v _ _ k
-    c.repeat-2.ensures c.place-2.ensures
-    ∙ ap (buffer_with_bytes_at a.buffer.now a.at)
-    (sym (padded_n a.form a.n v c.if-form-ne-FORM_N.false))
+    let n : length c.split_at_mut-front-else-form-ne-FORM_N.result.0.now ≡ length a.room.now - length a.v.now = omega (arith, c.split_at_mut-front-else-form-ne-FORM_N.ensures.front_len) in
+    let e : c.fill-else-form-ne-FORM_N.new.self ≡ zero_bytes (length a.room.now - length a.v.now) =
+    c.fill-else-form-ne-FORM_N.ensures.after (λ y e. e) ∙ rw n in
+    ap₂ ◌++◌ e c.copy_from_slice-else-form-ne-FORM_N.ensures.after ∙ sym (padded_n a.form _ a.v.now c.if-form-ne-FORM_N.false)

@@ -1,18 +1,13 @@
 -- `explain::deciding_in` meets its contract: the stage, and then what it needs. Assumes nothing.
-use mathlib.Core.Path.{sym, ◌∙◌}
-use Rattle.explain.proofs.Laws.{deciding_nothing, deciding_lacks, deciding_at}
+use native.Mathlib.Omega.{arith}
+use Rattle.basics.specs.Choice.{if}
+use Rattle.explain.specs.Explain.{deciding_stage_if_its_data_present}
 use Rattle.explain.proofs.deciding_in.Goals as goal
 
-pub returns-in_default : goal.returns-in_default
-returns-in_default c = c.in_default.is ∙ sym
-    (deciding_nothing _ (sym c.stage_in-deciding.ensures ∙ c.in_default.is))
-
-pub returns-then-not-is_complete : goal.returns-then-not-is_complete
-returns-then-not-is_complete c =
-    sym (deciding_lacks _ _ (sym c.stage_in-deciding.ensures ∙ c.in-At.is)
-    (sym c.is_complete.ensures ∙ c.if-not-is_complete.true))
+pub returns-in_err-stage : goal.returns-in_err-stage
+unfolding deciding_stage_if_its_data_present if
+returns-in_err-stage c = grind arith
 
 pub returns : goal.returns
-returns c =
-    sym (deciding_at _ _ (sym c.stage_in-deciding.ensures ∙ c.in-At.is)
-    (sym c.is_complete.ensures ∙ c.if-not-is_complete.false))
+unfolding deciding_stage_if_its_data_present if
+returns c = grind arith

@@ -1,16 +1,13 @@
 -- `explain::ended_by` meets its contract: by the reason, and then by the mode. Assumes nothing.
-use mathlib.Core.Path.{sym, ◌∙◌}
-use Rattle.explain.proofs.Laws.{by_reason, by_mag_stripe, by_choice}
+use native.Mathlib.Omega.{arith}
+use Rattle.basics.specs.Choice.{both, if}
+use Rattle.explain.specs.Explain.{explanation_of_ending_by_mode}
 use Rattle.explain.proofs.ended_by.Goals as goal
 
-pub returns-then-end-ne-REASON_NONE : goal.returns-then-end-ne-REASON_NONE
-returns-then-end-ne-REASON_NONE c = c.ended.ensures ∙ sym (by_reason _ _ c.if-end-ne-REASON_NONE.true)
-
 pub returns-then-card_asks_mag_stripe : goal.returns-then-card_asks_mag_stripe
-returns-then-card_asks_mag_stripe c =
-    sym
-    (by_mag_stripe _ _ c.if-end-ne-REASON_NONE.false (sym c.card_asks_mag_stripe.ensures ∙ c.if-card_asks_mag_stripe.true))
+unfolding explanation_of_ending_by_mode both if
+returns-then-card_asks_mag_stripe c = grind arith
 
 pub returns : goal.returns
-returns c = c.ended-2.ensures ∙ sym
-    (by_choice _ _ (sym c.card_asks_mag_stripe.ensures ∙ c.if-card_asks_mag_stripe.false))
+unfolding explanation_of_ending_by_mode both if
+returns c = grind arith

@@ -1,9 +1,8 @@
--- `explain::holder_of` meets its contract: the two codes, one after the other. Assumes nothing.
-use mathlib.Core.Path.{ap₂, ◌∙◌}
-use Rattle.explain.specs.Explain.{holder_by_codes, action_code_holder_of_bit}
+-- `explain::holder_of` meets its contract: by the bit in each code. Assumes nothing.
+use native.Mathlib.Omega.{arith}
+use Rattle.explain.specs.Explain.{action_code_holder_of_bit}
 use Rattle.explain.proofs.holder_of.Goals as goal
 
 pub returns : goal.returns
 unfolding action_code_holder_of_bit
-returns c = c.holder_by.ensures ∙ ap₂ holder_by_codes c.has_bit.ensures
-    c.has_bit-2.ensures
+returns c = grind arith

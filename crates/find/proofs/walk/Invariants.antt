@@ -4,11 +4,12 @@
 -- Assumes nothing.
 use Prim.Native.Nat.{◌+◌, ◌-◌, ◌*◌}
 use lib.ListN.{length}
+use Rattle.find.specs.Inner.{ends_around}
 use Rattle.find.proofs.Steps.{Reached}
 use Rattle.find.proofs.walk.Given as goal
 
-abbrev pub invariant-loop-found : goal.invariant-loop-found
-invariant-loop-found l = Reached l.bytes l.tag l.ends l.depth l.at l.end l.found
+abbrev pub invariant-objects : goal.invariant-objects
+invariant-objects l = Reached l.bytes l.tag (ends_around l.open.ends l.open.depth) l.at l.end l.found
 
-abbrev pub decreases-loop-found : goal.decreases-loop-found
-decreases-loop-found l = 2 * (length l.bytes - l.at) + l.depth
+abbrev pub decreases-objects : goal.decreases-objects
+decreases-objects l = 2 * (length l.bytes - l.at) + length (ends_around l.open.ends l.open.depth)

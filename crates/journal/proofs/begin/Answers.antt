@@ -16,5 +16,5 @@ holding_none s = record { standing = s; held = replicate 1027 0; length = 0; rec
 
 pub returns : goal.returns
 unfolding new_checker checker_after_bytes
-returns c = let e = ap holding_none (c.waiting-standing.ensures ∙ ap (λ (f : Session). check_state_of (expected_next_of_session_and_due_reply f []))
-    c.fresh_session-session.ensures) in record { checker = e; follows = e }
+returns c = let e = ap holding_none (c.waiting.ensures ∙ ap (λ (f : Session). check_state_of (expected_next_of_session_and_due_reply f []))
+    c.fresh_session.ensures) in record { checker = e; follows = e }

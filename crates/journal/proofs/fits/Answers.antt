@@ -2,13 +2,13 @@
 -- Assumes nothing.
 use mathlib.Core.Path.{sym, ◌∙◌}
 use native.Mathlib.Omega.{arith}
+use borrow.Author.Tests.{lt-leb}
 use Rattle.journal.proofs.Reading.{fits_over, fits_tail}
 use Rattle.journal.proofs.fits.Goals as goal
 
-pub returns-then-most-n : goal.returns-then-most-n
-returns-then-most-n c = let e = c.length_in-n.ensures.0 in
-    sym (fits_over _ _ (omega arith))
+pub returns-then-n-most : goal.returns-then-n-most
+returns-then-n-most c = c.is_zero.ensures ∙ fits_tail _ _ _ c.length_in-n.ensures.0 c.if-n-most.true
 
-pub returns : goal.returns
-returns c = let n = c.length_in-n in
-    c.is_zero.ensures ∙ fits_tail _ _ n.result n.ensures.0 (omega (arith, c.if-most-n.false))
+pub returns-else-n-most : goal.returns-else-n-most
+returns-else-n-most c = let e = c.length_in-n.ensures.0 in
+    lt-leb _ _ c.if-n-most.false ∙ sym (fits_over _ _ (omega (arith, c.if-n-most.false)))

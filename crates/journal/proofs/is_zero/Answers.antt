@@ -1,26 +1,23 @@
--- `journal::is_zero` meets its contract. The invariant: all bytes are zero if those from place i on are.
+-- `journal::is_zero` meets its contract: the test at each byte.
 -- Assumes nothing.
-use mathlib.Core.Path.{refl, sym, ◌∙◌}
+use mathlib.Core.Path.{◌≡◌, refl, ◌∙◌}
+use mathlib.Core.List.{List, [], ◌∷◌}
+use Prim.Native.Nat.{ℕ}
 use native.Mathlib.Omega.{arith}
-use borrow.Author.Tests.{eq-eqb, ne_eqb}
+use borrow.Author.Rules.{rules}
+use Rattle.std.specs.List.{list_all}
+use Rattle.std.proofs.lemmas.Iterator.{YieldsList-from_slice}
+use Rattle.std.proofs.lemmas.Iterator.Search.{all_from_yields_List}
+use Rattle.basics.specs.Choice.{every, both}
 use Rattle.store.specs.Held.{is_zero_byte}
-use Rattle.session_record.proofs.Every.{every_no, every_yes, every_done}
 use Rattle.journal.proofs.is_zero.Goals as goal
 
-pub loop-i-init : goal.loop-i-init
-loop-i-init c = refl
-
-pub returns-then-v-i-ne0 : goal.returns-then-v-i-ne0
-returns-then-v-i-ne0 c =
-    let lp = c.loop-i in
-    sym (lp.invariant ∙ every_no is_zero_byte _ 0 lp.i (omega arith) (ne_eqb _ 0 c.if-v-i-ne0.true))
-
-pub loop-i-preserved : goal.loop-i-preserved
-loop-i-preserved c =
-    let lp = c.loop-i in
-    lp.invariant ∙ every_yes is_zero_byte _ 0 lp.i (omega arith) (eq-eqb _ 0 c.if-v-i-ne0.false)
+zero_list : (v : List ℕ) → list_all is_zero_byte v ≡ every is_zero_byte v
+unfolding every both
+zero_list [] = refl
+zero_list (b ∷ v) = grind (arith, zero_list v)
 
 pub returns : goal.returns
 returns c =
-    let lp = c.loop-i in
-    sym (lp.invariant ∙ every_done is_zero_byte _ 0 lp.i (omega arith))
+    all_from_yields_List is_zero_byte _ _ _ c.all.ensures.ran (YieldsList-from_slice c.args.v.now cc) (λ x b q k. search rules)
+    ∙ zero_list c.args.v.now

@@ -1,71 +1,44 @@
--- `journal::journal_record_size` meets its contract: one test of the definition for each test of the code.
+-- `journal::journal_record_size` meets its contract: by the kind.
 -- Assumes nothing.
-use borrow.Author.Tests.{eq-eqb, ne_eqb}
+use mathlib.Core.Path.{sym, ap}
+use native.Mathlib.Omega.{arith}
+use borrow.Author.Tests.{ne_eqb}
 use Rattle.basics.specs.Choice.{if}
 use Rattle.journal.specs.Record.{journal_record_size}
 use Rattle.journal.proofs.journal_record_size.Goals as goal
 
-pub returns-then-kind-eq-KIND_START : goal.returns-then-kind-eq-KIND_START
+pub returns-in-1 : goal.returns-in-1
 unfolding journal_record_size if
-returns-then-kind-eq-KIND_START c = simp (eq-eqb _ _ c.if-kind-eq-KIND_START.true)
+returns-in-1 c = sym (ap journal_record_size c.in-1.is)
 
-pub returns-then-kind-eq-KIND_ANSWER : goal.returns-then-kind-eq-KIND_ANSWER
+pub returns-in-2 : goal.returns-in-2
 unfolding journal_record_size if
-returns-then-kind-eq-KIND_ANSWER c = simp (ne_eqb _ _ c.if-kind-eq-KIND_START.false, eq-eqb _ _ c.if-kind-eq-KIND_ANSWER.true)
+returns-in-2 c = sym (ap journal_record_size c.in-2.is)
 
-pub returns-then-kind-eq-KIND_LINK_FAILED : goal.returns-then-kind-eq-KIND_LINK_FAILED
+pub returns-in-3 : goal.returns-in-3
 unfolding journal_record_size if
-returns-then-kind-eq-KIND_LINK_FAILED c = simp (
-  ne_eqb _ _ c.if-kind-eq-KIND_START.false,
-  ne_eqb _ _ c.if-kind-eq-KIND_ANSWER.false,
-  eq-eqb _ _
-      c.if-kind-eq-KIND_LINK_FAILED.true,
-)
+returns-in-3 c = sym (ap journal_record_size c.in-3.is)
 
-pub returns-then-kind-eq-KIND_STOP : goal.returns-then-kind-eq-KIND_STOP
+pub returns-in-4 : goal.returns-in-4
 unfolding journal_record_size if
-returns-then-kind-eq-KIND_STOP c = simp (
-  ne_eqb _ _ c.if-kind-eq-KIND_START.false,
-  ne_eqb _ _ c.if-kind-eq-KIND_ANSWER.false,
-  ne_eqb
-      _ _ c.if-kind-eq-KIND_LINK_FAILED.false,
-  eq-eqb _ _ c.if-kind-eq-KIND_STOP.true,
-)
+returns-in-4 c = sym (ap journal_record_size c.in-4.is)
 
-pub returns-then-kind-eq-KIND_COMMAND : goal.returns-then-kind-eq-KIND_COMMAND
+pub returns-in-5 : goal.returns-in-5
 unfolding journal_record_size if
-returns-then-kind-eq-KIND_COMMAND c = simp (
-  ne_eqb _ _ c.if-kind-eq-KIND_START.false,
-  ne_eqb _ _
-      c.if-kind-eq-KIND_ANSWER.false,
-  ne_eqb _ _ c.if-kind-eq-KIND_LINK_FAILED.false,
-  ne_eqb _ _
-      c.if-kind-eq-KIND_STOP.false,
-  eq-eqb _ _ c.if-kind-eq-KIND_COMMAND.true,
-)
+returns-in-5 c = sym (ap journal_record_size c.in-5.is)
 
-pub returns-then-kind-eq-KIND_OUTCOME : goal.returns-then-kind-eq-KIND_OUTCOME
+pub returns-in-6 : goal.returns-in-6
 unfolding journal_record_size if
-returns-then-kind-eq-KIND_OUTCOME c = simp (
-  ne_eqb _ _ c.if-kind-eq-KIND_START.false,
-  ne_eqb _ _
-      c.if-kind-eq-KIND_ANSWER.false,
-  ne_eqb _ _ c.if-kind-eq-KIND_LINK_FAILED.false,
-  ne_eqb _ _
-      c.if-kind-eq-KIND_STOP.false,
-  ne_eqb _ _ c.if-kind-eq-KIND_COMMAND.false,
-  eq-eqb _ _ c.if-kind-eq-KIND_OUTCOME.true,
-)
+returns-in-6 c = sym (ap journal_record_size c.in-6.is)
 
-pub returns : goal.returns
+pub returns-in_default : goal.returns-in_default
 unfolding journal_record_size if
-returns c = simp (
-  ne_eqb _ _ c.if-kind-eq-KIND_START.false,
-  ne_eqb _ _
-      c.if-kind-eq-KIND_ANSWER.false,
-  ne_eqb _ _ c.if-kind-eq-KIND_LINK_FAILED.false,
-  ne_eqb _ _
-      c.if-kind-eq-KIND_STOP.false,
-  ne_eqb _ _ c.if-kind-eq-KIND_COMMAND.false,
-  ne_eqb _ _ c.if-kind-eq-KIND_OUTCOME.false,
-)
+returns-in_default c = let k = c.args.kind in
+    simp (
+      ne_eqb k 1 (omega arith),
+      ne_eqb k 2 (omega arith),
+      ne_eqb k 3 (omega arith),
+      ne_eqb k 4 (omega arith),
+      ne_eqb k 5 (omega arith),
+      ne_eqb k 6 (omega arith),
+    )

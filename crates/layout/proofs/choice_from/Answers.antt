@@ -1,19 +1,21 @@
--- `layout::choice_from` meets its contract: by the tests of P1.
+-- `layout::choice_from` meets its contract: at each P1 the definition computes, and past them each of its tests fails.
 -- Assumes nothing.
-use borrow.Author.Tests.{eq-eqb, ne_eqb}
-use mathlib.Core.Path.{sym, ◌∙◌}
-use Rattle.basics.proofs.Laws.{if_yes, if_no}
-use Rattle.layout.specs.Layout.{element_with_number}
+use borrow.Author.Tests.{ne_eqb}
+use mathlib.Core.Path.{sym, ap, ◌∙◌}
+use native.Mathlib.Omega.{arith}
+use Rattle.basics.specs.Choice.{if}
+use Rattle.basics.proofs.Laws.{if_no}
+use Rattle.layout.specs.Layout.{element_with_number, choice_of_p1}
 use Rattle.layout.proofs.choice_from.Goals as goal
 
-pub returns-then-p1-eq64 : goal.returns-then-p1-eq64
-unfolding element_with_number
-returns-then-p1-eq64 c = sym (if_yes _ _ (eq-eqb _ _ c.if-p1-eq64.true))
+pub returns-in-64 : goal.returns-in-64
+unfolding element_with_number if
+returns-in-64 c = sym (ap choice_of_p1 c.in-64.is)
 
-pub returns-then-p1-eq128 : goal.returns-then-p1-eq128
-unfolding element_with_number
-returns-then-p1-eq128 c = sym (if_no _ _ (ne_eqb _ _ c.if-p1-eq64.false) ∙ if_yes _ _ (eq-eqb _ _ c.if-p1-eq128.true))
+pub returns-in-128 : goal.returns-in-128
+unfolding element_with_number if
+returns-in-128 c = sym (ap choice_of_p1 c.in-128.is)
 
-pub returns : goal.returns
+pub returns-in_default : goal.returns-in_default
 unfolding element_with_number
-returns c = sym (if_no _ _ (ne_eqb _ _ c.if-p1-eq64.false) ∙ if_no _ _ (ne_eqb _ _ c.if-p1-eq128.false))
+returns-in_default c = sym (if_no _ _ (ne_eqb _ _ (omega arith)) ∙ if_no _ _ (ne_eqb _ _ (omega arith)))

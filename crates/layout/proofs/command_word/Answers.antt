@@ -4,10 +4,6 @@ use native.Mathlib.Omega.{arith}
 use Rattle.layout.specs.Word.{command_word}
 use Rattle.layout.proofs.command_word.Goals as goal
 
-pub returns-then-size-gt-MOST_LENGTH : goal.returns-then-size-gt-MOST_LENGTH
-unfolding command_word
-returns-then-size-gt-MOST_LENGTH c = omega arith
-
 pub returns : goal.returns
 unfolding command_word
 returns c = omega arith

@@ -2,7 +2,6 @@
 -- it is, give the track of all digits.
 -- Assumes nothing.
 use mathlib.Core.Path.{◌≡◌}
-use Prim.Native.Nat.{◌-◌}
 use lib.ListN.{length}
 use Rattle.basics.specs.Number.{nibbles}
 use Rattle.mag_stripe.specs.Bitmap.{bitmap_places_from_one}
@@ -11,8 +10,5 @@ use Rattle.mag_stripe.proofs.copy.Given as goal
 
 abbrev pub invariant-loop-copied : goal.invariant-loop-copied
 invariant-loop-copied l =
-    (length l.track ≡ length l.initial.track) × Copying l.end l.base l.number l.count (bitmap_places_from_one l.bitmap) (nibbles l.initial.track) l.copied
+    (length l.track ≡ length l.initial.track) × Copying l.end l.base l.number l.count (bitmap_places_from_one l.bitmap) (nibbles l.initial.track) l._copied
     l.left (bitmap_places_from_one l.rest) (nibbles l.track)
-
-abbrev pub decreases-loop-copied : goal.decreases-loop-copied
-decreases-loop-copied l = l.count - l.copied

@@ -16,17 +16,8 @@ weight : (bitmap : ℕ) → bitmap < 65536 → 1 ≤ set_bit_count bitmap
     → 1 * 2 ^ count_trailing_zeros 16 bitmap % 65536 ≡ 2 ^ count_trailing_zeros 16 bitmap
 weight bitmap fits h = rw one-mul (mod-eq_of_lt (pow-lt (zeros_small bitmap fits h).0))
 
-pub overflow_cast-lowest : goal.overflow_cast-lowest
-overflow_cast-lowest c = omega (arith, zeros_small c.args.bitmap c.ranges.bitmap.fits c.requires)
-
 pub overflow_shl-lowest : goal.overflow_shl-lowest
 overflow_shl-lowest c = (zeros_small c.args.bitmap c.ranges.bitmap.fits c.requires).0
-
-pub overflow_cast-result : goal.overflow_cast-result
-overflow_cast-result c = omega (arith, zeros_small c.args.bitmap c.ranges.bitmap.fits c.requires)
-
-pub overflow_add-result : goal.overflow_add-result
-overflow_add-result c = omega (arith, zeros_small c.args.bitmap c.ranges.bitmap.fits c.requires)
 
 pub overflow_sub-result : goal.overflow_sub-result
 overflow_sub-result c = rw (weight c.args.bitmap c.ranges.bitmap.fits c.requires) (zeros_small c.args.bitmap c.ranges.bitmap.fits c.requires).1

@@ -5,9 +5,6 @@ use mathlib.Core.Path.{sym, ◌∙◌}
 use Rattle.mag_stripe.proofs.Laws.{filled_sound, filled_unsound, kept_sound, kept_unsound, twice_sound}
 use Rattle.mag_stripe.proofs.put_digits.Goals as goal
 
-pub write_digits-requires : goal.write_digits-requires
-write_digits-requires c = sym c.can_take_digits.ensures ∙ c.if-can_take_digits.true
-
 pub returns-then-can_take_digits : goal.returns-then-can_take_digits
 returns-then-can_take_digits c = let a = c.args in
     let s = sym c.can_take_digits.ensures ∙

@@ -27,7 +27,7 @@ has_room : (t : List ℕ) (b : Bitmaps) (d : DiscretionaryData) → d ≡ discre
 has_room t b d e h = room t b d e (sound_gives t b h)
 
 pub overflow_sub-n : goal.overflow_sub-n
-overflow_sub-n c = omega (arith, (sound_gives _ _ c.requires).counter, c.bit_count.ensures, c.widen-counted.ensures)
+overflow_sub-n c = omega (arith, (sound_gives _ _ c.requires).counter, c.bit_count.ensures, c.from-counted.ensures)
 
 pub copy-requires : goal.copy-requires
 copy-requires c =
@@ -40,7 +40,7 @@ copy-requires c =
 pub copy-rest-requires : goal.copy-rest-requires
 copy-rest-requires c =
     let r = has_room _ _ _ c.discretionary_of-end.ensures c.requires in record {
-      count_bound = omega (arith, c.bit_count.ensures, c.widen-counted.ensures);
+      count_bound = omega (arith, c.bit_count.ensures, c.from-counted.ensures);
       end_in_bounds = (longer _ _ _ c.copy.auto.track r.inside, r.number);
       le_base = (omega arith, omega arith);
     }
@@ -48,7 +48,7 @@ copy-rest-requires c =
 pub copy-requires-2 : goal.copy-requires-2
 copy-requires-2 c =
     let r = has_room _ _ _ c.discretionary_of-end.ensures c.requires in
-    let n = c.bit_count.result - c.widen-counted.result in
+    let n = c.bit_count.result - c.from-counted.result in
     let ps = bitmap_places_from_one c.args.bitmaps.punatc in
     let rest = c.copy-rest.ensures.result_value in record {
       count_bound =
@@ -56,7 +56,7 @@ copy-requires-2 c =
             arith,
             ap length rest ∙ length-drop n ps,
             c.bit_count.ensures,
-            c.widen-counted.ensures,
+            c.from-counted.ensures,
             (sound_gives _ _ c.requires).counter,
           );
       end_in_bounds = (longer _ _ _ (c.copy-rest.auto.track ∙ c.copy.auto.track) r.inside, rw rest (up_to_drop _ n ps r.number));
@@ -71,20 +71,21 @@ put_nibble-requires c =
     let r = has_room _ _ _ c.discretionary_of-end.ensures c.requires in
     let size = c.copy-2.auto.track ∙ c.copy-rest.auto.track ∙ c.copy.auto.track in
     let t = longer c.args.track.now c.copy-2.new.track _ size r.inside in
-    (omega (arith, t, r.some), omega (arith, (sound_gives _ _ c.requires).few, c.bit_count.ensures, c.widen-counted.ensures))
+    (omega (arith, t, r.some), omega (arith, (sound_gives _ _ c.requires).few, c.bit_count.ensures, c.from-counted.ensures))
 
 pub returns : goal.returns
 returns c =
     let a = c.args in
     all_written a.bitmaps a.values c.discretionary_of-end.result.end
-    c.bit_count-bits.result (c.bit_count.result - c.widen-counted.result) c.widen-counted.result
+    c.bit_count-bits.result (c.bit_count.result - c.from-counted.result) c.from-counted.result
     (nibbles a.track.now) (nibbles c.copy.new.track) (nibbles c.copy-rest.new.track)
     (nibbles c.copy-2.new.track)
     (nibbles c.put_nibble.new.track) (bitmap_places_from_one c.copy-rest.result)
-    c.bit_count-bits.ensures.0 (omega (arith, c.bit_count.ensures, c.widen-counted.ensures))
-    c.widen-counted.ensures.0
+    c.bit_count-bits.ensures.0 (omega (arith, c.bit_count.ensures, c.from-counted.ensures))
+    c.from-counted.ensures
     (sound_gives _ _ c.requires).counter
-    c.copy.ensures.track_after c.copy-rest.ensures.track_after c.copy-rest.ensures.result_value c.copy-2.ensures.track_after
+    (rw c.from.ensures at c.copy.ensures.track_after) c.copy-rest.ensures.track_after
+    c.copy-rest.ensures.result_value (rw c.from-2.ensures at c.copy-2.ensures.track_after)
     c.put_nibble.ensures
     ∙ ap (λ (d : DiscretionaryData). placed_digits_written_before_end d.end (track_digits a.bitmaps a.values)
     (nibbles a.track.now))

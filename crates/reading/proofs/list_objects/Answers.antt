@@ -1,34 +1,13 @@
--- `reading::list_objects` meets its contract: what opens the answer, and the law of a template's objects
--- (proofs/Stages).
+-- `reading::list_objects` meets its contract: what opens the answer, and the laws of its parts and of a template's
+-- objects (proofs/Stages).
 -- Assumes nothing.
-use native.Mathlib.Omega.{arith}
 use Rattle.reading.specs.InnerItems.{unpacked_items}
-use Rattle.reading.proofs.Stages.{template_listed}
+use Rattle.reading.proofs.Stages.{parts_listed, template_listed}
 use Rattle.reading.proofs.list_objects.Goals as goal
 
-pub overflow_add-end : goal.overflow_add-end
-overflow_add-end c = let i = rw c.in-Template.is at c.open-opened.ensures.opens in omega (arith, i.short)
+pub returns-else-h : goal.returns-else-h
+returns-else-h g c = parts_listed _ _ _ _ c.in_ok-h.ensures c.if-h.false c.list_parts.ensures
 
-pub walk-walked-requires : goal.walk-walked-requires
-walk-walked-requires c = let o = c.open-opened.ensures in
-    let i = rw c.in-Template.is at o.opens in record {
-      template_walk_has_room = record {
-        begins = omega arith;
-        ends = i.ends;
-        short = i.short;
-        fewer = omega arith;
-        half = omega (arith, i.two, i.short);
-        room = o.room;
-        inside = tt;
-      };
-      around_bound = i.tag;
-    }
-
-pub returns-in-Listed : goal.returns-in-Listed
-returns-in-Listed c = let o = c.open-opened.ensures in record { lists = rw c.in-Listed.is at o.opens; room = o.room }
-
-pub returns-in-Template : goal.returns-in-Template
+pub returns-then-h : goal.returns-then-h
 unfolding unpacked_items
-returns-in-Template c = let i = rw c.in-Template.is at
-    c.open-opened.ensures.opens in
-    let w = c.walk-walked.ensures in record { lists = template_listed _ _ _ _ i _ w.walks c.close.ensures; room = w.room }
+returns-then-h g c = template_listed _ _ _ _ c.in_ok-h.ensures c.if-h.true _ c.walk.ensures c.close.ensures

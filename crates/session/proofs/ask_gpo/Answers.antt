@@ -1,5 +1,6 @@
 -- `session::ask_gpo` meets its contract: what was written determines which way `request_command_or_end_for_dol` goes.
 -- Assumes nothing.
+use mathlib.Core.Path.{refl}
 use Rattle.command.specs.WithList.{get_processing_options}
 use Rattle.session_record.specs.declared.AwaitedResponse.{AwaitedResponse}
 use Rattle.session.specs.Start.{request_gpo}
@@ -11,13 +12,13 @@ unfolding request_gpo
 returns-in_default c =
     let a = c.args in
     let g = c.get_processing_options.ensures in
-    handed_none a.count a.bytes.now AwaitedResponse.Gpo a.command.now (get_processing_options a.bytes.now)
-    g.said g.kept c.in_default.is c.fail_session.ensures
+    handed_none a.bytes.now AwaitedResponse.Gpo a.command.now (get_processing_options a.bytes.now)
+    g.said g.kept c.in_default.is c.end_for.ensures
 
 pub returns : goal.returns
 unfolding request_gpo
 returns c =
     let a = c.args in
     let g = c.get_processing_options.ensures in
-    handed_some a.count a.bytes.now AwaitedResponse.Gpo a.command.now (get_processing_options a.bytes.now)
-    g.said g.kept c.in-Command.is c.issue_command.ensures
+    handed_some a.bytes.now AwaitedResponse.Gpo a.command.now (get_processing_options a.bytes.now)
+    g.said g.kept c.in-Some.is refl

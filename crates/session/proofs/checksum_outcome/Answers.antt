@@ -1,24 +1,21 @@
--- `session::checksum_outcome` meets its contract: counter and code are present or not, and each way out has its law.
+-- `session::checksum_outcome` meets its contract: counter and code are present or not.
 -- Assumes nothing.
 use native.Mathlib.Omega.{arith}
-use Rattle.dictionary.proofs.Named.{at_9f61}
-use Rattle.session_record.proofs.Tags.{held_is}
-use Rattle.session.proofs.Laws.{did_end, is_passed, is_failed, counter_missing, code_missing, digits_go_in}
+use Rattle.basics.specs.Choice.{if}
+use Rattle.dictionary.proofs.Named.{at_9f36, at_9f61}
+use Rattle.session_record.proofs.Tags.{value-is}
+use Rattle.session.specs.MagStripe.{next_after_checksum_read}
 use Rattle.session.proofs.checksum_outcome.Goals as goal
 
 pub returns-in_default : goal.returns-in_default
-returns-in_default c buf = did_end _ _ _ c.fail_session.ensures
-    (counter_missing _ (is_failed _ (omega arith) c.atc_present.ensures
-    c.in_default.is))
+unfolding next_after_checksum_read if
+returns-in_default c buf = grind (arith, value-is c.args.store.now _ _ at_9f36)
 
 pub returns-then-not-is_present : goal.returns-then-not-is_present
+unfolding next_after_checksum_read if
 returns-then-not-is_present c buf =
-    did_end _ _ _ c.end_session.ensures
-    (code_missing _ (is_passed _ (omega arith) c.atc_present.ensures c.in-Passed.is)
-    (held_is _ _ _ at_9f61 c.is_present.ensures c.if-not-is_present.true))
+    let b = c.args.store.now in grind (arith, value-is b _ _ at_9f36, value-is b _ _ at_9f61)
 
 pub returns : goal.returns
-returns c buf =
-    did_end _ _ _ c.end_session-2.ensures
-    (digits_go_in _ (is_passed _ (omega arith) c.atc_present.ensures c.in-Passed.is)
-    (held_is _ _ _ at_9f61 c.is_present.ensures c.if-not-is_present.false) c.store_digits.ensures)
+unfolding next_after_checksum_read if
+returns c buf = let b = c.args.store.now in grind (arith, value-is b _ _ at_9f36, value-is b _ _ at_9f61)

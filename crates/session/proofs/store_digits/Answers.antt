@@ -1,7 +1,6 @@
 -- `session::store_digits` meets its contract: a track fits the array that it is copied to, and goes back as
 -- long as it was.
 -- Assumes nothing.
-use borrow.Author.Rules.{rules}
 use mathlib.Core.Path.{◌≡◌, sym, ap, ◌∙◌}
 use mathlib.Core.List.{List}
 use Prim.Native.Nat.{ℕ, ◌≤◌}
@@ -24,8 +23,8 @@ short b e = omega (arith, ap length e, value_short b row_track2_data, track_fits
 pub slice_bounds-track-end : goal.slice_bounds-track-end
 slice_bounds-track-end c = short c.args.store.now c.value-n.ensures
 
-pub slice_bounds-track_after-end : goal.slice_bounds-track_after-end
-slice_bounds-track_after-end c = sym (length-take-le _ _ (short c.args.store.now c.value-n.ensures))
+pub slice_bounds-track_after-end-2 : goal.slice_bounds-track_after-end-2
+slice_bounds-track_after-end-2 c = sym (length-take-le _ _ (short c.args.store.now c.value-n.ensures))
 
 pub track_after-requires : goal.track_after-requires
 track_after-requires c =
@@ -43,15 +42,9 @@ slice_bounds-put-end c =
     sym (ap length (take_at c.track_after.new.track _ _ sized) ∙ sized)
 
 pub put-requires : goal.put-requires
-put-requires c = record {
-  bytes_len = search rules;
-  row_lt_row_count = (
-    omega arith,
-    simp length-take (omega (arith, short c.args.store.now c.value-n.ensures, track_fits)),
-  );
-}
+put-requires c = (omega arith, simp length-take (omega (arith, short c.args.store.now c.value-n.ensures, track_fits)))
 
 pub returns : goal.returns
 returns c =
     let sized : length c.track_after.new.track ≡ length c.value-n.result.now = c.track_after.ensures.sized ∙ length-take-le _ _ (short c.args.store.now c.value-n.ensures) in
-    digits_stored _ _ (take_at c.track_after.new.track _ _ sized ∙ c.track_after.ensures.digits) c.put.ensures.stored
+    digits_stored _ _ (take_at c.track_after.new.track _ _ sized ∙ c.track_after.ensures.digits) c.put.ensures

@@ -1,40 +1,17 @@
--- `session_record::all_required_at_start_present` meets its contract. The invariant: the rows from here on, of those
--- that a
--- start must bring, decide.
+-- `session_record::all_required_at_start_present` meets its contract: the rows that a start must bring decide.
 -- Assumes nothing.
-use mathlib.Core.Path.{◌≡◌, sym, ◌∙◌}
-use native.Mathlib.Omega.{arith}
-use lib.ListN.{get_or}
+use Rattle.std.proofs.Common.{rules}
+use mathlib.Core.Path.{sym, ◌∙◌}
+use Rattle.std.proofs.lemmas.Iterator.{YieldsList-from_slice}
+use Rattle.std.proofs.lemmas.Iterator.Search.{all_from_yields_List}
 use Rattle.dictionary.specs.Named.{row_numbers_required_at_start}
-use Rattle.session_record.proofs.Every.{every_no, every_yes, every_done}
-use Rattle.session_record.proofs.Required.{there_at, brought_rows, rows_many}
+use Rattle.session_record.proofs.Every.{every_is_list_all}
+use Rattle.session_record.proofs.Required.{there_at, brought_rows}
 use Rattle.session_record.proofs.all_required_at_start_present.Goals as goal
 
-pub loop-i-init : goal.loop-i-init
-loop-i-init c = brought_rows _
-
-pub is_present-requires : goal.is_present-requires
-is_present-requires c = tt
-
-pub returns-then-not-is_present : goal.returns-then-not-is_present
-unfolding row_numbers_required_at_start
-returns-then-not-is_present c =
-    let told : there_at c.args.bytes.now (get_or row_numbers_required_at_start c.loop-i.i 0) ≡ c.is_present.result =
-    sym c.is_present.ensures in
-    let lp = c.loop-i in
-    sym (lp.invariant ∙ every_no (there_at _) row_numbers_required_at_start 0 lp.i (omega (arith, rows_many))
-    (told ∙ c.if-not-is_present.true))
-
-pub loop-i-preserved : goal.loop-i-preserved
-unfolding row_numbers_required_at_start
-loop-i-preserved c =
-    let told : there_at c.args.bytes.now (get_or row_numbers_required_at_start c.loop-i.i 0) ≡ c.is_present.result =
-    sym c.is_present.ensures in
-    let lp = c.loop-i in
-    lp.invariant ∙ every_yes (there_at _) row_numbers_required_at_start 0 lp.i (omega (arith, rows_many))
-    (told ∙ c.if-not-is_present.false)
-
 pub returns : goal.returns
+unfolding row_numbers_required_at_start
 returns c =
-    let lp = c.loop-i in
-    sym (lp.invariant ∙ every_done (there_at _) row_numbers_required_at_start 0 lp.i (omega (arith, rows_many)))
+    all_from_yields_List (there_at c.args.bytes.now) _ _ _ c.all.ensures.ran
+    (YieldsList-from_slice row_numbers_required_at_start cc) (λ x b q k. search rules)
+    ∙ sym (brought_rows _ ∙ every_is_list_all (there_at c.args.bytes.now) row_numbers_required_at_start)

@@ -21,7 +21,7 @@ unfolding row_offset dictionary_rows
 loop-codes-init c = (omega arith, refl, walk_start _)
 
 pub next_held-held-requires : goal.next_held-held-requires
-next_held-held-requires c = let lp = c.loop-codes in record { bytes_len = c.requires; codes_value = c.packed_row_attributes-codes.ensures; from_le_row_count = (lp.invariant.0, lp.invariant.1) }
+next_held-held-requires c = let lp = c.loop-codes in record { codes_value = c.packed_row_attributes-codes.ensures; from_le_row_count = (lp.invariant.0, lp.invariant.1) }
 
 pub is_enough-requires : goal.is_enough-requires
 is_enough-requires c = tt
@@ -105,13 +105,10 @@ returns-then-not-row_fits c =
     sym (walk_no _ c.next_held-held.result.row _ (come) (omega arith)
     c.args.asked (told ∙ c.if-not-row_fits.true))
 
-pub widen-brought-requires : goal.widen-brought-requires
-widen-brought-requires c = tt
-
 pub overflow_add-brought : goal.overflow_add-brought
 overflow_add-brought c =
     let lp = c.loop-codes in
-    omega (arith, walk_most _ lp.row lp.brought lp.invariant.2, c.widen-brought.ensures.1)
+    omega (arith, walk_most _ lp.row lp.brought lp.invariant.2, c.from-brought.ensures)
 
 -- the object is counted if a start must bring it
 pub loop-codes-preserved : goal.loop-codes-preserved
@@ -130,7 +127,7 @@ loop-codes-preserved c =
     object_part _ n.result.row n.result.at _ (omega arith) n.ensures.passed.place (read) ∙ sym
     c.row_fits.ensures in
     let h = c.next_held-held in
-    let m = c.widen-brought.ensures.0 ∙ ap (λ (a : RowAttributes). a.must) (read) in (
+    let m = c.from-brought.ensures ∙ ap (λ (a : RowAttributes). a.must) (read) in (
       omega arith,
       (stood).next,
       walk_held _ h.result.row _ (come) (omega arith) h.result.at _ h.ensures.passed.place

@@ -1,51 +1,33 @@
--- `session_record::all_zero` meets its contract. The invariant: all are zero if the greatest so far is and the bytes
--- from i on are.
+-- `session_record::all_zero` meets its contract: at each byte, all so far are zero if the greatest so far is.
 -- Assumes nothing.
-use borrow.Author.Tests.{eq-eqb, ne_eqb}
-use mathlib.Core.Path.{◌≡◌, refl, sym, ap, ◌∙◌}
-use mathlib.Core.Logic.{inl, inr}
-use mathlib.Core.List.{List}
-use Prim.Native.Nat.{ℕ, ◌+◌, ◌≤◌, ◌<◌}
-use native.Mathlib.Omega.{arith}
-use lib.Dec.{eqb}
-use lib.ListN.{length, get_or, drop}
+use Rattle.std.proofs.Common.{◌≡◌, refl, ℕ, List, [], ◌∷◌, ◌++◌, Bool, max, eqb, rules, arith}
+use mathlib.Core.Path.{sym, ap, ◌∙◌}
+use Rattle.std.proofs.lemmas.Fn.{fold_over, slice_gives, fronts}
 use Rattle.basics.specs.Choice.{both, every}
-use Rattle.basics.proofs.Laws.{both_true, both_no_left, both_no_right}
-use Rattle.basics.proofs.Order.{equal_or_not}
 use Rattle.store.specs.Held.{is_zero_byte}
-use Rattle.session_record.proofs.Tests.{both_right_true}
-use Rattle.session_record.proofs.Every.{every_no, every_yes, every_done}
 use Rattle.session_record.proofs.all_zero.Goals as goal
 
--- a byte that is no greater than the greatest so far changes nothing
-no-greater : (v : List ℕ) (i m : ℕ) → i < length v → get_or v i 0 ≤ m → both (eqb m 0) (every is_zero_byte (drop i v))
-    ≡ both (eqb m 0) (every is_zero_byte (drop (i + 1) v))
-no-greater v i m h l =
-    elim (equal_or_not m 0) [
-      | inl e ↦ ap (both (eqb m 0)) (every_yes is_zero_byte v 0 i h (eq-eqb (get_or v i 0) 0 (omega arith)))
-      | inr n ↦ both_no_left _ _ (ne_eqb m 0 n) ∙ sym (both_no_left _ _ (ne_eqb m 0 n))
-    ]
+-- one more entry
+every_push : (ys : List ℕ) (x : ℕ) → every is_zero_byte (ys ++ (x ∷ [])) ≡ both (every is_zero_byte ys) (eqb x 0)
+unfolding every both
+every_push [] x = grind arith
+every_push (y ∷ ys) x = grind (arith, every_push ys x)
 
-pub loop-i-init : goal.loop-i-init
-loop-i-init c = sym (both_true _ refl)
+-- the greater of two numbers is 0 where both are
+max_zero : (m x : ℕ) → eqb (max m x) 0 ≡ both (eqb m 0) (eqb x 0)
+unfolding both
+max_zero m x = grind arith
 
-pub loop-i-preserved : goal.loop-i-preserved
-loop-i-preserved c =
-    let lp = c.loop-i in
-    let v = c.args.v.now in
-    elim c.if-most-b.branch [
-      | goal.then-most-b w ↦
-          let lt : lp.most < get_or v lp.i 0 = w.if-most-b.true in
-          let is : c.if-most-b.most ≡ get_or v lp.i 0 = w.most-is in
-          lp.invariant ∙ both_no_right _ _
-          (every_no is_zero_byte v 0 lp.i (omega arith) (ne_eqb (get_or v lp.i 0) 0 (λ e. omega arith)))
-          ∙ sym (both_no_left _ _ (ne_eqb c.if-most-b.most 0 (λ e. omega arith)))
-      | goal.else-most-b w ↦ lp.invariant ∙ no-greater v lp.i lp.most (omega arith) (omega arith)
-          ∙ ap (λ (n : ℕ). both (eqb n 0) (every is_zero_byte (drop (lp.i + 1) v))) (sym w.most-is)
-    ]
+-- so the greatest of all so far tells
+zero_so_far : (ys : List ℕ) (m x b : ℕ) → eqb m 0 ≡ every is_zero_byte ys → b ≡ max m x
+    → eqb b 0 ≡ every is_zero_byte (ys ++ (x ∷ []))
+zero_so_far ys m x b j e =
+    ap (λ (n : ℕ). eqb n 0) e ∙ max_zero m x ∙ ap (λ (t : Bool). both t (eqb x 0)) j ∙ sym (every_push ys x)
 
 pub returns : goal.returns
+unfolding every
 returns c =
-    let lp = c.loop-i in
-    let v = c.args.v.now in
-    sym (lp.invariant ∙ both_right_true _ (every_done is_zero_byte v 0 lp.i (omega arith)))
+    fold_over fronts (λ y. y.now) _ (λ ys m. eqb m 0 ≡ every is_zero_byte ys) _
+    (λ ys a x b f' j k. (zero_so_far ys a x.now b j (search rules), search rules))
+    _ _ _ _ (slice_gives c.iter.result) refl c.fold.ensures.ran
+    ∙ ap (every is_zero_byte) c.iter.ensures.rest

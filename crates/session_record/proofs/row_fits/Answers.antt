@@ -22,8 +22,8 @@ returns-then-stored-a c =
 pub returns : goal.returns
 returns c =
     let p = c.args.place.now in
-    let st = c.widen-stored in
+    let st = c.from-stored in
     c.digits_match_form.ensures
-    ∙ ap (λ (n : ℕ). digits_match_form c.args.a.form (take (n - 1) (drop 1 p))) st.ensures.0
+    ∙ ap (λ (n : ℕ). digits_match_form c.args.a.form (take (n - 1) (drop 1 p))) st.ensures
     ∙ sym (place_digits (row_with_attributes_and_tag_zero c.args.a) p (sym c.requires.place_len) (λ e. omega arith) (omega arith)
     (omega arith))

@@ -1,84 +1,35 @@
 -- `start_data::load` meets its contract. One law for each way out, in the order of the refusals; a store that is
 -- cleared is as it came.
 -- Assumes nothing.
-use mathlib.Core.Path.{◌≡◌, sym, ap, ◌∙◌}
-use mathlib.Core.List.{List}
+use mathlib.Core.Path.{refl, sym, ap, ◌∙◌}
 use Prim.Native.Nat.{ℕ}
-use lib.ListN.{length, replicate, length-replicate}
-use Rattle.dictionary.specs.Rows.{store_size}
-use Rattle.start_data.proofs.Ways.{refuses, refuses_as, loads, load_long, load_broken, load_object, load_absent}
-use Rattle.start_data.proofs.Ways.{load_taken}
-use Rattle.start_data.proofs.Setting.{was_set, was_not}
+use lib.ListN.{replicate}
+use Rattle.start_data.proofs.Ways.{refuses, load_long, load_broken, objects, refuses_cleared, loads_kept}
 use Rattle.start_data.proofs.load.Goals as goal
-
--- a store of its size that is cleared is empty, and the empty store has its size
-empty : {n : ℕ} {c : List ℕ} → n ≡ store_size → c ≡ replicate n 0 → c ≡ replicate store_size 0
-empty l e = e ∙ ap (λ (m : ℕ). replicate m 0) l
-
-sized : (b : List ℕ) → b ≡ replicate store_size 0 → length b ≡ store_size
-sized b e = ap length e ∙ length-replicate {A = ℕ} store_size 0
+use Rattle.start_data.proofs.load.Goals.{
+  then-terminal-gt-MOST-via-then-terminal-gt-MOST,
+  then-terminal-gt-MOST-via-else-terminal-gt-MOST+then-not-is_primitive_list,
+}
 
 pub returns-then-terminal-gt-MOST : goal.returns-then-terminal-gt-MOST
-returns-then-terminal-gt-MOST c = let a = c.args in record {
-  given = refuses a.store.now c.refused.ensures
-      (load_long a.store.now a.terminal.now c.if-terminal-gt-MOST.true);
-  sized = sized _ c.requires;
-}
+returns-then-terminal-gt-MOST c =
+    let b = c.args.store.now in
+    let s = c.args.terminal.now in
+    elim c.then-terminal-gt-MOST.branch [
+      | then-terminal-gt-MOST-via-then-terminal-gt-MOST w ↦ refuses b refl (load_long b s w.if-terminal-gt-MOST.true)
+      | then-terminal-gt-MOST-via-else-terminal-gt-MOST+then-not-is_primitive_list w ↦ refuses b refl
+          (load_broken b s w.if-terminal-gt-MOST.false (sym w.is_primitive_list.ensures ∙ w.if-not-is_primitive_list.true))
+    ]
 
-pub returns-then-not-is_primitive_list : goal.returns-then-not-is_primitive_list
-returns-then-not-is_primitive_list c = let a = c.args in record {
-  given = refuses a.store.now c.refused-then-not-is_primitive_list.ensures
-      (load_broken a.store.now a.terminal.now c.if-terminal-gt-MOST.false
-      (sym c.is_primitive_list.ensures ∙ c.if-not-is_primitive_list.true));
-  sized = sized _ c.requires;
-}
+pub returns-then-is_err : goal.returns-then-is_err
+returns-then-is_err c =
+    let run = sym c.is_primitive_list.ensures ∙ c.if-not-is_primitive_list.false in
+    refuses_cleared _ _ _ (objects _ _ c.if-terminal-gt-MOST.false run) c.set_all-result.ensures _
+    (sym c.is_err.ensures.value ∙ c.if-is_err.true)
+    (c.clear.ensures ∙ ap (λ (n : ℕ). replicate n 0) c.set_all-result.array_long ∙ sym c.requires)
 
-pub set_objects-requires : goal.set_objects-requires
-set_objects-requires c = record {
-  store_len = sized _ c.requires;
-  are_dictionary_tables = record {
-    tags = c.dictionary_tags-tags.ensures;
-    codes =
-        c.packed_row_attributes-codes.ensures;
-  };
-}
-
-pub shape_of-store-then-not-set_objects : goal.shape_of-store-then-not-set_objects
-shape_of-store-then-not-set_objects c = ap length (empty c.set_objects.ensures.sized c.cleared.ensures.empty ∙ sym c.requires)
-
-pub returns-then-not-set_objects : goal.returns-then-not-set_objects
-returns-then-not-set_objects c = let a = c.args in
-    let e = empty c.set_objects.ensures.sized c.cleared.ensures.empty in record {
-      given = refuses_as a.store.now _ (e ∙ sym c.requires) c.cleared.ensures.said
-          (load_object a.store.now a.terminal.now c.if-terminal-gt-MOST.false
-          (sym c.is_primitive_list.ensures ∙ c.if-not-is_primitive_list.false)
-          (was_not _ _ c.set_objects.ensures.set c.if-not-set_objects.true));
-      sized = sized _ e;
-    }
-
-pub shape_of-store-then-not-all_required_at_start_present : goal.shape_of-store-then-not-all_required_at_start_present
-shape_of-store-then-not-all_required_at_start_present c = ap length (empty c.set_objects.ensures.sized c.cleared-then-not-all_required_at_start_present.ensures.empty ∙ sym c.requires)
-
-pub returns-then-not-all_required_at_start_present : goal.returns-then-not-all_required_at_start_present
-returns-then-not-all_required_at_start_present c = let a = c.args in
-    let e = empty c.set_objects.ensures.sized c.cleared-then-not-all_required_at_start_present.ensures.empty in record {
-      given = refuses_as a.store.now _ (e ∙ sym c.requires) c.cleared-then-not-all_required_at_start_present.ensures.said
-          (load_absent a.store.now a.terminal.now c.if-terminal-gt-MOST.false _
-          (was_set _ c.set_objects.ensures.set c.if-not-set_objects.false)
-          (sym c.all_required_at_start_present.ensures ∙ c.if-not-all_required_at_start_present.true));
-      sized = sized _ e;
-    }
-
-pub shape_of-store : goal.shape_of-store
-shape_of-store c = c.set_objects.ensures.sized ∙ sym (sized _ c.requires)
-
-pub returns : goal.returns
-returns c = let a =
-    c.args in record {
-      given = loads
-          (load_taken a.store.now a.terminal.now
-          c.if-terminal-gt-MOST.false _
-          (was_set _ c.set_objects.ensures.set c.if-not-set_objects.false)
-          (sym c.all_required_at_start_present.ensures ∙ c.if-not-all_required_at_start_present.false));
-      sized = c.set_objects.ensures.sized;
-    }
+pub returns-else-is_err : goal.returns-else-is_err
+returns-else-is_err c =
+    let run = sym c.is_primitive_list.ensures ∙ c.if-not-is_primitive_list.false in
+    loads_kept _ _ _ (objects _ _ c.if-terminal-gt-MOST.false run) c.set_all-result.ensures
+    (sym c.is_err.ensures.value ∙ c.if-is_err.false)

@@ -1,101 +1,26 @@
--- `start_data::set_objects` meets its contract. The invariant: setting what is left in the working store as it stands
--- is setting the whole. The measure is the length of what is left. Assumes nothing.
-use mathlib.Core.Path.{◌≡◌, refl, sym, ◌∙◌}
-use native.Mathlib.Omega.{arith}
-use lib.ListN.{length-take, length-drop}
-use Rattle.tlv.specs.declared.ObjectFront.TheVariants as front
-use Rattle.tlv.specs.Primitives.{primitive_at_front}
-use Rattle.tlv.proofs.Laws.{HeaderFits}
-use Rattle.tlv.proofs.Primitives.{primitive_fits}
-use Rattle.start_data.proofs.Setting.{says_set, says_not, was_set, was_not, set_end, set_broken, set_on}
-use Rattle.start_data.proofs.Setting.{set_stopped}
+-- `start_data::set_objects` meets its contract. The invariant: setting what the iterator has left in the working store as
+-- it stands is setting the whole. Assumes nothing.
+use Rattle.std.proofs.Common.{rules, Err}
+use mathlib.Core.Path.{◌≡◌, refl, sym, ap, ◌∙◌}
+use Rattle.tlv.specs.Primitives.{leading_primitive_objects}
+use Rattle.start_data.specs.StartData.{set_start_objects}
+use Rattle.start_data.proofs.Setting.{says_set, says_err, was_ok, was_err, set_run, set_end, set_on, set_stopped}
 use Rattle.start_data.proofs.set_objects.Goals as goal
 
-pub loop-s-init : goal.loop-s-init
-loop-s-init c = (refl, (c.requires.store_len, omega arith))
+pub loop-object-init : goal.loop-object-init
+loop-object-init c =
+    set_run c.args.store.now _ c.requires
+    ∙ ap (λ it. set_start_objects c.args.store.now (leading_primitive_objects it.0.now)) (sym c.into_iter-object-iterator.ensures.into_iter_gives)
 
-pub shape_of-store-in_default : goal.shape_of-store-in_default
-shape_of-store-in_default c = c.loop-s.invariant.1.0 ∙ sym c.requires.store_len
+pub loop-object-preserved : goal.loop-object-preserved
+loop-object-preserved c =
+    c.loop-object.invariant ∙ set_on _ _ _ c.in-Some.ensures.steps _ (was_ok _ c.set_object.ensures c.in_ok-set_object.was)
 
-pub returns-in_default : goal.returns-in_default
-returns-in_default c = let lp = c.loop-s in record {
-  set = says_not _ (lp.invariant.0 ∙ set_broken _ c.loop-s-test.true _
-      (sym c.primitive_at_front-front.ensures ∙ c.in_default.is)) refl;
-  sized = lp.invariant.1.0;
-}
-
-pub overflow_add-e : goal.overflow_add-e
-overflow_add-e c =
-    let next-at : primitive_at_front c.loop-s.s.now ≡ front.Object c.in-Object.h =
-    sym c.primitive_at_front-front.ensures ∙ c.in-Object.is in
-    let fits-at : HeaderFits c.loop-s.s.now c.in-Object.h =
-    primitive_fits _ _ (next-at) in
-    let h = fits-at in omega arith
-
-pub slice_bounds-value-end : goal.slice_bounds-value-end
-slice_bounds-value-end c =
-    let next-at : primitive_at_front c.loop-s.s.now ≡ front.Object c.in-Object.h =
-    sym c.primitive_at_front-front.ensures ∙ c.in-Object.is in
-    let fits-at : HeaderFits c.loop-s.s.now c.in-Object.h =
-    primitive_fits _ _ (next-at) in
-    let h = fits-at in omega arith
-
-pub slice_bounds-rest-count : goal.slice_bounds-rest-count
-slice_bounds-rest-count c =
-    let next-at : primitive_at_front c.loop-s.s.now ≡ front.Object c.in-Object.h =
-    sym c.primitive_at_front-front.ensures ∙ c.in-Object.is in
-    let fits-at : HeaderFits c.loop-s.s.now c.in-Object.h =
-    primitive_fits _ _ (next-at) in
-    let h = fits-at in omega arith
-
-pub slice_bounds-rest-start : goal.slice_bounds-rest-start
-slice_bounds-rest-start c =
-    let next-at : primitive_at_front c.loop-s.s.now ≡ front.Object c.in-Object.h =
-    sym c.primitive_at_front-front.ensures ∙ c.in-Object.is in
-    let fits-at : HeaderFits c.loop-s.s.now c.in-Object.h =
-    primitive_fits _ _ (next-at) in
-    let h = fits-at in omega arith
-
-pub set_object-requires : goal.set_object-requires
-set_object-requires c = record { store_len = c.loop-s.invariant.1.0; are_dictionary_tables = c.requires.are_dictionary_tables }
-
-pub shape_of-store-then-not-set_object : goal.shape_of-store-then-not-set_object
-shape_of-store-then-not-set_object c = c.set_object.ensures.sized ∙ sym c.requires.store_len
-
-pub returns-then-not-set_object : goal.returns-then-not-set_object
-returns-then-not-set_object c = let next-at : primitive_at_front c.loop-s.s.now ≡ front.Object c.in-Object.h =
-    sym c.primitive_at_front-front.ensures ∙ c.in-Object.is in
-    let set = c.set_object.ensures in record {
-      set = says_not _ (c.loop-s.invariant.0 ∙ set_stopped _
-          c.loop-s-test.true _ (next-at) _
-          (was_not _ _ set.set c.if-not-set_object.true))
-          refl;
-      sized = set.sized;
-    }
-
-pub loop-s-smaller : goal.loop-s-smaller
-loop-s-smaller c =
-    let next-at : primitive_at_front c.loop-s.s.now ≡ front.Object c.in-Object.h =
-    sym c.primitive_at_front-front.ensures ∙ c.in-Object.is in
-    let fits-at : HeaderFits c.loop-s.s.now c.in-Object.h =
-    primitive_fits _ _ (next-at) in
-    let h = fits-at in simp (length-take, length-drop) (omega arith)
-
-pub loop-s-preserved : goal.loop-s-preserved
-loop-s-preserved c =
-    let next-at : primitive_at_front c.loop-s.s.now ≡ front.Object c.in-Object.h =
-    sym c.primitive_at_front-front.ensures ∙ c.in-Object.is in
-    let fits-at : HeaderFits c.loop-s.s.now c.in-Object.h =
-    primitive_fits _ _ (next-at) in
-    let set = c.set_object.ensures in
-    let h = fits-at in (
-      c.loop-s.invariant.0 ∙ set_on _ c.loop-s-test.true _
-          (next-at) _ _ (was_set _ set.set c.if-not-set_object.false),
-      (set.sized, simp (length-take, length-drop) (omega arith)),
-    )
-
-pub shape_of-store : goal.shape_of-store
-shape_of-store c = c.loop-s.invariant.1.0 ∙ sym c.requires.store_len
+pub returns-in_err-set_object : goal.returns-in_err-set_object
+returns-in_err-set_object c =
+    let e : c.from_residual.result ≡ Err c.in_err-set_object.field-0.0 = search rules in
+    let w = was_err _ _ c.set_object.ensures c.in_err-set_object.was in
+    says_err _ (c.loop-object.invariant ∙ set_stopped _ _ _ c.in-Some.ensures.steps w.0) (e ∙ ap Err w.1)
 
 pub returns : goal.returns
-returns c = let lp = c.loop-s in record { set = says_set (lp.invariant.0 ∙ set_end _ _ c.loop-s-test.false) refl; sized = lp.invariant.1.0 }
+returns c = says_set (c.loop-object.invariant ∙ set_end _ c.in-None.ensures.steps.0) refl

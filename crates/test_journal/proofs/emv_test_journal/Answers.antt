@@ -20,7 +20,7 @@ slice_bounds-feed-end c = simp length-take (omega arith)
 
 pub loop-at-init : goal.loop-at-init
 loop-at-init c =
-    (c.least-at.ensures, c.feed-checker.ensures.follows [] c.begin.ensures.follows)
+    (omega (arith, c.min-at.ensures), c.feed-checker.ensures.follows [] c.begin.ensures.follows)
 
 pub loop-at-preserved : goal.loop-at-preserved
 loop-at-preserved c =
@@ -37,6 +37,6 @@ returns c =
     let b = c.args.bytes.now in
     let lp = c.loop-at in
     c.word.ensures
-    ∙ ap verdict_word (c.finish-verdict.ensures.follows (take lp.at b) lp.invariant.1)
+    ∙ ap verdict_word (c.finish.ensures.follows (take lp.at b) lp.invariant.1)
     ∙ ap (λ (s : List ℕ). verdict_word (journal_verdict_of s))
     (take_all lp.at b (omega (arith, c.loop-at-test.false)))

@@ -10,6 +10,6 @@ pub returns-then-past_blanks-eq0 : goal.returns-then-past_blanks-eq0
 unfolding line_if_only_blanks_follow
 returns-then-past_blanks-eq0 c = sym (rw (← c.past_blanks.ensures) (if_yes _ _ (eq-eqb _ _ c.if-past_blanks-eq0.true)))
 
-pub returns : goal.returns
+pub returns-else-past_blanks-eq0 : goal.returns-else-past_blanks-eq0
 unfolding line_if_only_blanks_follow
-returns c = sym (rw (← c.past_blanks.ensures) (if_no _ _ (ne_eqb _ _ c.if-past_blanks-eq0.false)))
+returns-else-past_blanks-eq0 c = sym (rw (← c.past_blanks.ensures) (if_no _ _ (ne_eqb _ _ c.if-past_blanks-eq0.false)))

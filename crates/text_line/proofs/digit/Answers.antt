@@ -1,64 +1,28 @@
 -- `text_line::digit` meets its contract. By the three runs of digits.
 -- Assumes nothing.
-use mathlib.Core.Path.{◌≡◌, sym, ◌∙◌}
-use mathlib.Core.Bool.{Bool, true}
-use Prim.Native.Nat.{ℕ, ◌≤◌}
+use mathlib.Core.Path.{sym}
+use mathlib.Core.Logic.{inl, inr}
 use native.Mathlib.Omega.{arith}
-use borrow.Author.Tests.{leb-true}
-use Rattle.basics.proofs.Laws.{if_yes, if_no, both_left, both_right}
-use Rattle.text_line.specs.Digits.{hex_digit_value_or16}
-use Rattle.basics.specs.Number.{between}
+use Rattle.text_line.proofs.Digits.{digit_small, digit_capital, digit_letter, digit_none}
 use Rattle.text_line.proofs.digit.Goals as goal
 
-ends : (t : Bool) (low c high : ℕ) → t ≡ between low c high → t ≡ true → (low ≤ c) × (c ≤ high)
-ends t low c high e y =
-    (leb-true low c (both_left _ _ (sym e ∙ y)), leb-true c high (both_right _ _ (sym e ∙ y)))
+pub returns-in-48-to-57 : goal.returns-in-48-to-57
+returns-in-48-to-57 c = (sym (digit_small c.args.c (omega arith) (omega arith)), omega arith)
 
-pub overflow_sub-result : goal.overflow_sub-result
-overflow_sub-result c = let k = ends _ 48 c.args.c 57 c.is_between.ensures c.if-is_between.true in omega arith
+pub returns-in-65-to-70 : goal.returns-in-65-to-70
+returns-in-65-to-70 c = let e = digit_capital c.args.c (omega arith) (omega arith) in (sym e, omega arith)
 
-pub returns-then-is_between : goal.returns-then-is_between
-unfolding hex_digit_value_or16
-returns-then-is_between c =
-    let k = ends _ 48 c.args.c 57 c.is_between.ensures c.if-is_between.true in
-    (sym (if_yes _ _ (sym c.is_between.ensures ∙ c.if-is_between.true)), omega arith)
+pub returns-in-97-to-102 : goal.returns-in-97-to-102
+returns-in-97-to-102 c = let e = digit_letter c.args.c (omega arith) (omega arith) in (sym e, omega arith)
 
-pub overflow_sub-result-then-is_between-2 : goal.overflow_sub-result-then-is_between-2
-overflow_sub-result-then-is_between-2 c = let k = ends _ 65 c.args.c 70 c.is_between-2.ensures c.if-is_between-2.true in omega arith
+pub returns-in_default : goal.returns-in_default
+returns-in_default c = (sym (digit_none c.args.c (inl (omega arith)) (inl (omega arith)) (inl (omega arith))), omega arith)
 
-pub returns-then-is_between-2 : goal.returns-then-is_between-2
-unfolding hex_digit_value_or16
-returns-then-is_between-2 c =
-    let k = ends _ 65 c.args.c 70 c.is_between-2.ensures c.if-is_between-2.true
-    in (
-      sym (if_no _ _ (sym c.is_between.ensures ∙ c.if-is_between.false)
-          ∙ if_yes _ _ (sym c.is_between-2.ensures ∙ c.if-is_between-2.true)),
-      omega arith,
-    )
+pub returns-in_default-2 : goal.returns-in_default-2
+returns-in_default-2 c = (sym (digit_none c.args.c (inr (omega arith)) (inl (omega arith)) (inl (omega arith))), omega arith)
 
-pub overflow_sub-result-then-is_between-3 : goal.overflow_sub-result-then-is_between-3
-overflow_sub-result-then-is_between-3 c = let k = ends _ 97 c.args.c 102 c.is_between-3.ensures c.if-is_between-3.true in omega arith
+pub returns-in_default-3 : goal.returns-in_default-3
+returns-in_default-3 c = (sym (digit_none c.args.c (inr (omega arith)) (inr (omega arith)) (inl (omega arith))), omega arith)
 
-pub returns-then-is_between-3 : goal.returns-then-is_between-3
-unfolding hex_digit_value_or16
-returns-then-is_between-3 c =
-    let k = ends _ 97 c.args.c 102 c.is_between-3.ensures
-    c.if-is_between-3.true in (
-      sym
-          (if_no _ _ (sym c.is_between.ensures ∙
-          c.if-is_between.false)
-          ∙ if_no _ _ (sym c.is_between-2.ensures ∙ c.if-is_between-2.false)
-          ∙ if_yes _ _ (sym c.is_between-3.ensures ∙ c.if-is_between-3.true)),
-      omega arith,
-    )
-
-pub returns : goal.returns
-unfolding hex_digit_value_or16
-returns c = (
-  sym
-      (if_no _ _ (sym c.is_between.ensures ∙
-      c.if-is_between.false)
-      ∙ if_no _ _ (sym c.is_between-2.ensures ∙ c.if-is_between-2.false)
-      ∙ if_no _ _ (sym c.is_between-3.ensures ∙ c.if-is_between-3.false)),
-  omega arith,
-)
+pub returns-in_default-4 : goal.returns-in_default-4
+returns-in_default-4 c = (sym (digit_none c.args.c (inr (omega arith)) (inr (omega arith)) (inr (omega arith))), omega arith)

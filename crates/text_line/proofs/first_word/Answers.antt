@@ -1,15 +1,10 @@
 -- `text_line::first_word` meets its contract. The front part without blanks of what follows the blanks.
 -- Assumes nothing.
 use mathlib.Core.Path.{ap, ◌∙◌}
-use native.Mathlib.Omega.{arith}
-use lib.ListN.{length-take}
 use Rattle.text_line.specs.Text.{is_character_of_kind, longest_prefix}
 use Rattle.text_line.specs.declared.CharacterKind.{CharacterKind}
 use Rattle.text_line.proofs.Text.{front_is}
 use Rattle.text_line.proofs.first_word.Goals as goal
-
-pub slice_bounds-result-end : goal.slice_bounds-result-end
-slice_bounds-result-end c = simp length-take (omega arith)
 
 pub returns : goal.returns
 returns c =

@@ -2,40 +2,37 @@
 -- Assumes nothing.
 use mathlib.Core.Path.{sym, ◌∙◌}
 use native.Mathlib.Omega.{arith}
-use Rattle.text_line.proofs.Digits.{reading_start, reading_on, not_digit, too_large, sized_none}
+use Rattle.text_line.proofs.Digits.{reading_on, not_digit, too_large, sized_none}
 use Rattle.text_line.proofs.Digits.{sized_is}
 use Rattle.text_line.proofs.size_line.Goals as goal
 
 pub returns-then-w-eq0 : goal.returns-then-w-eq0
 returns-then-w-eq0 c = sym (sized_none _ c.if-w-eq0.true)
 
-pub loop-i-init : goal.loop-i-init
-loop-i-init c = (omega arith, reading_start _)
-
 pub returns-then-d-ge10 : goal.returns-then-d-ge10
 returns-then-d-ge10 c =
-    let lp = c.loop-i in
+    let lp = c.loop-c in
     sym
-    (not_digit _ _ _ lp.invariant.1 (omega arith) _ (c.widen-d.ensures.0 ∙ c.digit.ensures.0)
+    (not_digit _ _ _ lp.invariant.1 (omega arith) _ (c.from-d.ensures ∙ c.digit.ensures.0)
     c.if-d-ge10.true)
 
 pub returns-then-n-gt-LONGEST : goal.returns-then-n-gt-LONGEST
 returns-then-n-gt-LONGEST c =
-    let lp = c.loop-i in
+    let lp = c.loop-c in
     sym
     (too_large _ _ _ lp.invariant.1 (omega arith) _
-    (c.widen-d.ensures.0 ∙ c.digit.ensures.0) c.if-n-gt-LONGEST.true)
+    (c.from-d.ensures ∙ c.digit.ensures.0) c.if-n-gt-LONGEST.true)
 
-pub loop-i-preserved : goal.loop-i-preserved
-loop-i-preserved c =
-    let lp = c.loop-i in (
+pub loop-c-preserved : goal.loop-c-preserved
+loop-c-preserved c =
+    let lp = c.loop-c in (
       lp.invariant.0,
       reading_on _ _ _ lp.invariant.1 (omega arith) _
-          (c.widen-d.ensures.0 ∙ c.digit.ensures.0) c.if-d-ge10.false
+          (c.from-d.ensures ∙ c.digit.ensures.0) c.if-d-ge10.false
           c.if-n-gt-LONGEST.false,
     )
 
 pub returns : goal.returns
 returns c =
-    let lp = c.loop-i in
+    let lp = c.loop-c in
     sym (sized_is _ _ _ lp.invariant.1 lp.invariant.0 (omega arith))

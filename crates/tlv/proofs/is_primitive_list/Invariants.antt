@@ -7,9 +7,9 @@ use lib.ListN.{length}
 use Rattle.tlv.specs.Primitives.{primitive_objects, are_primitive_objects_parsed}
 use Rattle.tlv.proofs.is_primitive_list.Given as goal
 
-abbrev pub invariant-loop-s : goal.invariant-loop-s
-invariant-loop-s l = (are_primitive_objects_parsed (primitive_objects l.initial.s) ≡ are_primitive_objects_parsed (primitive_objects l.s))
+abbrev pub invariant-loop-h : goal.invariant-loop-h
+invariant-loop-h l = (are_primitive_objects_parsed (primitive_objects l.initial.s) ≡ are_primitive_objects_parsed (primitive_objects l.s))
     × (length l.s ≤ length l.initial.s)
 
-abbrev pub decreases-loop-s : goal.decreases-loop-s
-decreases-loop-s l = length l.s
+abbrev pub decreases-loop-h : goal.decreases-loop-h
+decreases-loop-h l = length l.s

@@ -1,20 +1,24 @@
 -- `tlv::object_behind` meets its contract: after the last byte nothing is left; else the object there is next.
 -- Assumes nothing.
-use mathlib.Core.Path.{sym, ap, ◌∙◌}
+use Rattle.std.specs.Prelude.{Some, None}
+use mathlib.Core.Path.{sym, ◌∙◌}
 use native.Mathlib.Omega.{arith}
-use Rattle.tlv.specs.Tree.{next_in_template_shifted}
+use lib.ListN.{length-take, length-drop}
+use Rattle.tlv.proofs.Laws.{header_fits}
 use Rattle.tlv.proofs.NextObject.{passed_all, stop_at}
 use Rattle.tlv.proofs.object_behind.Goals as goal
 
 pub returns-then-at-s : goal.returns-then-at-s
-returns-then-at-s c = sym (c.requires.next ∙ passed_all _ c.args.at (omega arith))
+returns-then-at-s c = sym (passed_all _ _ c.requires (omega arith))
 
-pub object_at-requires : goal.object_at-requires
-object_at-requires c = c.requires.inside
+pub overflow_add-result : goal.overflow_add-result
+overflow_add-result c =
+    let f = header_fits _ c.in-Some.h (sym c.object_header.ensures ∙ c.in-Some.is) in
+    omega (arith, simp (length-take, length-drop) at f.inside)
 
-pub returns : goal.returns
-returns c =
-    let l = c.requires.inside in
-    let h = c.if-at-s.false in
-    c.object_at.ensures ∙ sym (c.requires.next ∙ ap (next_in_template_shifted c.args.at)
-    (stop_at _ c.args.at (omega arith) (c.requires.stops (omega arith))))
+pub returns-in-Some : goal.returns-in-Some
+returns-in-Some c =
+    sym (stop_at _ _ c.requires (omega arith) (Some c.in-Some.h) (sym c.object_header.ensures ∙ c.in-Some.is))
+
+pub returns-in-None : goal.returns-in-None
+returns-in-None c = sym (stop_at _ _ c.requires (omega arith) None (sym c.object_header.ensures ∙ c.in-None.is))

@@ -1,16 +1,17 @@
 -- `action::tvr_with_cvm` meets its contract: the added bits are at most 20 in byte 1 and C4 in byte 3, so the
 -- sums are bytes.
 -- Assumes nothing.
-use mathlib.Core.List.{List, [], ◌∷◌}
-use mathlib.Core.Path.{◌≡◌, ap, ap₂}
-use Prim.Native.Nat.{ℕ, ◌+◌, ◌≤◌}
+use mathlib.Core.List.{List}
+use mathlib.Core.Path.{◌≡◌, ap}
+use Prim.Native.Nat.{ℕ, ◌≤◌}
+use native.Mathlib.Nat.{add-zero}
 use native.Mathlib.Omega.{arith}
 use lib.ListN.{get_or}
 use Rattle.basics.proofs.Laws.{if_ind}
 use Rattle.store.specs.Held.{stored_bytes}
-use Rattle.analysis.specs.Action.{restrictions_tvr_byte2, tvr_before_cvm, cvm_result_in, tvr_with_cvm}
+use Rattle.analysis.specs.Action.{tvr_before_cvm, cvm_result_in, tvr_with_cvm}
 use Rattle.analysis.specs.Digits.{first_amount_is_above}
-use Rattle.analysis.specs.Tvr.{tvr_byte4_amount_above_floor_limit, tvr_with_bits}
+use Rattle.analysis.specs.Tvr.{tvr_with_bits}
 use Rattle.analysis.specs.declared.cvm.CvmResult.{CvmResult}
 use Rattle.analysis.proofs.CvmLaws.{first_most, third_most, on_device_bits}
 use Rattle.analysis.proofs.action.tvr_with_cvm.Goals as goal
@@ -38,34 +39,11 @@ third-added b =
     (λ e. let z = on_device_bits (first_amount_is_above (stored_bytes b 0x9F02) (stored_bytes b 0xDF8126)) in
     omega (arith, z.1)) (λ e. third_most _ _ _)
 
--- the bits are in bytes 1 and 3
-added : (a b c d e x z : ℕ) → (a + x) ∷ b ∷ (c + z) ∷ d ∷ e ∷ [] ≡ tvr_with_bits (a ∷ b ∷ c ∷ d ∷ e ∷ [])
-    (x ∷ 0 ∷ z ∷ 0 ∷ 0 ∷ [])
-unfolding tvr_with_bits
-added a b c d e x z =
-    let p : b ≡ b + 0 = omega arith in
-    let q : d ≡ d + 0 = omega arith in
-    let r : e ≡ e + 0 = omega arith in
-    ap (λ (t : List ℕ). (a + x) ∷ t)
-    (ap₂ (λ (m : ℕ) (t : List ℕ). m ∷ (c + z) ∷ t) p (ap₂ (λ (m n : ℕ). m ∷ n ∷ []) q r))
-
-full : (b s : List ℕ) (x z : ℕ) → s ≡ tvr_before_cvm b → x ≡ (cvm_result_in b).tvr1 → z ≡ (cvm_result_in b).tvr3
-    → (get_or s 0 0 + x) ∷ get_or s 1 0 ∷ (get_or s 2 0 + z) ∷ get_or s 3 0 ∷ get_or s 4 0 ∷ [] ≡ tvr_with_cvm b
-unfolding tvr_with_cvm tvr_before_cvm
-full b s x z e f g =
-    simp (e, f, g)
-    (added 0x80 (restrictions_tvr_byte2 b) 0 (tvr_byte4_amount_above_floor_limit (stored_bytes b 0x9F02)
-    (stored_bytes b 0xDF8123)) 0 (cvm_result_in b).tvr1 (cvm_result_in b).tvr3)
-
 pub overflow_add-result : goal.overflow_add-result
 overflow_add-result c =
     let b = c.args.bytes.now in
-    record { fits = omega (arith, first-is b _ c.tvr_before_cvm-result.ensures, first-added b, c.requires.0) }
-
-pub overflow_add-result-2 : goal.overflow_add-result-2
-overflow_add-result-2 c =
-    let b = c.args.bytes.now in
-    record { fits = omega (arith, third-is b _ c.tvr_before_cvm-result.ensures, third-added b, c.requires.1) }
+    omega (arith, first-is b _ c.tvr_before_cvm-result.ensures, first-added b)
 
 pub returns : goal.returns
-returns c = full _ _ _ _ c.tvr_before_cvm-result.ensures c.requires.0 c.requires.1
+unfolding tvr_with_cvm tvr_before_cvm tvr_with_bits
+returns c = simp (c.tvr_before_cvm-result.ensures, c.requires.0, c.requires.1, add-zero)

@@ -1,5 +1,4 @@
--- `choice::lowest_tvr_bit_in_codes` meets its contract. The loop's invariant: no bit of the bytes before byte i is held
--- (`Clear`).
+-- `choice::lowest_tvr_bit_in_codes` meets its contract: byte by byte.
 -- Assumes nothing.
 use mathlib.Core.Path.{sym, ◌∙◌}
 use native.Mathlib.Omega.{arith}
@@ -7,29 +6,16 @@ use Rattle.analysis.proofs.Lowest.{found}
 use Rattle.analysis.proofs.Stages.{byte_found, byte_clear, all_clear}
 use Rattle.analysis.proofs.choice.lowest_tvr_bit_in_codes.Goals as goal
 
-pub loop-i-init : goal.loop-i-init
-loop-i-init c = (omega arith, λ m h. absurd (omega arith))
-
 pub overflow_add-result : goal.overflow_add-result
-overflow_add-result c =
-    let f = found _ 8 0 _ (sym c.byte_bit.ensures ∙ c.in-Bit.is) in
-    omega (arith, f.within)
+overflow_add-result c = omega (arith, (found _ 8 0 _ (sym c.byte_bit.ensures ∙ c.in-Some.is)).within)
 
-pub returns-in-Bit : goal.returns-in-Bit
-returns-in-Bit c =
-    let lp = c.loop-i in
-    sym (byte_found _ _ lp.i _ (omega arith) lp.invariant.1 (sym c.byte_bit.ensures ∙
-    c.in-Bit.is))
+pub returns-in-Some : goal.returns-in-Some
+returns-in-Some c =
+    sym
+    (byte_found _ _ c.loop-i.i _ (omega arith) c.loop-i.invariant (sym c.byte_bit.ensures ∙ c.in-Some.is))
 
 pub loop-i-preserved : goal.loop-i-preserved
-loop-i-preserved c =
-    let lp = c.loop-i in (
-      omega arith,
-      byte_clear _ _ lp.i lp.invariant.1
-          (sym c.byte_bit.ensures ∙ c.in_default.is),
-    )
+loop-i-preserved c = byte_clear _ _ c.loop-i.i c.loop-i.invariant (sym c.byte_bit.ensures ∙ c.in_default.is)
 
 pub returns : goal.returns
-returns c =
-    let lp = c.loop-i in
-    sym (all_clear _ _ (λ m h. lp.invariant.1 m (omega arith)))
+returns c = sym (all_clear _ _ (λ m h. c.loop-i.invariant m (omega arith)))

@@ -6,14 +6,8 @@ use native.Mathlib.Omega.{arith}
 use Rattle.personalise.proofs.Least.{first-start, first_yes, first_on, first-none}
 use Rattle.personalise.proofs.contents.bad_record.Goals as goal
 
-pub count-count-requires : goal.count-count-requires
-count-count-requires c = c.requires
-
 pub loop-k-init : goal.loop-k-init
 loop-k-init c = (first-start _ _ _, omega arith)
-
-pub is_bad-requires : goal.is_bad-requires
-is_bad-requires c = record { objects_value = c.requires; count_value = c.count-count.ensures }
 
 pub returns-then-is_bad : goal.returns-then-is_bad
 returns-then-is_bad c =

@@ -1,24 +1,17 @@
--- `contents::size` meets its contract. The invariant: the size so far, at most 253, and that of what is left, which is
--- a run, are that of the whole, up to the bound. The measure is the length of what is left. Assumes nothing.
+-- `contents::size` meets its contract. The invariant: the size so far, at most 253, and that of the objects that are left
+-- are that of all, up to the bound. Assumes nothing.
 use mathlib.Core.Path.{◌≡◌}
-use mathlib.Core.Bool.{true}
 use Prim.Native.Nat.{◌+◌, ◌≤◌}
-use lib.ListN.{length}
-use Rattle.tlv.specs.Primitives.{primitive_objects, are_primitive_objects_parsed}
-use Rattle.personalise.specs.Placements.{placements_in, objects_in_record_from}
-use Rattle.personalise.specs.Records.{encoded_objects}
-use Rattle.personalise.specs.Objects.{parsed_objects_or_empty}
+use lib.ListN.{length, drop}
+use Rattle.tlv.specs.Primitives.{leading_primitive_objects}
+use Rattle.personalise.specs.Placements.{placements_in}
 use Rattle.personalise.specs.Inner.{size_capped_at254}
+use Rattle.personalise.proofs.Filled.{content}
 use Rattle.personalise.proofs.contents.size.Given as goal
 
-abbrev pub invariant-loop-s : goal.invariant-loop-s
-invariant-loop-s l =
-    (size_capped_at254
-    (l.initial.total
-    + length (encoded_objects (objects_in_record_from (placements_in l.placements) l.k l.initial.number (parsed_objects_or_empty l.initial.s))))
-    ≡ size_capped_at254
-    (l.total + length (encoded_objects (objects_in_record_from (placements_in l.placements) l.k l.number (parsed_objects_or_empty l.s)))))
-    × (are_primitive_objects_parsed (primitive_objects l.s) ≡ true) × (l.total ≤ 253) × (l.number + length l.s ≤ 1 + length l.initial.s)
-
-abbrev pub decreases-loop-s : goal.decreases-loop-s
-decreases-loop-s l = length l.s
+abbrev pub invariant-loop-i : goal.invariant-loop-i
+invariant-loop-i l =
+    (size_capped_at254 (length (content (placements_in l.placements) l.k 1 (leading_primitive_objects l.objects)))
+    ≡ size_capped_at254 (l.total + length (content (placements_in l.placements) l.k (length l.yielded + 1)
+    (drop (length l.yielded) (leading_primitive_objects l.objects)))))
+    × (l.total ≤ 253)

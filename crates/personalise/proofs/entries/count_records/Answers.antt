@@ -1,25 +1,30 @@
--- `entries::count_records` meets its contract. The invariant: the count so far and that of what is left are that of the
--- whole; each entry names at most 256. The measure is the length of what is left. Assumes nothing.
-use mathlib.Core.Path.{refl, ◌∙◌}
+-- `entries::count_records` meets its contract: the sum of the entries' counts, each at most 256.
+-- Assumes nothing.
+use mathlib.Core.Path.{ap, ◌∙◌}
 use native.Mathlib.Omega.{arith}
-use lib.ListN.{length-take, length-drop}
-use Rattle.personalise.proofs.Proposed.{tail_less, total_end, total_on}
+use borrow.Author.Rules.{rules}
+use Rattle.std.proofs.lemmas.Iterator.{YieldsList-from_map}
+use Rattle.std.proofs.lemmas.Iterator.Consumers.{YieldsList-from_first, sum_by_from_yields_List, fits_by_from_yields_list}
+use Rattle.afl.specs.Entry.{entry_record_count}
+use Rattle.afl.specs.Records.{afl_entries}
+use Rattle.personalise.proofs.Proposed.{total_is, total_bound}
 use Rattle.personalise.proofs.entries.count_records.Goals as goal
 
-pub loop-rest-init : goal.loop-rest-init
-loop-rest-init c = (refl, omega arith)
-
-pub loop-rest-smaller : goal.loop-rest-smaller
-loop-rest-smaller c =
-    tail_less c.loop-rest.rest.now c.loop-rest-test.true _ c.front-e.ensures
-
-pub loop-rest-preserved : goal.loop-rest-preserved
-loop-rest-preserved c =
-    let lp = c.loop-rest in
-    let h = c.loop-rest-test.true in (
-      lp.invariant.0 ∙ total_on _ h _ c.front-e.ensures lp.total _ c.count-total.ensures.0,
-      simp (length-take, length-drop) (omega (arith, lp.invariant.1, c.count-total.ensures.1)),
-    )
+pub sum-requires-clause-fits : goal.sum-requires-clause-fits
+sum-requires-clause-fits c =
+    let b = total_bound c.args.entries.now (λ i. omega (arith, c.type_inv.entries i)) in
+    let t = total_is c.args.entries.now in
+    fits_by_from_yields_list entry_record_count (afl_entries c.args.entries.now) c.map.result _
+    (YieldsList-from_map _ entry_record_count
+    (YieldsList-from_first (λ x. x) (λ s. afl_entries s.0.now) {s = c.map.result.iter} (afl_entries c.args.entries.now)
+    (ap (λ s. afl_entries s.0.now) c.map.ensures.source))
+    c.map.ensures.closure (λ x r q k. search rules)) (omega arith)
 
 pub returns : goal.returns
-returns c = (omega (arith, c.loop-rest.invariant.0, total_end c.loop-rest.rest.now c.loop-rest-test.false), omega arith)
+returns c =
+    let b = total_bound c.args.entries.now (λ i. omega (arith, c.type_inv.entries i)) in
+    let e = sum_by_from_yields_List entry_record_count (afl_entries c.args.entries.now) c.map.result _ c.sum.ensures.ran
+    (YieldsList-from_map _ entry_record_count
+    (YieldsList-from_first (λ x. x) (λ s. afl_entries s.0.now) {s = c.map.result.iter} (afl_entries c.args.entries.now)
+    (ap (λ s. afl_entries s.0.now) c.map.ensures.source))
+    c.map.ensures.closure (λ x r q k. search rules)) ∙ total_is c.args.entries.now in (e, omega arith)

@@ -1,25 +1,19 @@
--- `entries::is_apart` meets its contract. The invariant: the entry is apart from what is left exactly where it is from
--- the whole. The measure is the length of what is left. Assumes nothing.
-use mathlib.Core.Path.{refl, sym, ◌∙◌}
-use Rattle.personalise.proofs.Proposed.{tail_less, apart_end, apart_no, apart_on}
+-- `entries::is_apart` meets its contract: the test at each entry before.
+-- Assumes nothing.
+use mathlib.Core.Path.{refl, ◌∙◌}
+use borrow.Author.Rules.{rules}
+use borrow.Author.Tests.{tests}
+use mathlib.Core.Bool.{not}
+use Rattle.std.proofs.lemmas.Iterator.Consumers.{YieldsList-from_first}
+use Rattle.std.proofs.lemmas.Iterator.Search.{all_from_yields_List}
+use Rattle.afl.specs.Records.{afl_entries}
+use Rattle.personalise.specs.Entries.{entries_overlap}
+use Rattle.personalise.proofs.Proposed.{apart_is}
 use Rattle.personalise.proofs.entries.is_apart.Goals as goal
 
-pub loop-rest-init : goal.loop-rest-init
-loop-rest-init c = refl
-
-pub returns-then-meets : goal.returns-then-meets
-returns-then-meets c =
-    sym (c.loop-rest.invariant ∙ apart_no _ c.loop-rest-test.true _ c.front-f.ensures _
-    (sym c.meets.ensures ∙ c.if-meets.true))
-
-pub loop-rest-smaller : goal.loop-rest-smaller
-loop-rest-smaller c =
-    tail_less c.loop-rest.rest.now c.loop-rest-test.true _ c.front-f.ensures
-
-pub loop-rest-preserved : goal.loop-rest-preserved
-loop-rest-preserved c =
-    c.loop-rest.invariant ∙ apart_on _ c.loop-rest-test.true _ c.front-f.ensures _
-    (sym c.meets.ensures ∙ c.if-meets.false)
-
 pub returns : goal.returns
-returns c = sym (c.loop-rest.invariant ∙ apart_end _ _ c.loop-rest-test.false)
+returns c =
+    all_from_yields_List (λ f. not (entries_overlap f c.args.e)) c.all.new.self _ _ c.all.ensures.ran
+    (YieldsList-from_first (λ x. x) (λ s. afl_entries s.0.now) {s = record { 0 = c.args.before }} _ refl)
+    (λ x b q k. search (rules, tests))
+    ∙ apart_is (afl_entries c.args.before.now) c.args.e

@@ -1,43 +1,27 @@
--- `placements::count_named` meets its contract. The invariant: the count so far and that of what is left are that of
--- the whole. The measure is the length of what is left. Assumes nothing.
-use borrow.Author.Tests.{eq-eqb, ne_eqb}
-use mathlib.Core.Path.{refl, sym, ap, ◌∙◌}
-use Prim.Native.Nat.{ℕ, ◌+◌}
+-- `placements::count_named` meets its contract: how many placements pass the test.
+-- Assumes nothing.
+use mathlib.Core.Path.{ap, ◌∙◌}
+use mathlib.Core.Logic.{inl}
 use native.Mathlib.Omega.{arith}
-use Rattle.tlv.proofs.Laws.{tail}
-use Rattle.personalise.specs.Placements.{placements_in, count_placements_where, places_object_number}
-use Rattle.personalise.proofs.Placed.{count_end, count_yes, count_no, tail_less}
+use borrow.Author.Rules.{rules}
+use borrow.Author.Tests.{tests}
+use lib.ListN.{length}
+use Rattle.std.proofs.lemmas.Iterator.Consumers.{YieldsList-from_first, YieldsList-from_filter, count_from_yields_List}
+use Rattle.personalise.specs.Placements.{placements_in, places_object_number}
+use Rattle.personalise.proofs.Placed.{placements_most, count_is}
 use Rattle.personalise.proofs.placements.count_named.Goals as goal
-use Rattle.personalise.proofs.placements.count_named.Goals.{then-widen-object, else-widen-object}
 
-pub loop-rest-init : goal.loop-rest-init
-loop-rest-init c = (refl, omega arith)
-
-pub loop-rest-smaller : goal.loop-rest-smaller
-loop-rest-smaller c =
-    tail_less c.loop-rest.rest.now c.loop-rest-test.true _ c.front-p.ensures _
-    c.width-n.ensures
-
-pub loop-rest-preserved : goal.loop-rest-preserved
-loop-rest-preserved c =
-    let lp = c.loop-rest in
-    let h = c.loop-rest-test.true in
-    let l = tail_less lp.rest.now h _ c.front-p.ensures _ c.width-n.ensures in
-    let t = c.args.object in
-    elim c.if-widen-object.branch [
-      | then-widen-object w ↦ (let e = count_yes lp.rest.now h _ c.front-p.ensures _ c.width-n.ensures (places_object_number t)
-          lp.count (eq-eqb _ _ (sym c.widen.ensures.0 ∙ w.if-widen-object.true)) in (
-            lp.invariant.0 ∙ e ∙ ap (λ (x : ℕ). x + count_placements_where (places_object_number t)
-                (placements_in (tail lp.rest.now c.width-n.result))) (sym w.count-is),
-            omega arith,
-          ))
-      | else-widen-object w ↦ (let e = count_no lp.rest.now h _ c.front-p.ensures _ c.width-n.ensures (places_object_number t)
-          lp.count (ne_eqb _ _ (λ z. w.if-widen-object.false (c.widen.ensures.0 ∙ z))) in (
-            lp.invariant.0 ∙ e ∙ ap (λ (x : ℕ). x + count_placements_where (places_object_number t)
-                (placements_in (tail lp.rest.now c.width-n.result))) (sym w.count-is),
-            omega arith,
-          ))
-    ]
+pub count-requires-clause-fits : goal.count-requires-clause-fits
+count-requires-clause-fits c =
+    let m = placements_most c.args.placements.now in
+    let e = ap (λ s. length (placements_in s.0.now)) c.filter.ensures.source in
+    inl (omega arith)
 
 pub returns : goal.returns
-returns c = omega (arith, c.loop-rest.invariant.0, count_end (places_object_number c.args.object) c.loop-rest.rest.now c.loop-rest-test.false)
+returns c =
+    count_from_yields_List c.filter.result _ c.count.ensures.ran
+    (YieldsList-from_filter _ (places_object_number c.args.object)
+    (YieldsList-from_first (λ x. x) (λ s. placements_in s.0.now) {s = c.filter.result.iter} (placements_in c.args.placements.now)
+    (ap (λ s. placements_in s.0.now) c.filter.ensures.source))
+    c.filter.ensures.closure (λ x r q k. search (rules, tests)))
+    ∙ count_is _ (placements_in c.args.placements.now)

@@ -1,17 +1,11 @@
--- `placements::is_of` meets its contract: the record first, then the object.
 -- Assumes nothing.
+use mathlib.Core.Path.{sym, ◌∙◌}
 use borrow.Author.Tests.{eq-eqb, ne_eqb}
-use mathlib.Core.Path.{sym, ap, ◌∙◌}
-use Prim.Native.Nat.{ℕ}
-use lib.Dec.{eqb}
 use Rattle.basics.proofs.Laws.{both_true, both_no_left}
 use Rattle.personalise.proofs.placements.is_of.Goals as goal
 
-pub returns-then-widen-into : goal.returns-then-widen-into
-returns-then-widen-into c = sym (both_no_left _ _ (ne_eqb _ _ (λ e. c.if-widen-into.true (c.widen.ensures.0 ∙ e))))
+pub returns-then-from-into : goal.returns-then-from-into
+returns-then-from-into c = rw c.from-then-from-into.ensures (sym (both_true _ (eq-eqb _ _ (sym c.from.ensures ∙ c.if-from-into.true))))
 
-pub returns : goal.returns
-returns c =
-    let a = c.args in
-    ap (λ (x : ℕ). eqb x a.object) c.widen-2.ensures.0
-    ∙ sym (both_true _ (eq-eqb _ _ (sym c.widen.ensures.0 ∙ c.if-widen-into.false)))
+pub returns-else-from-into : goal.returns-else-from-into
+returns-else-from-into c = ne_eqb _ _ c.if-from-into.false ∙ sym (both_no_left _ _ (ne_eqb _ _ (λ e. c.if-from-into.false (c.from.ensures ∙ e))))

@@ -1,28 +1,15 @@
--- `placements::is_placed` meets its contract. The invariant: some placement puts the object into the record of what is
--- left exactly where it does of the whole. The measure is the length of what is left. Assumes nothing.
-use mathlib.Core.Path.{refl, sym, ◌∙◌}
-use Rattle.personalise.proofs.Placed.{any_end, any_yes, any_on, tail_less}
+-- `placements::is_placed` meets its contract: the test at each placement.
+-- Assumes nothing.
+use mathlib.Core.Path.{refl, ◌∙◌}
+use borrow.Author.Rules.{rules}
+use Rattle.std.proofs.lemmas.Iterator.Consumers.{YieldsList-from_first}
+use Rattle.std.proofs.lemmas.Iterator.Search.{any_from_yields_List}
+use Rattle.personalise.specs.Placements.{placements_in, puts_object_into}
+use Rattle.personalise.proofs.Placed.{any_is}
 use Rattle.personalise.proofs.placements.is_placed.Goals as goal
 
-pub loop-rest-init : goal.loop-rest-init
-loop-rest-init c = refl
-
-pub returns-then-is_of : goal.returns-then-is_of
-returns-then-is_of c =
-    let lp = c.loop-rest in
-    sym (lp.invariant ∙ any_yes _ c.loop-rest-test.true _ c.front-p.ensures _ refl _
-    (sym c.is_of.ensures ∙ c.if-is_of.true))
-
-pub loop-rest-smaller : goal.loop-rest-smaller
-loop-rest-smaller c =
-    tail_less c.loop-rest.rest.now c.loop-rest-test.true _ c.front-p.ensures _
-    c.width-n.ensures
-
-pub loop-rest-preserved : goal.loop-rest-preserved
-loop-rest-preserved c =
-    c.loop-rest.invariant
-    ∙ any_on _ c.loop-rest-test.true _ c.front-p.ensures _ c.width-n.ensures _
-    (sym c.is_of.ensures ∙ c.if-is_of.false)
-
 pub returns : goal.returns
-returns c = sym (c.loop-rest.invariant ∙ any_end _ _ c.loop-rest-test.false)
+returns c =
+    any_from_yields_List (puts_object_into c.args.into c.args.object) c.any.new.self _ _ c.any.ensures.ran
+    (YieldsList-from_first (λ x. x) (λ s. placements_in s.0.now) {s = record { 0 = c.args.placements }} _ refl) (λ x b q k. search rules)
+    ∙ any_is _ (placements_in c.args.placements.now)

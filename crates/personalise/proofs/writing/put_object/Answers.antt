@@ -6,30 +6,13 @@ use native.Mathlib.Omega.{arith}
 use lib.ListN.{length}
 use Rattle.tlv.specs.Encoding.{tag_bytes, length_bytes, object_bytes}
 use Rattle.personalise.proofs.Listed.{object_length}
-use Rattle.personalise.proofs.Over.{tag_room, length_room, value_room, all_put}
+use Rattle.personalise.proofs.Over.{all_put}
 use Rattle.personalise.proofs.writing.put_object.Goals as goal
 
 -- the room for the three parts
 room : (s : List ℕ) (at t : ℕ) (v : List ℕ) → at + length (object_bytes t v) ≤ length s
     → at + (length (tag_bytes t) + (length (length_bytes (length v)) + length v)) ≤ length s
 room s at t v h = omega (arith, object_length t v)
-
-pub put_tag-behind_tag-requires : goal.put_tag-behind_tag-requires
-put_tag-behind_tag-requires c = let a = c.args in (c.requires.tag_bound.0, tag_room a.out.now a.at (tag_bytes a.tag) (length_bytes (length a.v.now)) a.v.now (room a.out.now a.at a.tag a.v.now c.requires.v_in_bounds))
-
-pub put_length-behind_length-requires : goal.put_length-behind_length-requires
-put_length-behind_length-requires c =
-    let a = c.args in (
-      c.requires.tag_bound.1,
-      length_room a.out.now a.at (tag_bytes a.tag) (length_bytes (length a.v.now)) a.v.now
-          (room a.out.now a.at a.tag a.v.now c.requires.v_in_bounds) c.put_tag-behind_tag.ensures,
-    )
-
-pub put_value-requires : goal.put_value-requires
-put_value-requires c =
-    let a = c.args in
-    value_room a.out.now a.at (tag_bytes a.tag) (length_bytes (length a.v.now)) a.v.now
-    (room a.out.now a.at a.tag a.v.now c.requires.v_in_bounds) c.put_tag-behind_tag.ensures c.put_length-behind_length.ensures
 
 pub returns : goal.returns
 returns c =

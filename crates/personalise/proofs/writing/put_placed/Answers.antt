@@ -1,7 +1,7 @@
 -- `writing::put_placed` meets its contract: by whether the object is present.
 -- Assumes nothing.
 use mathlib.Core.Path.{sym, subst, ◌∙◌}
-use mathlib.Core.List.{List, []}
+use mathlib.Core.List.{[], List}
 use Prim.Native.Nat.{ℕ, ◌+◌, ◌≤◌}
 use lib.ListN.{length}
 use Rattle.basics.proofs.Laws.{if_yes, if_no}

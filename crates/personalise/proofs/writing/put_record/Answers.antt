@@ -27,9 +27,6 @@ room s at v m h =
 exact : (n : ℕ) (v : List ℕ) → n ≡ size_capped_at254 (length v) → length v ≤ most_record_content_bytes → n ≡ length v
 exact n v e m = omega arith
 
-pub size-size-requires : goal.size-size-requires
-size-size-requires c = c.requires.are_objects_allowed_in_record.0
-
 pub put_tag-behind_tag-requires : goal.put_tag-behind_tag-requires
 put_tag-behind_tag-requires c =
     let a = c.args in

@@ -11,5 +11,5 @@ returns c =
     record {
       next = refl;
       wrote = over_part a.out.now a.at a.v.now _ (search rules)
-          c.copy.ensures.1;
+          c.copy_from_slice.ensures.after;
     }

@@ -5,10 +5,10 @@ use Rattle.replay.proofs.why.first_of.Goals as goal
 
 pub overflow_add-result : goal.overflow_add-result
 overflow_add-result c =
-    let fits = primitive_fits _ _ (sym c.primitive_at_front-front.ensures ∙ c.in-Object.is) in
+    let fits = primitive_fits _ _ (sym c.primitive_at_front.ensures ∙ c.in-Some.is) in
     omega arith
 
 pub returns : goal.returns
 returns c =
-    let fits = primitive_fits _ _ (sym c.primitive_at_front-front.ensures ∙ c.in-Object.is) in
+    let fits = primitive_fits _ _ (sym c.primitive_at_front.ensures ∙ c.in-Some.is) in
     omega arith

@@ -1,9 +1,0 @@
--- `session::link_failed` meets its contract: that of `link_failed_on_parts`, with the store that it left.
--- Assumes nothing.
-use mathlib.Core.Path.{◌∙◌}
-use Rattle.session.proofs.link_failed.Goals as goal
-
-pub returns : goal.returns
-returns c =
-    let d = c.link_failed_on_parts-transition.ensures in
-    record { reply = c.reply_of.ensures ∙ d.reply; buffer = d.buffer }

@@ -1,9 +1,0 @@
--- `tlv::next_behind_padding` meets its contract: what follows the padding.
--- Assumes nothing.
-use Rattle.tlv.proofs.next_behind_padding.Goals as goal
-
-pub object_behind-requires : goal.object_behind-requires
-object_behind-requires c = c.padding-at.ensures
-
-pub returns : goal.returns
-returns c = c.object_behind.ensures
