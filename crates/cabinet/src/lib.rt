@@ -43,8 +43,9 @@ const STATE_SIZE: usize = RECORD_SIZE + 16;
 const NO_AMOUNT: u64 = 0xFFFFFFFFFFFFFFFF;
 
 // What remains of the cap, and what is reserved.
-// Kept: the sum has no ghost field here, since `cabinet_without_store` and `amounts_after_result` (specs/Inner) build
-// the amounts of any bytes and any answer, so each would carry a proof; the bound stands in `finish`, `left_after`.
+// Kept: a ghost field `within` for the bound of the sum was tried once. It saves two clauses, in `finish` and
+// `left_after`, and the struct needs a file of its own, since specs/Inner leads back to it. `cabinet_without_store` and
+// `amounts_after_result` (specs/Inner), which build amounts of any cabinet and any answer, are refused without a proof.
 #[derive(Clone, Copy)]
 pub struct Amounts {
     pub remaining: u64,
@@ -257,6 +258,10 @@ fn amount_in(bytes: &[u8]) -> u64
 
 // A start on a fresh session and a command buffer of its own, which are copied over only where it is not refused: a
 // refusal leaves an ended session as it was.
+// Kept: `state: &mut [u8; STATE_SIZE]` by `first_chunk_mut`, here and in `finish` and `put_amounts`, was tried once and
+// not proved through. It saves three clauses, takes `admit` apart (the buffer's size is refused before the state's) and
+// reopens fifteen answers of five functions. That the front's record and amounts read as the whole's, and a cabinet
+// is written over it as over the whole, proves in seventy lines; open is what lifts each call's result to the whole.
 fn start_fresh(remaining: u64, state: &mut [u8], terminal: &[u8], command: &mut [u8]) -> u32
     requires cabinet_state_size_in_bounds { cabinet_state_size ≤ length state.old }
     requires least_buffer_in_bounds { least_buffer ≤ length command.old }

@@ -1,12 +1,12 @@
 // What the records hold: the size of each content, and the least bad record.
-ghost use Rattle.std.specs.Prelude.{◌≡◌, true, ◌<◌, length};
-ghost use Rattle.tlv.specs.Primitives.{primitive_objects, are_primitive_objects_parsed};
+ghost use Rattle.std.specs.Prelude.{◌≡◌, ◌<◌, length};
 ghost use Rattle.tlv.specs.Encoding.{tag_bytes, length_bytes};
 ghost use Rattle.personalise.specs.Placements.{placements_in};
 ghost use Rattle.personalise.specs.Records.{record_content, has_bad_placement_or_over253_bytes, first_bad_record};
 ghost use Rattle.personalise.specs.Objects.{parsed_objects_or_empty};
 ghost use Rattle.personalise.specs.Inner.{size_capped_at254, encoded_object_size, encoded_size_if_placed_in_record};
 
+use crate::objects::CheckedObjects;
 use crate::{objects, placements};
 use tlv::PrimitiveObjects;
 
@@ -16,9 +16,12 @@ const MOST: usize = 253;
 const OVER: usize = 254;
 
 // The least bad record of so many.
-pub(crate) fn bad_record(objects: &[u8], placements: &[u8], records: usize) -> Option<usize>
-    requires { are_primitive_objects_parsed (primitive_objects objects.now) ≡ true }
-    ensures { result ≡ first_bad_record (parsed_objects_or_empty objects.now) (placements_in placements.now) records }
+pub(crate) fn bad_record(
+    objects: CheckedObjects<'_>,
+    placements: &[u8],
+    records: usize,
+) -> Option<usize>
+    ensures { result ≡ first_bad_record (parsed_objects_or_empty objects.entry.bytes.now) (placements_in placements.now) records }
 {
     let count = objects::count(objects);
     for k in 0..256 {
@@ -30,22 +33,26 @@ pub(crate) fn bad_record(objects: &[u8], placements: &[u8], records: usize) -> O
 }
 
 // Whether record k is bad: a placement strays, or the content is too long.
-// Kept: objects, placements and k, here and below: two slices and a number, which a struct would only rename.
-fn is_bad(objects: &[u8], placements: &[u8], k: usize, records: usize, count: usize) -> bool
-    requires objects_value { are_primitive_objects_parsed (primitive_objects objects.now) ≡ true }
-    requires count_value { count ≡ length (parsed_objects_or_empty objects.now) }
-    ensures { result ≡ has_bad_placement_or_over253_bytes (parsed_objects_or_empty objects.now) (placements_in placements.now) records k }
+// Kept: objects, placements and k, here and below: two lists and a number, which a struct would only rename.
+fn is_bad(
+    objects: CheckedObjects<'_>,
+    placements: &[u8],
+    k: usize,
+    records: usize,
+    count: usize,
+) -> bool
+    requires count_value { count ≡ length (parsed_objects_or_empty objects.bytes.now) }
+    ensures { result ≡ has_bad_placement_or_over253_bytes (parsed_objects_or_empty objects.entry.bytes.now) (placements_in placements.now) records k }
 {
     placements::is_misplaced(placements, k, records, count) || MOST < size(objects, placements, k)
 }
 
 // How many bytes record k has inside its template; 254 for any number above 253.
-pub(crate) fn size(objects: &[u8], placements: &[u8], k: usize) -> usize
-    requires { are_primitive_objects_parsed (primitive_objects objects.now) ≡ true }
-    ensures { result ≡ size_capped_at254 (length (record_content (parsed_objects_or_empty objects.now) (placements_in placements.now) k)) }
+pub(crate) fn size(objects: CheckedObjects<'_>, placements: &[u8], k: usize) -> usize
+    ensures { result ≡ size_capped_at254 (length (record_content (parsed_objects_or_empty objects.entry.bytes.now) (placements_in placements.now) k)) }
 {
     let mut total: usize = 0;
-    for (i, object) in PrimitiveObjects(objects).enumerate() {
+    for (i, object) in PrimitiveObjects(objects.bytes).enumerate() {
         total += placed_size(placements, k, i + 1, object.tag, object.value.len());
         if MOST < total {
             return OVER;

@@ -79,14 +79,15 @@ pub fn personalise(
     if !objects::keeps(objects, placements) {
         return Err(PersonaliseError::BadList);
     }
+    let checked = objects::CheckedObjects { bytes: objects };
     if let Some(i) = entries::bad_entry(entries) {
         return Err(PersonaliseError::BadEntry(i));
     }
     let count = entries::count_records(entries);
-    if let Some(k) = contents::bad_record(objects, placements, count) {
+    if let Some(k) = contents::bad_record(checked, placements, count) {
         return Err(PersonaliseError::BadRecord(k));
     }
-    let size = writing::put_records(objects, placements, count, records);
+    let size = writing::put_records(checked, placements, count, records);
     afl[..entries.len()].copy_from_slice(entries);
     Ok(WrittenSizes {
         records: size,

@@ -1,16 +1,23 @@
 // The list of objects: what its rules require of each, and how many there are.
-ghost use Rattle.std.specs.Prelude.{◌≡◌, true, length, drop};
-ghost use Rattle.tlv.specs.Primitives.{tlv_object, primitive_objects, are_primitive_objects_parsed, leading_primitive_objects};
+ghost use Rattle.std.specs.Prelude.{◌≡◌, length, drop};
+ghost use Rattle.tlv.specs.Primitives.{tlv_object, primitive_objects, leading_primitive_objects};
 ghost use Rattle.dictionary.specs.Rows.{in_record_response};
 ghost use Rattle.dictionary.specs.Packing.{row_with_attributes_and_tag_zero};
 ghost use Rattle.reading.specs.Taking.{row_allows_value_from_card};
 ghost use Rattle.personalise.specs.Objects.{tag_record_template, parsed_objects_or_empty, tag_and_value_allowed_in_record, lacks_tag};
 ghost use Rattle.personalise.specs.Placements.{placements_in};
-ghost use Rattle.personalise.specs.Inner.{parsed_objects_valid_and_placed_once};
+ghost use Rattle.personalise.specs.Inner.{parsed_objects_valid_and_placed_once, AreObjectsAllowedInRecord};
 
 use crate::placements;
 use dictionary::RowAttributes;
 use tlv::PrimitiveObjects;
+
+// The bytes of a list that `keeps` accepts: whole objects, all of which the card may set in a record.
+#[derive(Clone, Copy)]
+pub(crate) struct CheckedObjects<'a> {
+    pub(crate) bytes: &'a [u8],
+    ghost allowed: { AreObjectsAllowedInRecord bytes.now },
+}
 
 // Whether the bytes are a run of objects that may all be set, no tag twice, each placed once.
 pub(crate) fn keeps(objects: &[u8], placements: &[u8]) -> bool
@@ -34,11 +41,10 @@ pub(crate) fn keeps(objects: &[u8], placements: &[u8]) -> bool
 }
 
 // How many objects a run has.
-pub(crate) fn count(objects: &[u8]) -> usize
-    requires { are_primitive_objects_parsed (primitive_objects objects.now) ≡ true }
-    ensures { result ≡ length (parsed_objects_or_empty objects.now) }
+pub(crate) fn count(objects: CheckedObjects<'_>) -> usize
+    ensures { result ≡ length (parsed_objects_or_empty objects.entry.bytes.now) }
 {
-    PrimitiveObjects(objects).count()
+    PrimitiveObjects(objects.bytes).count()
 }
 
 // Whether none of the objects after so many has a tag.

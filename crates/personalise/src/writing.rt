@@ -4,8 +4,9 @@ ghost use Rattle.tlv.specs.Encoding.{tag_bytes, length_bytes, object_bytes};
 ghost use Rattle.personalise.specs.Placements.{placements_in};
 ghost use Rattle.personalise.specs.Records.{record_content, card_record_bytes, most_record_content_bytes};
 ghost use Rattle.personalise.specs.Objects.{parsed_objects_or_empty};
-ghost use Rattle.personalise.specs.Inner.{AreObjectsAllowedInRecord, RecordContentsWithin253Bytes, WritesBytesAt, object_bytes_if_placed_in_record, concatenated_records_from_bytes};
+ghost use Rattle.personalise.specs.Inner.{RecordContentsWithin253Bytes, WritesBytesAt, object_bytes_if_placed_in_record, concatenated_records_from_bytes};
 
+use crate::objects::CheckedObjects;
 use crate::{contents, placements};
 use tlv::PrimitiveObjects;
 
@@ -14,15 +15,14 @@ const TEMPLATE: u32 = 0x70;
 
 // Writes the records 1 to `records`, concatenated.
 pub(crate) fn put_records(
-    objects: &[u8],
+    objects: CheckedObjects<'_>,
     placements: &[u8],
     records: usize,
     out: &mut [u8],
 ) -> usize
-    requires are_objects_allowed_in_record { AreObjectsAllowedInRecord objects.now }
-    requires record_contents_within253bytes { RecordContentsWithin253Bytes (parsed_objects_or_empty objects.now) (placements_in placements.now) records }
+    requires record_contents_within253bytes { RecordContentsWithin253Bytes (parsed_objects_or_empty objects.bytes.now) (placements_in placements.now) records }
     requires records_bound { (records < 256) × (256 * records ≤ length out.old) }
-    ensures { WritesBytesAt result out.new out.old 0 (concatenated_records_from_bytes objects.now placements.now records) }
+    ensures { WritesBytesAt result out.new out.old 0 (concatenated_records_from_bytes objects.entry.bytes.now placements.now records) }
 {
     let mut at = 0;
     for k in 1..=records {
@@ -32,12 +32,17 @@ pub(crate) fn put_records(
 }
 
 // Writes record k: the template's tag, the length and the objects.
-fn put_record(objects: &[u8], placements: &[u8], k: usize, out: &mut [u8], at: usize) -> usize
-    requires are_objects_allowed_in_record { AreObjectsAllowedInRecord objects.now }
-    requires k_len_bound { length (record_content (parsed_objects_or_empty objects.now) (placements_in placements.now) k) ≤ most_record_content_bytes }
+fn put_record(
+    objects: CheckedObjects<'_>,
+    placements: &[u8],
+    k: usize,
+    out: &mut [u8],
+    at: usize,
+) -> usize
+    requires k_len_bound { length (record_content (parsed_objects_or_empty objects.bytes.now) (placements_in placements.now) k) ≤ most_record_content_bytes }
     requires at_in_bounds { at + 256 ≤ length out.old }
     ensures { WritesBytesAt result out.new out.old at
-        (card_record_bytes (parsed_objects_or_empty objects.now) (placements_in placements.now) k) }
+        (card_record_bytes (parsed_objects_or_empty objects.entry.bytes.now) (placements_in placements.now) k) }
 {
     let size = contents::size(objects, placements, k);
     let behind_tag = put_tag(out, at, TEMPLATE);
@@ -46,14 +51,19 @@ fn put_record(objects: &[u8], placements: &[u8], k: usize, out: &mut [u8], at: u
 }
 
 // Writes the objects of record k, in the list's order.
-fn put_content(objects: &[u8], placements: &[u8], k: usize, out: &mut [u8], at: usize) -> usize
-    requires are_objects_allowed_in_record { AreObjectsAllowedInRecord objects.now }
-    requires k_in_bounds { at + length (record_content (parsed_objects_or_empty objects.now) (placements_in placements.now) k) ≤ length out.old }
+fn put_content(
+    objects: CheckedObjects<'_>,
+    placements: &[u8],
+    k: usize,
+    out: &mut [u8],
+    at: usize,
+) -> usize
+    requires k_in_bounds { at + length (record_content (parsed_objects_or_empty objects.bytes.now) (placements_in placements.now) k) ≤ length out.old }
     ensures { WritesBytesAt result out.new out.old at
-        (record_content (parsed_objects_or_empty objects.now) (placements_in placements.now) k) }
+        (record_content (parsed_objects_or_empty objects.entry.bytes.now) (placements_in placements.now) k) }
 {
     let mut to = at;
-    for (i, object) in PrimitiveObjects(objects).enumerate() {
+    for (i, object) in PrimitiveObjects(objects.bytes).enumerate() {
         to = put_placed(placements, k, i + 1, object.tag, object.value, out, to);
     }
     to

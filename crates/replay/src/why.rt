@@ -4,6 +4,7 @@ ghost use Rattle.std.specs.Prelude.{◌≤◌, length};
 
 use dictionary::ROWS;
 use print::tree::{TreeView, TreeWalk, WalkEnd};
+use tlv::PrimitiveObjects;
 
 // The first object of a run: its tag and how many bytes it has, no byte where there is none.
 #[derive(Clone, Copy)]
@@ -26,7 +27,7 @@ pub fn print_start_refusal(rt: &impl Print, start: &[u8], number: u8) {
 // The first object that a start may not set: the bytes up to its end are refused for an object, those
 // before it are not.
 fn refused(rt: &impl Print, start: &[u8]) {
-    // Kept: a step is as long as the object at its place, which the bytes tell; so is that of `brings`.
+    // Kept: a step is as long as the object at its place, which the bytes tell; `tlv::PrimitiveObjects` gives no place.
     let mut at: usize = 0;
     while at < start.len() {
         let first = first_of(&start[at..]);
@@ -64,19 +65,7 @@ fn absent(rt: &impl Print, start: &[u8]) {
 
 // Whether an object of a tag is among the start bytes.
 fn brings(start: &[u8], tag: u32) -> bool {
-    let mut rest = start;
-    while rest.len() != 0 {
-        let first = first_of(rest);
-        let size = first.size;
-        if size == 0 {
-            return false;
-        }
-        if first.tag == tag {
-            return true;
-        }
-        rest = &rest[size..];
-    }
-    false
+    PrimitiveObjects(start).any(|object| object.tag == tag)
 }
 
 // The primitive object at the front.

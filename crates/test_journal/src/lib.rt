@@ -4,7 +4,7 @@
 // It is in an archive of its own, which no host links; `test_journal_c` exports it.
 #![tactic(auto)]
 
-ghost use Rattle.std.specs.Prelude.{◌≡◌, ◌≤◌, ◌<◌, take};
+ghost use Rattle.std.specs.Prelude.{◌≡◌, take};
 ghost use Rattle.journal.specs.Verdict.{journal_verdict_of, expected_reply_at_first_mismatch};
 ghost use Rattle.test_journal.specs.Word.{verdict_word, GivesBytesIfRoom};
 
@@ -15,12 +15,13 @@ use journal::JournalVerdict;
 pub fn emv_test_journal(bytes: &[u8], first: usize, part: usize) -> u32
     ensures { result ≡ verdict_word (journal_verdict_of bytes.now) }
 {
-    let mut at = first.min(bytes.len());
-    let mut checker = journal::feed(journal::begin(), &bytes[..at]);
-    while at < bytes.len() {
-        let end = end_of(at, part, bytes.len());
-        checker = journal::feed(checker, &bytes[at..end]);
-        at = end;
+    let (front, rest) = bytes.split_at(first.min(bytes.len()));
+    let mut checker = journal::feed(journal::begin(), front);
+    if part == 0 {
+        return word(journal::finish(journal::feed(checker, rest)));
+    }
+    for piece in rest.chunks(part) {
+        checker = journal::feed(checker, piece);
     }
     word(journal::finish(checker))
 }
@@ -45,21 +46,12 @@ fn front(s: &[u8], n: usize) -> &[u8]
 fn put(s: &[u8], out: &mut [u8]) -> usize
     ensures { GivesBytesIfRoom result out.new s.now out.old }
 {
-    if out.len() < s.len() {
+    let n = s.len();
+    if out.len() < n {
         return 0;
     }
-    basics::copy(s, out)
-}
-
-// Where the part that starts at a place ends: after its size, or with the bytes.
-fn end_of(at: usize, part: usize, all: usize) -> usize
-    requires { at < all }
-    ensures { (at < result) × (result ≤ all) }
-{
-    if part == 0 || all - at <= part {
-        return all;
-    }
-    at + part
+    out[..n].copy_from_slice(s);
+    n
 }
 
 // A verdict as one number.

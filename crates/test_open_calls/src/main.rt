@@ -61,6 +61,7 @@ fn statements(rt: &impl Print) {
 fn unprinted() {
     basics::widen(0);
     basics::is_between(0, 0, 0);
+    basics::copy(b"", &mut [0u8; 1]);
 }
 
 fn rank_of(choice: Choice) -> u8 {

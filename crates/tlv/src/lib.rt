@@ -145,37 +145,23 @@ pub fn object_header(s: &[u8]) -> Option<TlvHeader>
 }
 
 // What is next within a template's contents, after any bytes of 00; the value's start counts them.
+#[tactic(auto, using(crate::proofs::NextObject::padding_ends))]
 pub fn next_in_template(s: &[u8]) -> NextInTemplate
     ensures next { result ≡ next_in_template s.now }
     ensures padding { PaddingDoesNotChangeParse s.now }
-{
-    let at = padding_in_front(s);
-    object_behind(s, at)
-}
-
-// The same, for a search of a single object.
-// Kept: with the two functions the library calls `next_in_template` in one place, its reader, and it is put inline there.
-#[tactic(auto, using(crate::proofs::NextObject::padding_ends))]
-pub fn next_behind_padding(s: &[u8]) -> NextInTemplate
-    ensures { result ≡ next_in_template s.now }
 {
     let at = padding(s);
     object_behind(s, at)
 }
 
-// How many bytes of 00 are at the front; most often none.
-// Kept: apart from `padding`, so that the reader reads an object with none in front without a loop, which is slower.
-#[tactic(auto, using(crate::proofs::NextObject::padding_ends, crate::proofs::NextObject::no_padding))]
-fn padding_in_front(s: &[u8]) -> usize
-    ensures { LeadingPaddingEndsAt s.now result }
+// The same, without the promise on padding.
+pub fn next_behind_padding(s: &[u8]) -> NextInTemplate
+    ensures { result ≡ next_in_template s.now }
 {
-    match *s {
-        [0, ..] => padding(s),
-        _ => 0,
-    }
+    next_in_template(s)
 }
 
-// The same, byte after byte.
+// How many bytes of 00 are at the front.
 fn padding(s: &[u8]) -> usize
     ensures { result ≡ length (take_while (λ b. b == 0) s.now) }
 {

@@ -2,7 +2,6 @@
 -- answer and the buffers follows from these.
 -- Assumes nothing.
 use mathlib.Core.Path.{◌≡◌, refl, sym, ap, subst, ◌∙◌}
-use mathlib.Core.Bool.{true}
 use mathlib.Core.List.{List}
 use Prim.Native.Nat.{ℕ}
 use native.Mathlib.Nat.{zero-add}
@@ -38,6 +37,12 @@ returns-then-not-keeps-clause-said c = let a = c.args in
     sym (bad_list (card_plan a.objects.now a.entries.now a.placements.now) _ _ c.if-records-lt-RECORDS_ROOM.false
     c.if-afl-lt-AFL_ROOM.false (sym c.keeps.ensures ∙ c.if-not-keeps.true))
 
+pub invariant_of-checked : goal.invariant_of-checked
+invariant_of-checked c = record {
+  allowed = usable c.args.objects.now (placements_in c.args.placements.now)
+      (sym c.keeps.ensures ∙ c.if-not-keeps.false);
+}
+
 pub returns-in-Some : goal.returns-in-Some
 returns-in-Some c = let a = c.args in
     let p = card_plan a.objects.now a.entries.now a.placements.now in
@@ -71,8 +76,6 @@ put_records-size-requires c = let a = c.args in
     let q = sym c.bad_entry.ensures ∙ c.in_default.is in
     let m = total_most a.entries.now q in
     let e = c.count_records-count.ensures.0 in record {
-      are_objects_allowed_in_record = usable a.objects.now (placements_in a.placements.now)
-          (sym c.keeps.ensures ∙ c.if-not-keeps.false);
       record_contents_within253bytes = fitting_of (parsed_objects_or_empty a.objects.now) (placements_in a.placements.now)
           c.count_records-count.result (sym c.bad_record.ensures ∙ c.in_default-bad_record.is) (omega (arith, m, e));
       records_bound = (omega (arith, m, e), omega (arith, m, e));

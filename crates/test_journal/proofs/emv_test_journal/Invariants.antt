@@ -1,12 +1,11 @@
--- `test_journal::emv_test_journal` meets its contract: the checker follows the bytes up to the place that is reached.
+-- `test_journal::emv_test_journal` meets its contract: the checker follows some bytes, and those that are left come
+-- after them.
 -- Assumes nothing.
-use Prim.Native.Nat.{◌-◌, ◌≤◌}
-use lib.ListN.{length, take}
+use mathlib.Core.Path.{◌≡◌}
+use mathlib.Core.List.{List, ◌++◌}
+use Prim.Native.Nat.{ℕ}
 use Rattle.journal.specs.Inner.{CheckerWasFed}
 use Rattle.test_journal.proofs.emv_test_journal.Given as goal
 
-abbrev pub invariant-loop-at : goal.invariant-loop-at
-invariant-loop-at l = (l.at ≤ length l.bytes) × CheckerWasFed l.checker (take l.at l.bytes)
-
-abbrev pub decreases-loop-at : goal.decreases-loop-at
-decreases-loop-at l = length l.bytes - l.at
+abbrev pub invariant-loop-piece : goal.invariant-loop-piece
+invariant-loop-piece l = (s : List ℕ) × CheckerWasFed l.checker s × (s ++ l.piece-iterator.rest.now ≡ l.bytes)

@@ -6,21 +6,17 @@ use mathlib.Core.Path.{sym, ap, ◌∙◌}
 use mathlib.Core.List.{List, ◌++◌}
 use Prim.Native.Nat.{ℕ}
 use lib.ListN.{length, drop}
-use lib.Seq.{take-length}
 use Rattle.basics.proofs.Laws.{if_yes, if_no}
 use Rattle.test_journal.proofs.put.Goals as goal
 
-pub returns-then-out-s : goal.returns-then-out-s
-returns-then-out-s c = let f = lt-ltb _ _ c.if-out-s.true in record { size = sym (if_yes _ _ f); bytes = sym (if_yes _ _ f) }
+pub returns-then-out-n : goal.returns-then-out-n
+returns-then-out-n c = let f = lt-ltb _ _ c.if-out-n.true in record { size = sym (if_yes _ _ f); bytes = sym (if_yes _ _ f) }
 
 pub returns : goal.returns
 returns c =
     let a = c.args in
-    let f = le-ltb (length a.out.now) (length a.s.now)
-    (omega (arith, c.if-out-s.false)) in
-    let e = c.copy.ensures in
+    let f = le-ltb (length a.out.now) (length a.s.now) (omega (arith, c.if-out-n.false)) in
     record {
-      size = e.0 ∙ sym (if_no _ _ f);
-      bytes = e.1 ∙ ap (λ (t : List ℕ). t ++ drop (length a.s.now) a.out.now) (take-length a.s.now) ∙ sym
-          (if_no _ _ f);
+      size = sym (if_no _ _ f);
+      bytes = ap (λ (t : List ℕ). t ++ drop (length a.s.now) a.out.now) c.copy_from_slice.ensures.after ∙ sym (if_no _ _ f);
     }

@@ -4,8 +4,5 @@
 use Rattle.tlv.proofs.Encoding.{passes_over}
 use Rattle.tlv.proofs.next_in_template.Goals as goal
 
-pub object_behind-requires : goal.object_behind-requires
-object_behind-requires c = c.padding_in_front-at.ensures
-
 pub returns : goal.returns
 returns c = record { next = c.object_behind.ensures; padding = passes_over _ }

@@ -10,8 +10,8 @@ use Rattle.personalise.proofs.contents.bad_record.Given as goal
 
 abbrev pub invariant-loop-k : goal.invariant-loop-k
 invariant-loop-k l =
-    (first_bad_record (parsed_objects_or_empty l.objects) (placements_in l.placements) l.records ≡ first_bad_number_from
-    (has_bad_placement_or_over253_bytes (parsed_objects_or_empty l.objects) (placements_in l.placements) l.records) l.k (256 - l.k))
+    (first_bad_record (parsed_objects_or_empty l.objects.bytes.now) (placements_in l.placements) l.records ≡ first_bad_number_from
+    (has_bad_placement_or_over253_bytes (parsed_objects_or_empty l.objects.bytes.now) (placements_in l.placements) l.records) l.k (256 - l.k))
     × (l.k ≤ 256)
 
 abbrev pub decreases-loop-k : goal.decreases-loop-k

@@ -27,9 +27,9 @@ returns-then-total-gt-MOST c =
     c.enumerate-i-items.ensures.count c.loop-i.yielded _ c.loop-i.yielded_by c.next.new.self c.in-Some.is c.next.ensures.steps in
     let o = object_read c.in-Some.object in
     let ps = placements_in c.args.placements.now in
-    let os = leading_primitive_objects c.args.objects.now in
+    let os = leading_primitive_objects c.args.objects.bytes.now in
     let n = length c.loop-i.yielded in
-    let a = ap (λ (v : List Object). length (content ps c.args.k 1 v)) (listed_or_empty c.args.objects.now c.requires) in
+    let a = ap (λ (v : List Object). length (content ps c.args.k 1 v)) (listed_or_empty c.args.objects.bytes.now c.args.objects.allowed.0) in
     let e = ap (λ (v : List Object). length (content ps c.args.k (n + 1) v)) t.1 ∙ content_more ps c.args.k (n + 1) o (drop (n + 1) os) in
     let q = ap (λ (m : ℕ). encoded_size_if_placed_in_record ps c.args.k (m + 1) o.tag (length o.value)) t.0 in
     omega (arith, a, e, q, c.loop-i.invariant.0, c.placed_size-total.ensures)
@@ -40,7 +40,7 @@ loop-i-preserved c =
     c.enumerate-i-items.ensures.count c.loop-i.yielded _ c.loop-i.yielded_by c.next.new.self c.in-Some.is c.next.ensures.steps in
     let o = object_read c.in-Some.object in
     let ps = placements_in c.args.placements.now in
-    let os = leading_primitive_objects c.args.objects.now in
+    let os = leading_primitive_objects c.args.objects.bytes.now in
     let n = length c.loop-i.yielded in
     let e = ap (λ (v : List Object). length (content ps c.args.k (n + 1) v)) t.1 ∙ content_more ps c.args.k (n + 1) o (drop (n + 1) os) in
     let q = ap (λ (m : ℕ). encoded_size_if_placed_in_record ps c.args.k (m + 1) o.tag (length o.value)) t.0 in
@@ -53,6 +53,6 @@ returns c =
     c.enumerate-i-items.ensures.count c.loop-i.yielded _ c.loop-i.yielded_by c.next.new.self c.in-None.is c.next.ensures.steps in
     let ps = placements_in c.args.placements.now in
     let n = length c.loop-i.yielded in
-    let a = ap (λ (v : List Object). length (content ps c.args.k 1 v)) (listed_or_empty c.args.objects.now c.requires) in
+    let a = ap (λ (v : List Object). length (content ps c.args.k 1 v)) (listed_or_empty c.args.objects.bytes.now c.args.objects.allowed.0) in
     let e = ap (λ (v : List Object). length (content ps c.args.k (n + 1) v)) t ∙ ap length (content_none ps c.args.k (n + 1)) in
     omega (arith, a, e, c.loop-i.invariant.0)

@@ -11,7 +11,7 @@ use Rattle.personalise.proofs.contents.size.Given as goal
 
 abbrev pub invariant-loop-i : goal.invariant-loop-i
 invariant-loop-i l =
-    (size_capped_at254 (length (content (placements_in l.placements) l.k 1 (leading_primitive_objects l.objects)))
+    (size_capped_at254 (length (content (placements_in l.placements) l.k 1 (leading_primitive_objects l.objects.bytes.now)))
     ≡ size_capped_at254 (l.total + length (content (placements_in l.placements) l.k (length l.yielded + 1)
-    (drop (length l.yielded) (leading_primitive_objects l.objects)))))
+    (drop (length l.yielded) (leading_primitive_objects l.objects.bytes.now)))))
     × (l.total ≤ 253)

@@ -21,8 +21,8 @@ use Rattle.personalise.proofs.writing.put_content.Goals as goal
 
 pub loop-i-init : goal.loop-i-init
 loop-i-init c =
-    let r = c.requires.are_objects_allowed_in_record in
-    (refl, refl, refl, ap (every tag_and_value_allowed_in_record) (sym (listed_or_empty c.args.objects.now r.0)) ∙ r.1)
+    let r = c.args.objects.allowed in
+    (refl, refl, refl, ap (every tag_and_value_allowed_in_record) (sym (listed_or_empty c.args.objects.bytes.now r.0)) ∙ r.1)
 
 pub loop-i-init-derived : goal.loop-i-init-derived
 loop-i-init-derived c =
@@ -38,12 +38,12 @@ put_placed-to-requires c =
     let o = object_read c.in-Some.object in
     let ps = placements_in c.args.placements.now in
     let k = c.args.k in
-    let os = leading_primitive_objects c.args.objects.now in
+    let os = leading_primitive_objects c.args.objects.bytes.now in
     let n = length c.loop-i.yielded in
     let left = drop (n + 1) os in
     let v = c.loop-i.invariant in
     let a = ap (every tag_and_value_allowed_in_record) (sym t.1) ∙ v.3 in
-    let s = ap (λ (x : List Object). length (content ps k 1 x)) (listed_or_empty c.args.objects.now c.requires.are_objects_allowed_in_record.0) in
+    let s = ap (λ (x : List Object). length (content ps k 1 x)) (listed_or_empty c.args.objects.bytes.now c.args.objects.allowed.0) in
     let l = ap (λ (x : List Object). length (content ps k (n + 1) x)) t.1 in
     let room : c.loop-i.to + length (content ps k (n + 1) (o ∷ left)) ≤ length c.loop-i.out =
     omega (arith, s, l, v.1, v.2, c.requires.k_in_bounds) in
@@ -61,12 +61,12 @@ loop-i-preserved c =
     let o = object_read c.in-Some.object in
     let ps = placements_in c.args.placements.now in
     let k = c.args.k in
-    let os = leading_primitive_objects c.args.objects.now in
+    let os = leading_primitive_objects c.args.objects.bytes.now in
     let n = length c.loop-i.yielded in
     let left = drop (n + 1) os in
     let v = c.loop-i.invariant in
     let a = ap (every tag_and_value_allowed_in_record) (sym t.1) ∙ v.3 in
-    let s = ap (λ (x : List Object). length (content ps k 1 x)) (listed_or_empty c.args.objects.now c.requires.are_objects_allowed_in_record.0) in
+    let s = ap (λ (x : List Object). length (content ps k 1 x)) (listed_or_empty c.args.objects.bytes.now c.args.objects.allowed.0) in
     let l = ap (λ (x : List Object). length (content ps k (n + 1) x)) t.1 in
     let room : c.loop-i.to + length (content ps k (n + 1) (o ∷ left)) ≤ length c.loop-i.out =
     omega (arith, s, l, v.1, v.2, c.requires.k_in_bounds) in
@@ -91,7 +91,7 @@ returns c =
     let k = c.args.k in
     let n = length c.loop-i.yielded in
     let v = c.loop-i.invariant in
-    let s = ap (content ps k 1) (listed_or_empty c.args.objects.now c.requires.are_objects_allowed_in_record.0) in
+    let s = ap (content ps k 1) (listed_or_empty c.args.objects.bytes.now c.args.objects.allowed.0) in
     let e = ap (content ps k (n + 1)) t ∙ content_none ps k (n + 1) in
     record {
       next = omega (arith, v.1, ap length e, ap length s);

@@ -14,11 +14,11 @@ use Rattle.personalise.proofs.writing.put_content.Given as goal
 
 abbrev pub invariant-loop-i : goal.invariant-loop-i
 invariant-loop-i l =
-    (bytes_written_over l.initial.out l.initial.to (content (placements_in l.placements) l.k 1 (leading_primitive_objects l.objects))
+    (bytes_written_over l.initial.out l.initial.to (content (placements_in l.placements) l.k 1 (leading_primitive_objects l.objects.bytes.now))
     ≡ bytes_written_over l.out l.to (content (placements_in l.placements) l.k (length l.yielded + 1)
-    (drop (length l.yielded) (leading_primitive_objects l.objects))))
-    × (l.initial.to + length (content (placements_in l.placements) l.k 1 (leading_primitive_objects l.objects))
+    (drop (length l.yielded) (leading_primitive_objects l.objects.bytes.now))))
+    × (l.initial.to + length (content (placements_in l.placements) l.k 1 (leading_primitive_objects l.objects.bytes.now))
     ≡ l.to + length (content (placements_in l.placements) l.k (length l.yielded + 1)
-    (drop (length l.yielded) (leading_primitive_objects l.objects))))
+    (drop (length l.yielded) (leading_primitive_objects l.objects.bytes.now))))
     × (length l.out ≡ length l.initial.out)
-    × (every tag_and_value_allowed_in_record (drop (length l.yielded) (leading_primitive_objects l.objects)) ≡ true)
+    × (every tag_and_value_allowed_in_record (drop (length l.yielded) (leading_primitive_objects l.objects.bytes.now)) ≡ true)

@@ -30,7 +30,7 @@ exact n v e m = omega arith
 pub put_tag-behind_tag-requires : goal.put_tag-behind_tag-requires
 put_tag-behind_tag-requires c =
     let a = c.args in
-    let v = record_content (parsed_objects_or_empty a.objects.now) (placements_in a.placements.now) a.k in (
+    let v = record_content (parsed_objects_or_empty a.objects.bytes.now) (placements_in a.placements.now) a.k in (
       omega arith,
       tag_room a.out.now a.at (tag_bytes tag_record_template) (length_bytes (length v)) v
           (room a.out.now a.at v c.requires.k_len_bound c.requires.at_in_bounds),
@@ -39,7 +39,7 @@ put_tag-behind_tag-requires c =
 pub put_length-behind_length-requires : goal.put_length-behind_length-requires
 put_length-behind_length-requires c =
     let a = c.args in
-    let v = record_content (parsed_objects_or_empty a.objects.now) (placements_in a.placements.now) a.k in
+    let v = record_content (parsed_objects_or_empty a.objects.bytes.now) (placements_in a.placements.now) a.k in
     let e = exact c.size-size.result v c.size-size.ensures c.requires.k_len_bound in (
       omega (arith, c.requires.k_len_bound),
       subst (λ (n : ℕ). c.put_tag-behind_tag.result + length (length_bytes n) ≤ length c.put_tag-behind_tag.new.out) (sym e)
@@ -49,11 +49,10 @@ put_length-behind_length-requires c =
 
 pub put_content-requires : goal.put_content-requires
 put_content-requires c = let a = c.args in
-    let v = record_content (parsed_objects_or_empty a.objects.now) (placements_in a.placements.now) a.k in
+    let v = record_content (parsed_objects_or_empty a.objects.bytes.now) (placements_in a.placements.now) a.k in
     let e = exact c.size-size.result v c.size-size.ensures c.requires.k_len_bound in
     let q = subst (λ (n : ℕ). WritesBytesAt c.put_length-behind_length.result c.put_length-behind_length.new.out c.put_tag-behind_tag.new.out
     c.put_tag-behind_tag.result (length_bytes n)) e c.put_length-behind_length.ensures in record {
-      are_objects_allowed_in_record = c.requires.are_objects_allowed_in_record;
       k_in_bounds = value_room a.out.now a.at (tag_bytes tag_record_template) (length_bytes (length v)) v
           (room a.out.now a.at v c.requires.k_len_bound c.requires.at_in_bounds) c.put_tag-behind_tag.ensures q;
     }
@@ -61,7 +60,7 @@ put_content-requires c = let a = c.args in
 pub returns : goal.returns
 returns c =
     let a = c.args in
-    let v = record_content (parsed_objects_or_empty a.objects.now) (placements_in a.placements.now) a.k in
+    let v = record_content (parsed_objects_or_empty a.objects.bytes.now) (placements_in a.placements.now) a.k in
     let e = exact c.size-size.result v c.size-size.ensures c.requires.k_len_bound in
     let q = subst (λ (n : ℕ). WritesBytesAt c.put_length-behind_length.result c.put_length-behind_length.new.out c.put_tag-behind_tag.new.out
     c.put_tag-behind_tag.result (length_bytes n)) e c.put_length-behind_length.ensures in

@@ -20,7 +20,7 @@ pub loop-k-preserved : goal.loop-k-preserved
 loop-k-preserved c =
     let lp = c.loop-k in
     let a = c.args in
-    let os = parsed_objects_or_empty a.objects.now in
+    let os = parsed_objects_or_empty a.objects.bytes.now in
     let ps = placements_in a.placements.now in
     let h = c.loop-k-test.true in
     let f = c.requires.record_contents_within253bytes lp.k h in
@@ -55,14 +55,14 @@ pub returns : goal.returns
 returns c =
     let lp = c.loop-k in
     let a = c.args in
-    finish (parsed_objects_or_empty a.objects.now) (placements_in a.placements.now) a.records lp.k _ _ _ c.loop-k-test.false
+    finish (parsed_objects_or_empty a.objects.bytes.now) (placements_in a.placements.now) a.records lp.k _ _ _ c.loop-k-test.false
     lp.invariant.0 lp.invariant.1
 
 pub returns-2 : goal.returns-2
 returns-2 c =
     let lp = c.loop-k in
     let a = c.args in
-    let os = parsed_objects_or_empty a.objects.now in
+    let os = parsed_objects_or_empty a.objects.bytes.now in
     let ps = placements_in a.placements.now in
     let h = c.loop-k-test.true in
     let f = c.requires.record_contents_within253bytes lp.k h in

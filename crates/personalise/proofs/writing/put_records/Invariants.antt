@@ -16,9 +16,9 @@ left objects placements n k = records_left (parsed_objects_or_empty objects) (pl
 
 abbrev pub invariant-loop-k : goal.invariant-loop-k
 invariant-loop-k l =
-    (bytes_written_over l.initial.out l.initial.at (left l.objects l.placements l.records l.initial.k) ≡ bytes_written_over l.out l.at
-    (left l.objects l.placements l.records l.k))
-    × (l.initial.at + length (left l.objects l.placements l.records l.initial.k) ≡ l.at + length (left l.objects l.placements l.records l.k))
+    (bytes_written_over l.initial.out l.initial.at (left l.objects.bytes.now l.placements l.records l.initial.k) ≡ bytes_written_over l.out l.at
+    (left l.objects.bytes.now l.placements l.records l.k))
+    × (l.initial.at + length (left l.objects.bytes.now l.placements l.records l.initial.k) ≡ l.at + length (left l.objects.bytes.now l.placements l.records l.k))
     × (length l.out ≡ length l.initial.out) × (1 ≤ l.k) × (l.k ≤ l.records + 1) × (l.at + 256 * (l.records + 1 - l.k) ≤ 256 * l.records)
 
 abbrev pub decreases-loop-k : goal.decreases-loop-k
