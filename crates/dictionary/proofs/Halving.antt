@@ -22,6 +22,7 @@ use Rattle.dictionary.specs.Rule.{rising_tags}
 use Rattle.dictionary.specs.Search.{SearchPart, search_part, part_middle, HalvingSearch, search_miss, search_hit}
 use Rattle.dictionary.specs.Search.{prepend_probe, halving_search_in, halving_search, probed_places}
 use Rattle.dictionary.specs.Search.{halving_search_result, tags_of, tags_at, ProbesCountedAndSufficient}
+use Rattle.dictionary.specs.Search.{tags_in_part_of, halving_search_result_in_part, PartProbesCountedAndSufficient}
 use Rattle.dictionary.proofs.Table.{column}
 use Rattle.dictionary.proofs.Find.{absent}
 use Rattle.dictionary.proofs.Rule.{tags_rise, find_row_lem}
@@ -321,3 +322,9 @@ module _ (tags : List ℕ) (t : ℕ) where
       × (((k : ℕ) → length tags < 2 ^ k → r.probes ≤ k)
       × ProbesCountedAndSufficient tags t r))
   promised e = rw e (refl, (finds, (few_probes, counted)))
+
+-- a search of the part of a table that a tag can be in counts the probes of that part
+pub counted_in_part : (tags : List ℕ) (t : ℕ) {r : SearchResult} → r ≡ halving_search_result_in_part tags t
+    → PartProbesCountedAndSufficient tags t r
+unfolding halving_search_result_in_part halving_search_result
+counted_in_part tags t e = rw e ((promised (tags_in_part_of tags t) t refl).1.1.1)

@@ -1,7 +1,7 @@
 -- What private functions promise, for their callers' proofs: digits byte by byte, and the part of the table that a
 -- tag can be in.
 -- This file states no rule of document 01: a reader of the rules can skip it. proofs/Digits ties it to specs/Form:
--- `numeric_is` to `is_numeric`; `all_digits`, `is_ff`, `is_half` and `is_wrong` to `is_compressed_numeric`. proofs/Part
+-- `numeric_is` to `is_numeric`; `all_digits`, `is_other`, `is_half` and `is_wrong` to `is_compressed_numeric`. proofs/Part
 -- ties `row_range_for_tag` to `find_row` and to `halving_search_result_in_part`.
 -- Assumes nothing.
 use Rattle.std.specs.Prelude.{Bool, ◌/◌, ◌%◌}

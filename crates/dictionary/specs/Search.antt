@@ -123,3 +123,10 @@ unfoldable pub halving_search_result_in_part : TagList → Tag → SearchResult
 halving_search_result_in_part tags wanted =
     let searched = halving_search_result (tags_in_part_of tags wanted) wanted in
     record { found = row_found_shifted (tag_count_before_part_of tags wanted) searched.found; probes = searched.probes }
+
+-- the count is that of the probes of the part: in it there are as many places as it says, and whatever is at the other
+-- places of the part, the same tags at these give the same answer of the part
+abbrev pub PartProbesCountedAndSufficient : TagList → Tag → SearchResult → Type 0
+PartProbesCountedAndSufficient tags wanted result =
+    ProbesCountedAndSufficient (tags_in_part_of tags wanted) wanted
+    (record { found = (halving_search (tags_in_part_of tags wanted) wanted).found; probes = result.probes })

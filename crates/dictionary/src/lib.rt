@@ -17,7 +17,7 @@ ghost use Rattle.std.specs.List.{list_all};
 ghost use Rattle.basics.specs.Number.{has_bit_of_weight};
 ghost use Rattle.dictionary.specs.Rows.{Row, dictionary_rows, row_at, row_count, find_row, row_number_of_tag_or_zero};
 ghost use Rattle.dictionary.specs.Rule.{rising_tags, tags_rise_and_rows_valid};
-ghost use Rattle.dictionary.specs.Search.{halving_search_result, tags_of, ProbesCountedAndSufficient, halving_search_result_in_part};
+ghost use Rattle.dictionary.specs.Search.{halving_search_result, tags_of, ProbesCountedAndSufficient, PartProbesCountedAndSufficient, halving_search_result_in_part};
 ghost use Rattle.dictionary.specs.Form.{is_compressed_numeric, digits_match_form, length_and_digits_fit_row};
 ghost use Rattle.dictionary.specs.Inner.{row_range_for_tag, is_decimal_byte, leading_decimal_bytes, all_bytes_ff};
 ghost use Rattle.dictionary.specs.Packing.{attributes_of, row_with_attributes_and_tag_zero, packed_row_attributes, unpacked_row_attributes};
@@ -148,6 +148,7 @@ pub fn find_row(tags: &[u32], tag: u32) -> SearchResult
     ensures found { result.found ≡ find_row dictionary_rows tag }
     ensures halving { result ≡ halving_search_result_in_part (tags_of dictionary_rows) tag }
     ensures few { (k : ℕ) → row_count < 2 ^ k → result.probes ≤ k }
+    ensures counted { PartProbesCountedAndSufficient (tags_of dictionary_rows) tag result }
 {
     let RowRange { from, to } = part_of(tag);
     let searched = search_tags(&tags[from..to], tag);

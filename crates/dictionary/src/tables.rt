@@ -1,7 +1,7 @@
 // The table of the dictionary in memory, for a call that reads many rows.
 ghost use Rattle.std.specs.Prelude.{◌≡◌, ℕ, ◌^◌, ◌≤◌, ◌<◌};
 ghost use Rattle.dictionary.specs.Rows.{dictionary_rows, row_at, row_count, find_row};
-ghost use Rattle.dictionary.specs.Search.{tags_of, halving_search_result_in_part};
+ghost use Rattle.dictionary.specs.Search.{tags_of, PartProbesCountedAndSufficient, halving_search_result_in_part};
 ghost use Rattle.dictionary.specs.Packing.{attributes_of};
 ghost use Rattle.dictionary.specs.Tables.{AreDictionaryTables};
 
@@ -33,6 +33,7 @@ impl DictionaryTables {
         ensures found { result.found ≡ find_row dictionary_rows tag }
         ensures halving { result ≡ halving_search_result_in_part (tags_of dictionary_rows) tag }
         ensures few { (k : ℕ) → row_count < 2 ^ k → result.probes ≤ k }
+        ensures counted { PartProbesCountedAndSufficient (tags_of dictionary_rows) tag result }
     {
         crate::find_row(&self.tags, tag)
     }

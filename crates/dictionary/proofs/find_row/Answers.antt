@@ -16,6 +16,7 @@ use Rattle.dictionary.specs.Search.{halving_search_result, halving_search_result
 use Rattle.dictionary.specs.Inner.{row_range_for_tag}
 use Rattle.dictionary.specs.declared.RowRange.{RowRange}
 use Rattle.dictionary.specs.declared.SearchResult.{SearchResult}
+use Rattle.dictionary.proofs.Halving.{counted_in_part}
 use Rattle.dictionary.proofs.Lent.{row-found}
 use Rattle.dictionary.proofs.Part.{tags_length, in_part, shifted, option_map_shift}
 use Rattle.dictionary.proofs.find_row.Goals as goal
@@ -61,3 +62,6 @@ returns-clause-halving c =
     let p = c.part_of-from in
     let s = c.search_tags-searched in
     halved_at _ p.ensures.value c.requires s.ensures.halving (search rules)
+
+pub returns-clause-counted : goal.returns-clause-counted
+returns-clause-counted c = counted_in_part (tags_of dictionary_rows) _ (returns-clause-halving c)
