@@ -139,6 +139,22 @@ sets_sets (y ∷ ws) vs l i j h =
 
 -- ---- a put is such a run
 
+-- the length byte stored, and then the value copied after it
+pub paste_written : (b : List ℕ) (o : ℕ) (v : List ℕ) → o + 1 + length v ≤ length b
+    → paste (set b o (length v + 1)) (o + 1) v (length v) ≡ length_and_value_written_at b o v
+paste_written b o v f =
+    let h : o < length b = omega arith in
+    let q : o < suc o + length v = omega arith in
+    rw (
+      add-one o,
+      take-length v,
+      take-suc-set b o (length v + 1) h,
+      drop-set-lt (suc o + length v) b o (length v + 1)
+          q,
+    )
+    (append_assoc (take o b ++ ((length v + 1) ∷ [])) v (drop (suc o + length v) b) ∙ append_snoc (take o b)
+    (length v + 1) (v ++ drop (suc o + length v) b))
+
 -- the value v fits row k of the table, and the store is large enough
 pub record Fits (table : List Row) (b : List ℕ) (k : ℕ) (v : List ℕ) : Type 0 where
   pub row : k < length table

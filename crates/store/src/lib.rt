@@ -121,5 +121,8 @@ fn write(bytes: &mut [u8], at: usize, v: &[u8])
 {
     let start = at + 1;
     bytes[at] = (v.len() + 1) as u8;
-    bytes[start..start + v.len()].copy_from_slice(v);
+    // Kept: a loop, since `copy_from_slice` takes memmove, which the archives of the tests did not need.
+    for (i, b) in v.iter().enumerate() {
+        bytes[start + i] = *b;
+    }
 }
