@@ -123,7 +123,9 @@ pub fn is_private(tag: u32) -> bool
     first_byte(tag) / 64 == 3
 }
 
-// The object at the front.
+// The object at the front. Put inline in each walk over objects, where a call for each object would cost as much as the
+// object does.
+#[inline(always)]
 pub fn object_header(s: &[u8]) -> Option<TlvHeader>
     ensures { result ≡ header_of s.now }
 {
@@ -185,7 +187,8 @@ fn object_behind(s: &[u8], at: usize) -> NextInTemplate
     }
 }
 
-// The primitive object at the front; a template is none.
+// The primitive object at the front; a template is none. Put inline as `object_header` is.
+#[inline(always)]
 #[tactic(auto, using(basics::proofs::Laws::if_yes, basics::proofs::Laws::if_no), unfolding(crate::specs::Primitives::primitive_at_front))]
 pub fn primitive_at_front(s: &[u8]) -> Option<TlvHeader>
     ensures { result ≡ primitive_at_front s.now }
