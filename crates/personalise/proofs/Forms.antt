@@ -1,12 +1,12 @@
 -- The bytes of a tag and of a length, by how many they are.
 -- Assumes nothing.
-use mathlib.Core.Path.{◌≡◌, refl, ap, ◌∙◌}
+use mathlib.Core.Path.{◌≡◌, refl, sym, ap, ◌∙◌}
 use mathlib.Core.Logic.{inl, inr}
 use Rattle.basics.proofs.Order.{le-or-gt}
 use mathlib.Core.List.{List, [], ◌∷◌}
 use Prim.Native.Nat.{ℕ, ◌-◌, ◌/◌, ◌%◌, ◌<◌, ◌≤◌}
 use native.Mathlib.Omega.{arith}
-use lib.ListN.{length, take, drop}
+use lib.ListN.{length, take, drop, get_or}
 use borrow.Author.Tests.{lt-ltb, le-ltb, ltb-false}
 use Rattle.basics.proofs.Laws.{if_yes, if_no, if_ind}
 use Rattle.tlv.specs.Encoding.{tag_bytes, length_bytes}
@@ -46,6 +46,25 @@ tag_last t n s h e p = elim (le-or-gt 0x100 t) [
   | inr l ↦ (let b = tag_one t l in let q : n ≡ 1 = e ∙ ap length b in
       let x : t % 256 ≡ t = omega arith in rw (p, q, b, x))
 ]
+
+-- they are the tag's, one by one
+module _ (t : ℕ) (s : List ℕ) (h : t < 0x1000000)
+    (p : s ≡ t / 16777216 % 256 ∷ t / 65536 % 256 ∷ t / 256 % 256 ∷ t % 256 ∷ []) where
+  pub last_one : 1 ≡ length (tag_bytes t) → tag_bytes t ≡ get_or s 3 0 ∷ []
+  last_one e = sym (tag_last t 1 s h e p) ∙ rw p
+
+  pub last_two : 2 ≡ length (tag_bytes t) → tag_bytes t ≡ get_or s 2 0 ∷ get_or s 3 0 ∷ []
+  last_two e = sym (tag_last t 2 s h e p) ∙ rw p
+
+  pub last_three : 3 ≡ length (tag_bytes t) → tag_bytes t ≡ get_or s 1 0 ∷ get_or s 2 0 ∷ get_or s 3 0 ∷ []
+  last_three e = sym (tag_last t 3 s h e p) ∙ rw p
+
+-- at least one byte for a tag
+pub tag_least : (t : ℕ) → 1 ≤ length (tag_bytes t)
+unfolding tag_bytes
+tag_least t =
+    let P : List ℕ → Type 0 = λ s. 1 ≤ length s in
+    if_ind P _ _ _ (λ _. omega arith) (λ _. if_ind P _ _ _ (λ _. omega arith) (λ _. omega arith))
 
 -- at most two bytes for a length below 256
 pub length_most : (n : ℕ) → n < 0x100 → length (length_bytes n) ≤ 2

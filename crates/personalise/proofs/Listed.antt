@@ -8,20 +8,20 @@ use mathlib.Core.List.{List, [], ◌∷◌, ◌++◌}
 use Prim.Native.Nat.{ℕ, suc, ◌+◌, ◌<◌, ◌≤◌}
 use native.Mathlib.Numerals.{add-one}
 use native.Mathlib.Omega.{arith}
-use lib.Dec.{eqb}
 use lib.ListN.{length, get_or, drop, length-take, length-drop, length-append}
 use borrow.Author.Tests.{eq-eqb, ne_eqb}
-use Rattle.std.specs.List.{list_all, enumerate_from}
+use Rattle.std.specs.List.{enumerate_from}
 use Rattle.std.proofs.lemmas.List.{drop_more, drop_all}
 use Rattle.std.proofs.lemmas.List.FromFn.{length-enumerate_from, get_or-enumerate_from}
 use Rattle.basics.specs.Choice.{both, every}
-use Rattle.basics.proofs.Laws.{if_yes, if_no, bool_cases, both_no_left, both_no_right}
+use Rattle.basics.proofs.Laws.{if_yes, if_no, bool_cases, both_true, both_no_left, both_no_right}
 use Rattle.basics.proofs.Recursion.{shorter_first}
 use Rattle.tlv.specs.declared.TlvHeader.{TlvHeader}
-use Rattle.tlv.specs.Primitives.{Object, primitive_at_front, primitive_objects, are_primitive_objects_parsed}
+use Rattle.tlv.specs.Primitives.{Object, prepend_object, primitive_at_front, primitive_objects, are_primitive_objects_parsed}
 use Rattle.tlv.specs.Primitives.{leading_primitive_objects}
 use Rattle.tlv.specs.Encoding.{object_bytes}
-use Rattle.tlv.proofs.Primitives.{primitive_fits, rest_of, leading_broken, leading_object, leading_of_run}
+use Rattle.tlv.proofs.Primitives.{primitive_fits, primitives_end, primitives_broken, first_of, rest_of, parts}
+use Rattle.tlv.proofs.Primitives.{leading_broken, leading_object, leading_of_run}
 use Rattle.dictionary.specs.Rows.{dictionary_rows, row_at, find_row, in_record_response}
 use Rattle.reading.specs.Taking.{row_allows_value_from_card}
 use Rattle.personalise.specs.declared.Placement.{Placement}
@@ -30,9 +30,9 @@ use Rattle.personalise.specs.Objects.{lacks_tag, tags_distinct, objects_or_empty
 use Rattle.personalise.specs.Placements.{count_placements_where, any_placement, places_object_number, puts_object_into}
 use Rattle.personalise.specs.Placements.{each_placed_once, objects_in_record_from}
 use Rattle.personalise.specs.Records.{encoded_objects}
-use Rattle.personalise.specs.Inner.{parsed_objects_valid_and_placed_once, encoded_object_size}
-use Rattle.personalise.specs.Inner.{encoded_size_if_placed_in_record, object_bytes_if_placed_in_record}
-use Rattle.personalise.proofs.Proposed.{all_every}
+use Rattle.personalise.specs.Inner.{list_parsed_and_lacks_tag, parsed_objects_valid_and_placed_once}
+use Rattle.personalise.specs.Inner.{encoded_object_size, encoded_size_if_placed_in_record}
+use Rattle.personalise.specs.Inner.{object_bytes_if_placed_in_record}
 
 -- ---- one object
 
@@ -48,6 +48,18 @@ module _ (o : Object) (x : Option ℕ) (p : x ≡ find_row dictionary_rows o.tag
 
 -- ---- an object and the run after it
 
+same_tag : (t : ℕ) (o : Object) (x : Option (List Object)) → o.tag ≡ t → list_parsed_and_lacks_tag t (prepend_object o x)
+    ≡ false
+unfolding prepend_object lacks_tag every
+same_tag t o None e = refl
+same_tag t o (Some os) e = both_no_left _ _ (ap not (eq-eqb _ _ e))
+
+other_tag : (t : ℕ) (o : Object) (x : Option (List Object)) → (o.tag ≡ t → ⊥)
+    → list_parsed_and_lacks_tag t (prepend_object o x) ≡ list_parsed_and_lacks_tag t x
+unfolding prepend_object lacks_tag every
+other_tag t o None e = refl
+other_tag t o (Some os) e = both_true _ (ap not (ne_eqb _ _ e))
+
 -- three tests that pass, each before its own others
 shuffle : (s e l d c f : Bool) → s ≡ true → l ≡ true → c ≡ true → both (both s e) (both (both l d) (both c f))
     ≡ both e (both d f)
@@ -57,37 +69,92 @@ shuffle true e true d false f p q r = cc
 shuffle true e false d c f p q r = cc
 shuffle false e l d c f p q r = cc
 
--- no object is left
-pub keeps_none : (ps : List Placement) (j : ℕ) → parsed_objects_valid_and_placed_once ps j (Some []) ≡ true
-unfolding every tags_distinct each_placed_once both
-keeps_none ps j = refl
+module _ (ps : List Placement) (j : ℕ) (o : Object) where
+  keeps_not_set : (x : Option (List Object)) → tag_and_value_allowed_in_record o ≡ false
+      → parsed_objects_valid_and_placed_once ps j (prepend_object o x) ≡ false
+  unfolding prepend_object every tags_distinct each_placed_once
+  keeps_not_set None e = refl
+  keeps_not_set (Some os) e = both_no_left _ _ (both_no_left _ _ e)
 
--- an object at the front of the list, whatever follows it
-module _ (ps : List Placement) (j : ℕ) (o : Object) (os : List Object) where
-  pub keeps_not_set : tag_and_value_allowed_in_record o ≡ false
-      → parsed_objects_valid_and_placed_once ps j (Some (o ∷ os)) ≡ false
-  unfolding every
-  keeps_not_set e = both_no_left _ _ (both_no_left _ _ e)
+  keeps_twice : (x : Option (List Object)) → list_parsed_and_lacks_tag o.tag x ≡ false
+      → parsed_objects_valid_and_placed_once ps j (prepend_object o x) ≡ false
+  unfolding prepend_object every tags_distinct each_placed_once
+  keeps_twice None e = refl
+  keeps_twice (Some os) e = both_no_right _ _ (both_no_left _ _ (both_no_left _ _ e))
 
-  pub keeps_twice : lacks_tag o.tag os ≡ false → parsed_objects_valid_and_placed_once ps j (Some (o ∷ os)) ≡ false
-  unfolding tags_distinct
-  keeps_twice e = both_no_right _ _ (both_no_left _ _ (both_no_left _ _ e))
+  keeps_not_once : (x : Option (List Object)) → (count_placements_where (places_object_number j) ps ≡ 1 → ⊥)
+      → parsed_objects_valid_and_placed_once ps j (prepend_object o x) ≡ false
+  unfolding prepend_object every tags_distinct each_placed_once
+  keeps_not_once None e = refl
+  keeps_not_once (Some os) e = both_no_right _ _ (both_no_right _ _ (both_no_left _ _ (ne_eqb _ _ e)))
 
-  pub keeps_not_once : (count_placements_where (places_object_number j) ps ≡ 1 → ⊥)
-      → parsed_objects_valid_and_placed_once ps j (Some (o ∷ os)) ≡ false
-  unfolding each_placed_once
-  keeps_not_once e = both_no_right _ _ (both_no_right _ _ (both_no_left _ _ (ne_eqb _ _ e)))
+  keeps_next : (x : Option (List Object)) → tag_and_value_allowed_in_record o ≡ true → list_parsed_and_lacks_tag o.tag x
+      ≡ true → count_placements_where (places_object_number j) ps ≡ 1
+      → parsed_objects_valid_and_placed_once ps j (prepend_object o x) ≡ parsed_objects_valid_and_placed_once ps (suc j) x
+  unfolding prepend_object every tags_distinct each_placed_once
+  keeps_next None a b e = refl
+  keeps_next (Some os) a b e = shuffle _ _ _ _ _ _ a b (eq-eqb _ _ e)
 
-  pub keeps_next : tag_and_value_allowed_in_record o ≡ true → lacks_tag o.tag os ≡ true
-      → count_placements_where (places_object_number j) ps ≡ 1
-      → parsed_objects_valid_and_placed_once ps j (Some (o ∷ os)) ≡ parsed_objects_valid_and_placed_once ps (j + 1) (Some os)
-  unfolding every tags_distinct each_placed_once
-  keeps_next a b e = rw add-one (shuffle _ _ _ _ _ _ a b (eq-eqb _ _ e))
+-- ---- by the bytes that are left, as the code makes their parts
 
--- no tag of a list: as the code asks each object
-pub lacks_is : (t : ℕ) (os : List Object) → list_all (λ o. not (eqb o.tag t)) os ≡ lacks_tag t os
-unfolding lacks_tag
-lacks_is t os = all_every (λ o. not (eqb o.tag t)) os
+module _ (s : List ℕ) where
+  pub lacks_end : (t : ℕ) → length s ≡ 0 → list_parsed_and_lacks_tag t (primitive_objects s) ≡ true
+  unfolding lacks_tag every
+  lacks_end t z = ap (list_parsed_and_lacks_tag t) (primitives_end s z)
+
+  pub keeps_end : (ps : List Placement) (j : ℕ) → length s ≡ 0
+      → parsed_objects_valid_and_placed_once ps j (primitive_objects s) ≡ true
+  unfolding every tags_distinct each_placed_once both
+  keeps_end ps j z = ap (parsed_objects_valid_and_placed_once ps j) (primitives_end s z)
+
+  module _ (n : length s ≡ 0 → ⊥) where
+    pub lacks_broken : (t : ℕ) → primitive_at_front s ≡ None → list_parsed_and_lacks_tag t (primitive_objects s)
+        ≡ false
+    lacks_broken t e = ap (list_parsed_and_lacks_tag t) (primitives_broken s n e)
+
+    pub keeps_broken : (ps : List Placement) (j : ℕ) → primitive_at_front s ≡ None
+        → parsed_objects_valid_and_placed_once ps j (primitive_objects s) ≡ false
+    keeps_broken ps j e = ap (parsed_objects_valid_and_placed_once ps j) (primitives_broken s n e)
+
+module _ (s : List ℕ) (h : TlvHeader) (e : primitive_at_front s ≡ Some h) where
+  pub rest_less : length (rest_of s h) < length s
+  rest_less = let f = primitive_fits s h e in simp (length-take, length-drop) (omega arith)
+
+  parts_at : primitive_objects s ≡ prepend_object (first_of s h) (primitive_objects (rest_of s h))
+  parts_at = let f = primitive_fits s h e in parts s (λ z. omega arith) h e
+
+  pub lacks_here : (t : ℕ) → h.tag ≡ t → list_parsed_and_lacks_tag t (primitive_objects s) ≡ false
+  lacks_here t q = ap (list_parsed_and_lacks_tag t) parts_at ∙ same_tag t (first_of s h)
+      (primitive_objects (rest_of s h)) q
+
+  pub lacks_on : (t : ℕ) → (h.tag ≡ t → ⊥) → list_parsed_and_lacks_tag t (primitive_objects s) ≡ list_parsed_and_lacks_tag t
+      (primitive_objects (rest_of s h))
+  lacks_on t q = ap (list_parsed_and_lacks_tag t) parts_at ∙ other_tag t (first_of s h)
+      (primitive_objects (rest_of s h)) q
+
+  module _ (ps : List Placement) (j : ℕ) where
+    pub run_not_set : tag_and_value_allowed_in_record (first_of s h) ≡ false
+        → parsed_objects_valid_and_placed_once ps j (primitive_objects s) ≡ false
+    run_not_set q = ap (parsed_objects_valid_and_placed_once ps j) parts_at ∙ keeps_not_set ps j (first_of s h)
+        (primitive_objects (rest_of s h)) q
+
+    pub run_twice : list_parsed_and_lacks_tag h.tag (primitive_objects (rest_of s h)) ≡ false
+        → parsed_objects_valid_and_placed_once ps j (primitive_objects s) ≡ false
+    run_twice q = ap (parsed_objects_valid_and_placed_once ps j) parts_at ∙ keeps_twice ps j (first_of s h)
+        (primitive_objects (rest_of s h)) q
+
+    pub run_not_once : (count_placements_where (places_object_number j) ps ≡ 1 → ⊥)
+        → parsed_objects_valid_and_placed_once ps j (primitive_objects s) ≡ false
+    run_not_once q = ap (parsed_objects_valid_and_placed_once ps j) parts_at ∙ keeps_not_once ps j (first_of s h)
+        (primitive_objects (rest_of s h)) q
+
+    pub run_next : tag_and_value_allowed_in_record (first_of s h) ≡ true
+        → list_parsed_and_lacks_tag h.tag (primitive_objects (rest_of s h)) ≡ true
+        → count_placements_where (places_object_number j) ps ≡ 1
+        → parsed_objects_valid_and_placed_once ps j (primitive_objects s) ≡ parsed_objects_valid_and_placed_once ps (j + 1)
+        (primitive_objects (rest_of s h))
+    run_next a b q = rw add-one (ap (parsed_objects_valid_and_placed_once ps j) parts_at ∙ keeps_next ps j
+        (first_of s h) (primitive_objects (rest_of s h)) a b q)
 
 -- ---- the objects, as `PrimitiveObjects` gives them
 
@@ -103,18 +170,6 @@ listed_is s r = go (primitive_objects s) refl
 pub listed_or_empty : (s : List ℕ) → are_primitive_objects_parsed (primitive_objects s) ≡ true
     → parsed_objects_or_empty s ≡ leading_primitive_objects s
 listed_or_empty s r = ap objects_or_empty (listed_is s r)
-
--- the whole list, where what is left of it after n objects has one at the front
-pub kept_here : (ps : List Placement) (s : List ℕ) (n : ℕ) (o : Object)
-    → are_primitive_objects_parsed (primitive_objects s) ≡ true
-    → parsed_objects_valid_and_placed_once ps 1 (Some (leading_primitive_objects s))
-    ≡ parsed_objects_valid_and_placed_once ps (n + 1) (Some (drop n (leading_primitive_objects s)))
-    → drop n (leading_primitive_objects s) ≡ o ∷ drop (n + 1) (leading_primitive_objects s)
-    → parsed_objects_valid_and_placed_once ps 1 (primitive_objects s)
-    ≡ parsed_objects_valid_and_placed_once ps (n + 1) (Some (o ∷ drop (n + 1) (leading_primitive_objects s)))
-kept_here ps s n o r v e =
-    ap (parsed_objects_valid_and_placed_once ps 1) (listed_is s r) ∙ v
-    ∙ ap (λ (os : List Object). parsed_objects_valid_and_placed_once ps (n + 1) (Some os)) e
 
 -- no more than bytes
 abbrev AtMostBytes : List ℕ → Type 0

@@ -2,7 +2,7 @@
 -- Assumes nothing.
 use mathlib.Core.Path.{◌≡◌, sym, ap, ◌∙◌}
 use mathlib.Core.List.{List, [], ◌∷◌, ◌++◌, append_assoc}
-use Prim.Native.Nat.{ℕ, ◌+◌, ◌-◌, ◌≤◌}
+use Prim.Native.Nat.{ℕ, suc, ◌+◌, ◌-◌, ◌≤◌}
 use native.Mathlib.Nat.{zero-add, add-zero, add_assoc}
 use native.Mathlib.Numerals.{add-one}
 use native.Mathlib.Omega.{arith}
@@ -99,6 +99,13 @@ sets_put s at w h e = record {
 pub two_put : (s : List ℕ) (at x y : ℕ) {v : List ℕ} → at + 2 ≤ length s → v ≡ x ∷ y ∷ []
     → WritesBytesAt (at + 2) (set (set s at x) (at + 1) y) s at v
 two_put s at x y h e = let n = add-one at in rw n (sets_put s at (x ∷ y ∷ []) h e)
+
+pub three_put : (s : List ℕ) (at x y z : ℕ) {v : List ℕ} → at + 3 ≤ length s → v ≡ x ∷ y ∷ z ∷ []
+    → WritesBytesAt (at + 3) (set (set (set s at x) (at + 1) y) (at + 2) z) s at v
+three_put s at x y z h e =
+    let n = add-one at in
+    let m : at + 2 ≡ suc (suc at) = omega arith in
+    rw (n, m) (sets_put s at (x ∷ y ∷ z ∷ []) h e)
 
 -- ---- tag, length and value, concatenated
 

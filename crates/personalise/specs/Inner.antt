@@ -11,7 +11,7 @@ use Rattle.tlv.specs.Encoding.{tag_bytes, length_bytes, object_bytes}
 use Rattle.afl.specs.Records.{afl_record_count}
 use Rattle.personalise.specs.declared.Placement.{Placement}
 use Rattle.personalise.specs.declared.PersonaliseError.TheVariants.{BadList, BadEntry, BadRecord}
-use Rattle.personalise.specs.Objects.{parsed_objects_or_empty, tag_and_value_allowed_in_record, tags_distinct}
+use Rattle.personalise.specs.Objects.{parsed_objects_or_empty, tag_and_value_allowed_in_record, lacks_tag, tags_distinct}
 use Rattle.personalise.specs.Placements.{ObjectNumber, placements_in, any_placement, puts_object_into, each_placed_once}
 use Rattle.personalise.specs.Entries.{first_bad_entry}
 use Rattle.personalise.specs.Records.{record_content, card_records_from, concatenated_records, most_record_content_bytes}
@@ -21,6 +21,11 @@ use Rattle.personalise.specs.Outcome.{placements_of_plan, all_records_bytes}
 use Rattle.personalise.specs.Outcome.{PersonaliseResult, objects_valid_and_each_placed_once, refuse_fault_or}
 
 -- ---- runs
+
+-- a run without a tag
+abbrev pub list_parsed_and_lacks_tag : Tag → Option (List Object) → Bool
+list_parsed_and_lacks_tag t None = false
+list_parsed_and_lacks_tag t (Some os) = lacks_tag t os
 
 -- a run that satisfies the list's rules, its objects numbered from j on
 abbrev pub parsed_objects_valid_and_placed_once : List Placement → ObjectNumber → Option (List Object) → Bool

@@ -106,8 +106,24 @@ fn put_tag(out: &mut [u8], at: usize, tag: u32) -> usize
     requires { (tag < 0x1000000) × (at + length (tag_bytes tag) ≤ length out.old) }
     ensures { WritesBytesAt result out.new out.old at (tag_bytes tag) }
 {
-    let size = contents::tag_size(tag);
-    put_value(out, at, &tag.to_be_bytes()[4 - size..])
+    let [_, high, middle, low] = tag.to_be_bytes();
+    match contents::tag_size(tag) {
+        1 => {
+            out[at] = low;
+            at + 1
+        }
+        2 => {
+            out[at] = middle;
+            out[at + 1] = low;
+            at + 2
+        }
+        _ => {
+            out[at] = high;
+            out[at + 1] = middle;
+            out[at + 2] = low;
+            at + 3
+        }
+    }
 }
 
 // Writes a length below 256 in as few bytes as it can be.
