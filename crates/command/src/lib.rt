@@ -85,16 +85,21 @@ pub fn compute_cryptographic_checksum(store: &[u8], buffer: &mut [u8]) -> Option
     ensures reason { dol_command_reason result ≡ reason_dol_if_no_command (compute_cryptographic_checksum store.now) }
 {
     let stored = store::value(store, dictionary::ROW_UDOL);
-    let list = if stored.is_empty() {
-        &DEFAULT_UDOL
-    } else {
-        stored
-    };
+    if stored.len() != 0 {
+        return with_dol(
+            INS_COMPUTE_CHECKSUM,
+            P1_COMPUTE_CHECKSUM,
+            P2_COMPUTE_CHECKSUM,
+            stored,
+            store,
+            buffer,
+        );
+    }
     with_dol(
         INS_COMPUTE_CHECKSUM,
         P1_COMPUTE_CHECKSUM,
         P2_COMPUTE_CHECKSUM,
-        list,
+        &DEFAULT_UDOL,
         store,
         buffer,
     )

@@ -275,7 +275,9 @@ fn walk(
         if bytes[at] == 0 {
             at += 1;
         } else {
-            let h = tlv::object_header(&bytes[at..end])?;
+            let Some(h) = tlv::object_header(&bytes[at..end]) else {
+                return None; // no whole object is next
+            };
             let from = at + h.start;
             let e = from + h.len;
             so_far.objects += 1;
