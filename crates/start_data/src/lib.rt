@@ -5,7 +5,7 @@
 // clears it again.
 #![tactic(auto)]
 
-ghost use Rattle.std.specs.Prelude.{◌≡◌, ◌<◌, true, replicate};
+ghost use Rattle.std.specs.Prelude.{◌≡◌, ◌<◌, true, length, replicate};
 ghost use Rattle.dictionary.specs.Rows.{row_count, store_size};
 ghost use Rattle.tlv.specs.Primitives.{tlv_object, primitive_objects, are_primitive_objects_parsed};
 ghost use Rattle.start_data.specs.StartData.{is_listed_if_terminal_type, start_may_set_object_in_row, set_start_object, set_parsed_start_objects, loaded_after_setting, load_start_bytes as load_of, LoadResultAndStoreMatchLoaded};
@@ -35,9 +35,17 @@ pub fn load(store: &mut [u8; SIZE], terminal: &[u8]) -> Result<(), Refusal>
     }
     let result = set_all(terminal, store);
     if result.is_err() {
-        store::clear(store);
+        clear_refused(store);
     }
     result
+}
+
+// Leaves nothing of a refused start. It has no proof file: an edit that leaves the clearing out is then refused by what
+// is promised here, and not by the shape of a proof.
+fn clear_refused(store: &mut [u8; SIZE])
+    ensures empty { store.new ≡ replicate (length store.old) 0 }
+{
+    store::clear(store);
 }
 
 // Sets the objects of a run, and sees that all that a start must bring is present.

@@ -26,7 +26,7 @@ returns-then-is_err c =
     let run = sym c.is_primitive_list.ensures ∙ c.if-not-is_primitive_list.false in
     refuses_cleared _ _ _ (objects _ _ c.if-terminal-gt-MOST.false run) c.set_all-result.ensures _
     (sym c.is_err.ensures.value ∙ c.if-is_err.true)
-    (c.clear.ensures ∙ ap (λ (n : ℕ). replicate n 0) c.set_all-result.array_long ∙ sym c.requires)
+    (c.clear_refused.ensures.empty ∙ ap (λ (n : ℕ). replicate n 0) c.set_all-result.array_long ∙ sym c.requires)
 
 pub returns-else-is_err : goal.returns-else-is_err
 returns-else-is_err c =
