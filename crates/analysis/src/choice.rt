@@ -91,6 +91,9 @@ pub fn lowest_tvr_bit_in_codes(bits: [u8; 5], pair: ActionCodes) -> Option<usize
 fn byte_bit(res: u8, card: u8, terminal: u8) -> Option<usize>
     ensures { result ≡ lowest_bit_from_start_within_count (tvr_byte_bit_in_codes res card terminal) 0 8 }
 {
+    if res == 0 {
+        return None;
+    }
     (0..8).find(|k| holds_bit(res, card, terminal, *k))
 }
 
