@@ -49,7 +49,8 @@ pub enum NextInTemplate {
     Malformed,
 }
 
-// The tag at the front.
+// The tag at the front. Each match asks for one byte more, so that a shorter tag is read with no test of what is behind
+// it.
 #[tactic(auto, using(crate::proofs::Laws::tag_size_by, crate::proofs::Laws::tag_none, crate::proofs::Laws::tag_one, crate::proofs::Laws::tag_two, crate::proofs::Laws::tag_three, basics::proofs::Laws::if_yes, basics::proofs::Laws::if_no, std::proofs::lemmas::Bool::Decides::nat_tests))]
 pub fn tag_at(s: &[u8]) -> Option<Tag>
     ensures { result ≡ tag_at s.now }
@@ -60,16 +61,20 @@ pub fn tag_at(s: &[u8]) -> Option<Tag>
             number: u32::from(a),
             size: 1,
         }),
-        [_, 0x80, ..] => None,
-        [a, b, ..] if b < 0x80 => Some(Tag {
-            number: u32::from(a) * 256 + u32::from(b),
-            size: 2,
-        }),
-        [a, b, c, ..] if c < 0x80 => Some(Tag {
-            number: (u32::from(a) * 256 + u32::from(b)) * 256 + u32::from(c),
-            size: 3,
-        }),
-        _ => None,
+        _ => match *s {
+            [a, b, ..] if b < 0x80 => Some(Tag {
+                number: u32::from(a) * 256 + u32::from(b),
+                size: 2,
+            }),
+            _ => match *s {
+                [_, 0x80, ..] => None,
+                [a, b, c, ..] if c < 0x80 => Some(Tag {
+                    number: (u32::from(a) * 256 + u32::from(b)) * 256 + u32::from(c),
+                    size: 3,
+                }),
+                _ => None,
+            },
+        },
     }
 }
 
